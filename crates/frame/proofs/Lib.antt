@@ -1,0 +1,14 @@
+pub mod Lists
+pub mod Numerals
+pub mod Good
+pub mod Unique
+pub mod Make
+pub mod Marks
+pub mod Complete
+pub mod AtMark
+pub mod AtTrailer
+pub mod AtBody
+pub mod AtSize
+pub mod Search
+pub mod Lines
+pub mod Bodies

@@ -1,0 +1,79 @@
+-- The conditions of a mark are one test that antt computes; `8=FIXT.1.1|9=` and `8=FIX.4.2|9=` pass it.
+use Prim.Native.Nat.{ℕ, zero, suc, _+_, _-_, _≤_, _<_}
+use native.Mathlib.Decide.{decLt}
+use native.Mathlib.Omega.{arith}
+use mathlib.Core.Path.{_≡_, refl, sym, ap, _∙_, subst}
+use mathlib.Core.Bool.{Bool, true, false, not, _&&_}
+use lib.Dec.{T, leb, eqb}
+use lib.ListN.{length, getD}
+use borrow.Author.Tests.{leb-true, le-leb, eq-eqb}
+use Rattle.frame.specs.Bytes.{Bytes, digit}
+use Rattle.frame.specs.Leaf.{Digit}
+use Rattle.frame.specs.Frame.{fixt, fix42}
+use Rattle.frame.specs.Mark.{MarkOk}
+use Rattle.frame.proofs.Numerals.{both, both-left, both-right, is-within}
+
+-- a test at each number below n
+abbrev pub allBelow : ℕ → (ℕ → Bool) → Bool
+allBelow zero f = true
+allBelow (suc n) f = f n && allBelow n f
+
+pub at-below : (n : ℕ) (f : ℕ → Bool) → allBelow n f ≡ true → (k : ℕ) → k < n → f k ≡ true
+at-below zero f t k h = absurd (omega arith)
+at-below (suc n) f t k h = go (decLt k n) (at-below n f (both-right (f n) (allBelow n f) t) k)
+  where
+    go : Dec (k < n) → (k < n → f k ≡ true) → f k ≡ true
+    go (yes l) below = below l
+    go (no l) below =
+        let e : n ≡ k = omega arith in
+        subst (λ (i : ℕ). f i ≡ true) e (both-left (f n) (allBelow n f) t)
+
+-- two tests of which one fails
+apart : (a b : Bool) → not (a && b) ≡ true → a ≡ true → b ≡ true → ⊥
+apart a b t p q = subst T (sym t ∙ ap not (both a b p q)) tt
+
+digit-is : (d : ℕ) → Digit d → digit d ≡ true
+digit-is d h = is-within 48 57 d (h .0) (h .1)
+
+module _ (m : Bytes) where
+  abbrev fresh : ℕ → Bool
+  fresh i = not (leb 1 i && eqb (getD m i 0) (getD m 0 0))
+
+  abbrev no-trailer : ℕ → Bool
+  no-trailer i = not (eqb (getD m i 0) 1 && eqb (getD m (i + 1) 0) 49)
+
+  abbrev no-end : ℕ → Bool
+  no-end i = not (eqb (getD m (i + 2) 0) 1 && digit (getD m i 0))
+
+  pub record MarkTest : Type 0 where
+    pub long : leb 8 (length m) ≡ true
+    pub first : not (true && eqb (getD m 0 0) 1) ≡ true
+    pub second : not (true && eqb (getD m 1 0) 1) ≡ true
+    pub second-digit : not (true && digit (getD m 1 0)) ≡ true
+    pub last : not (true && eqb (getD m (length m - 1) 0) 1) ≡ true
+    pub alone : allBelow (length m) fresh ≡ true
+    pub soh : allBelow (length m) no-trailer ≡ true
+    pub end : allBelow (length m) no-end ≡ true
+
+  pub mark-ok : MarkTest → MarkOk m
+  mark-ok t =
+      record {
+        long = leb-true 8 (length m) (t .long);
+        first = λ e. apart true _ (t .first) refl (eq-eqb _ _ e);
+        second = λ e. apart true _ (t .second) refl (eq-eqb _ _ e);
+        second-digit = λ h. apart true _ (t .second-digit) refl (digit-is _ h);
+        last = λ e. apart true _ (t .last) refl (eq-eqb _ _ e);
+        alone = λ i l k e. apart _ _ (at-below (length m) fresh (t .alone) i l) (le-leb 1 i k) (eq-eqb _ _ e);
+        soh = λ i l e f. apart _ _ (at-below (length m) no-trailer (t .soh) i l) (eq-eqb _ _ e) (eq-eqb _ _ f);
+        end = λ i l e h. apart _ _ (at-below (length m) no-end (t .end) i l) (eq-eqb _ _ e) (digit-is _ h);
+      }
+
+pub fixt-ok : MarkOk (fixt .mark)
+unfolding fixt
+fixt-ok =
+    mark-ok (fixt .mark) (record { long = refl; first = refl; second = refl; second-digit = refl; last = refl; alone = refl; soh = refl; end = refl })
+
+pub fix42-ok : MarkOk (fix42 .mark)
+unfolding fix42
+fix42-ok =
+    mark-ok (fix42 .mark) (record { long = refl; first = refl; second = refl; second-digit = refl; last = refl; alone = refl; soh = refl; end = refl })

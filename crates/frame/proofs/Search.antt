@@ -1,0 +1,71 @@
+-- One reading's outcome, from what a search from the left has seen: no position behind it is live.
+use Prim.Native.Nat.{ℕ, zero, suc, _+_, _-_, _≤_, _<_}
+use native.Mathlib.Decide.{decLt}
+use native.Mathlib.Omega.{arith}
+use mathlib.Core.Path.{_≡_, refl, sym, ap, _∙_, subst}
+use mathlib.Core.Logic.{inl, inr}
+use mathlib.Core.List.{List, []}
+use lib.ListN.{length, take, drop, getD}
+use Rattle.frame.specs.Bytes.{Bytes}
+use Rattle.frame.specs.Leaf.{FirstByte}
+use Rattle.frame.specs.Frame.{Rule, GoodAt, Live}
+use Rattle.frame.specs.Reading.{frame, Leftmost, Unfinished, Reads, answered, Handed}
+use Rattle.frame.specs.Walk.{Open, Ended}
+use Rattle.frame.specs.Mark.{MarkOk}
+use Rattle.frame.proofs.Lists.{part-length}
+use Rattle.frame.proofs.Good.{good-at-length, good-live, open-none}
+use Rattle.frame.proofs.AtMark.{live-first}
+
+module _ (R : Rule) (s : Bytes) where
+  -- no position before p is live
+  abbrev pub Dead : ℕ → Type 0
+  Dead p = (q : ℕ) → q < p → Live R s q → ⊥
+
+  -- positions without the mark's first byte are not live
+  pub dead-further : MarkOk (R .mark) → (p q : ℕ) → FirstByte s p (length s) (getD (R .mark) 0 0) q → Dead p → Dead q
+  dead-further ok p q F dead i l w = go (decLt i p)
+    where
+      go : Dec (i < p) → ⊥
+      go (yes y) = dead i y w
+      go (no y) = F .none i l (omega arith) (live-first R s i (omega (arith, F .high)) (omega (arith, ok .long)) w)
+
+  answered-frame : (at n : ℕ) → 0 < n → frame at n ≡ answered at n
+  answered-frame at zero h = absurd (omega arith)
+  answered-frame at (suc n) h = refl
+
+  pub hand-frame : (p e : ℕ) → Ended R s p e → Dead p → Handed R s (take (e - p) (drop p s)) p
+  hand-frame p e E dead =
+      let n : ℕ = e - p in
+      let k : length (take n (drop p s)) ≡ n = part-length s p n (E .goodAt .inside) in
+      let L : Leftmost R s p n = record { here = E .goodAt; left = λ q m l H. dead q l (good-live R H) } in
+      record {
+        part = ap (λ (i : ℕ). take i (drop p s)) (sym k);
+        reads =
+            subst (λ (i : ℕ). Reads R s (answered p i)) (sym k)
+            (subst (λ a. Reads R s a) (answered-frame p n (omega (arith, (good-at-length R (E .goodAt)) .0))) L);
+      }
+
+  pub hand-none : Dead (length s) → Handed R s [] (length s)
+  hand-none dead =
+      record {
+        part = refl;
+        reads = (
+          refl,
+          record {
+            none = λ q m H. dead q (omega (arith, H .inside, (good-at-length R H) .0)) (good-live R H);
+            dead = dead;
+            stop = inl refl;
+          },
+        );
+      }
+
+  pub hand-open : (p : ℕ) → p < length s → Dead p → Open R s p → Handed R s [] p
+  hand-open p l dead o =
+      record { part = refl; reads = (refl, record { none = nowhere; dead = dead; stop = inr (l, o .live) }) }
+    where
+      nowhere : (q m : ℕ) → GoodAt R s q m → ⊥
+      nowhere q m H = go (decLt q p)
+        where
+          go : Dec (q < p) → ⊥
+          go (yes k) = dead q k (good-live R H)
+          go (no k) = open-none R o (omega arith) H

@@ -1,0 +1,58 @@
+-- `calm`: as long as the answer is yes, no byte passed is x.
+use borrow.Author.Count.{below-more}
+use borrow.Author.Needs.{needs}
+use native.Mathlib.Omega.{arith}
+use Prim.Native.Nat.{ℕ, _+_, _-_, _≤_, _<_}
+use mathlib.Core.Path.{_≡_, sym, _∙_, subst}
+use lib.ListN.{length, getD}
+use mathlib.Core.Bool.{true, false}
+use mathlib.Core.Logic.{⊎-elim}
+use lib.Dec.{T}
+use Rattle.frame.proofs.leaf.calm.Statement.{statement}
+use Rattle.frame.proofs.leaf.calm.Tie as tie
+
+abbrev Inv-loop : tie.InvT-loop
+Inv-loop s i x none₀ k₀ none k = (k ≤ 16) × (none ≡ true → (j : ℕ) → j < k → getD s (i + j) 0 ≡ x → ⊥)
+
+abbrev μ-loop : tie.MeasureT-loop
+μ-loop s i x none₀ k₀ none k = 16 - k
+
+loop-holds : tie.Need-loop-holds Inv-loop μ-loop
+loop-holds c = (omega arith, λ t k h. absurd (omega arith))
+
+add-if1 : tie.Need-add-if1 Inv-loop μ-loop
+add-if1 c = search needs
+
+shared-slice-read-if1 : tie.Need-shared-slice-read-if1 Inv-loop μ-loop
+shared-slice-read-if1 c = search needs
+
+add-k : tie.Need-add-k Inv-loop μ-loop
+add-k c = search needs
+
+loop-less : tie.Need-loop-less Inv-loop μ-loop
+loop-less c = search needs
+
+loop-again : tie.Need-loop-again Inv-loop μ-loop
+loop-again c =
+    let l = c .before .before .before .loop in (
+      omega arith,
+      λ t.
+          ⊎-elim (λ w. absurd (subst T (sym t ∙ w .1) tt)) (λ w. below-more _ _ (l .inv .1 (sym (w .1) ∙ t)) (w .0 .left)) (c .if1 .came),
+    )
+
+returns : tie.Need-returns Inv-loop μ-loop
+returns c = λ t k h. c .before .loop .inv .1 t k (omega arith)
+
+pub calm-spec : {M : Type 1} → statement M
+calm-spec =
+    tie.close
+    (tie.spec
+    Inv-loop
+    μ-loop
+    loop-holds
+    add-if1
+    shared-slice-read-if1
+    add-k
+    loop-less
+    loop-again
+    returns)

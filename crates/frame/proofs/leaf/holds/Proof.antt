@@ -1,0 +1,93 @@
+-- `holds`: the literal stands nowhere with its fifth byte in what was stepped over.
+use denote.Ref.{now}
+use borrow.Author.Needs.{needs}
+use native.Mathlib.Omega.{arith}
+use Prim.Native.Nat.{ℕ, _+_, _-_, _≤_, _<_}
+use mathlib.Core.Path.{_≡_, refl, sym, subst}
+use lib.ListN.{length}
+use mathlib.Core.Bool.{true, false}
+use lib.Dec.{T}
+use Rattle.frame.specs.Bytes.{At}
+use Rattle.frame.proofs.Lists.{NoneTo, none-to, none-past, none-at-all}
+use Rattle.frame.proofs.leaf.holds.Statement.{statement}
+use Rattle.frame.proofs.leaf.holds.Tie as tie
+
+abbrev Inv-loop : tie.InvT-loop
+Inv-loop s a e lit x i₀ i = (a ≤ i) × ((i ≤ e) × ((q : ℕ) → q + 4 < i → a ≤ q → q + length lit ≤ e → At s q lit → ⊥))
+
+abbrev μ-loop : tie.MeasureT-loop
+μ-loop s a e lit x i₀ i = e - i
+
+shared-slice-read-x : tie.Need-shared-slice-read-x Inv-loop μ-loop
+shared-slice-read-x c = search needs
+
+loop-holds : tie.Need-loop-holds Inv-loop μ-loop
+loop-holds c = (omega arith, (omega arith, λ q h k. absurd (omega arith)))
+
+find-byte-requires : tie.Need-find-byte-requires Inv-loop μ-loop
+find-byte-requires c κs = search needs
+
+returns : tie.Need-returns Inv-loop μ-loop
+returns c =
+    let a = c .before .before .before .before .before .before .before .args in
+    let l = c .before .before .before .loop in
+    let five : 5 ≤ length (now (a .lit)) = omega arith in
+    let F = c .before .find-byte .ensures in
+    record {
+      found = λ t. absurd (subst T (sym t) tt);
+      none = λ t. none-at-all (now (a .s)) (a .a) (a .e) (now (a .lit)) five _ (omega arith) (none-to (now (a .s)) (a .a) (a .e) (now (a .lit)) five (l .i) _ _ refl F (l .inv .1 .1));
+    }
+
+stands-around-requires : tie.Need-stands-around-requires Inv-loop μ-loop
+stands-around-requires c κs = search needs
+
+returns-2 : tie.Need-returns-2 Inv-loop μ-loop
+returns-2 c = record { found = λ t. c .before .stands-around .ensures .found (c .if2 .taken); none = λ t. absurd (subst T t tt) }
+
+add-i : tie.Need-add-i Inv-loop μ-loop
+add-i c = search needs
+
+loop-less : tie.Need-loop-less Inv-loop μ-loop
+loop-less c = search needs
+
+loop-again : tie.Need-loop-again Inv-loop μ-loop
+loop-again c =
+    let a = c .before .before .before .before .before .before .before .before .before .args in
+    let l = c .before .before .before .before .before .loop in
+    let five : 5 ≤ length (now (a .lit)) = omega arith in
+    let F = c .before .before .before .find-byte .ensures in
+    let s = now (a .s) in
+    let lit = now (a .lit) in (
+      omega arith,
+      (
+        omega arith,
+        none-past s (a .a) (a .e) lit five _ _ (c .if2 .left) (c .before .stands-around .ensures) (none-to s (a .a) (a .e) lit five (l .i) _ _ refl F (l .inv .1 .1)),
+      ),
+    )
+
+returns-3 : tie.Need-returns-3 Inv-loop μ-loop
+returns-3 c =
+    let a = c .before .before .before .before .before .args in
+    let l = c .before .loop in
+    let five : 5 ≤ length (now (a .lit)) = omega arith in
+    record {
+      found = λ t. absurd (subst T (sym t) tt);
+      none = λ t. none-at-all (now (a .s)) (a .a) (a .e) (now (a .lit)) five (l .i) (omega arith) (l .inv .1 .1);
+    }
+
+pub holds-spec : {M : Type 1} → statement M
+holds-spec =
+    tie.close
+    (tie.spec
+    Inv-loop
+    μ-loop
+    shared-slice-read-x
+    loop-holds
+    find-byte-requires
+    returns
+    stands-around-requires
+    returns-2
+    add-i
+    loop-less
+    loop-again
+    returns-3)

@@ -1,0 +1,39 @@
+-- `drop_front`: nothing is left, or what is left has been moved.
+use denote.Ref.{now}
+use borrow.Author.Needs.{needs}
+use native.Mathlib.Omega.{arith}
+use Prim.Native.Nat.{ℕ, _-_}
+use mathlib.Core.Path.{ap, _∙_}
+use lib.ListN.{length}
+use Rattle.frame.specs.Bytes.{Bytes}
+use Rattle.frame.specs.Line.{line}
+use Rattle.frame.proofs.Lines.{drop-none, drop-some, lesser-bounds}
+use Rattle.frame.proofs.line.drop_front.Statement.{statement}
+use Rattle.frame.proofs.line.drop_front.Tie as tie
+
+lesser-requires : tie.Need-lesser-requires
+lesser-requires c κs = search needs
+
+returns : tie.Need-returns
+returns c = drop-none _ _ _ _ (c .before .lesser .ensures) (c .if1 .taken)
+
+sub-k : tie.Need-sub-k
+sub-k c = search needs
+
+move-down-requires : tie.Need-move-down-requires
+move-down-requires c κs =
+    let a = c .before .before .before .before .args in
+    omega (arith, lesser-bounds (a .held) (length (now (a .buf))) _ (c .before .before .lesser .ensures))
+
+same-length : tie.Need-same-length
+same-length c = search needs
+
+returns-2 : tie.Need-returns-2
+returns-2 c =
+    let a = c .before .before .before .before .before .before .before .args in
+    let h = c .before .before .before .before .before .lesser .result in
+    ap (λ (d : Bytes). line d (h - a .n)) (c .before .before .move-down .ensures) ∙ drop-some (now (a .buf)) (a .held) (a .n) h (c .before .before .before .before .before .lesser .ensures) (omega arith)
+
+pub drop-front-spec : {M : Type 1} → statement M
+drop-front-spec =
+    tie.close (tie.spec lesser-requires returns sub-k move-down-requires same-length returns-2)

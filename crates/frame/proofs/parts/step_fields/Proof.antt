@@ -1,0 +1,114 @@
+-- `step_fields`: each answer by its law.
+use denote.Ref.{now}
+use borrow.Author.Needs.{needs}
+use native.Mathlib.Omega.{arith}
+use Prim.Native.Nat.{ℕ, _+_, _-_, _≤_, _<_}
+use Rattle.frame.specs.Frame.{ruleOf}
+use lib.ListN.{length}
+use Rattle.frame.proofs.AtBody.{tag-wrong, tag-short, mark-inside, fields-short, last-wrong, fields-next}
+use Rattle.frame.proofs.parts.step_fields.Statement.{statement}
+use Rattle.frame.proofs.parts.step_fields.Tie as tie
+
+slice-aggregate-matched : tie.Need-slice-aggregate-matched
+slice-aggregate-matched c = search needs
+
+matched-requires : tie.Need-matched-requires
+matched-requires c κs = search needs
+
+add-if2 : tie.Need-add-if2
+add-if2 c = search needs
+
+returns : tie.Need-returns
+returns c =
+    let a = c .before .before .before .before .before .before .args in
+    let R = ruleOf (now (a .mark)) in
+    let s = now (a .s) in
+    let S = c .before .before .before .before .before .before .pre .1 in
+    tag-short R s (a .p) (a .a) (a .n) S (c .before .before .before .before .before .before .pre .0) _ (c .before .before .matched .ensures) (omega arith) (c .if2 .taken) (λ i. omega (arith, c .before .before .before .before .before .shared-slice-known .given i))
+
+returns-2 : tie.Need-returns-2
+returns-2 c =
+    let a = c .before .before .before .before .before .before .args in
+    let R = ruleOf (now (a .mark)) in
+    let s = now (a .s) in
+    let S = c .before .before .before .before .before .before .pre .1 in
+    tag-wrong R s (a .p) (a .a) (a .n) S _ (c .before .before .matched .ensures) (omega arith) (c .if2 .left)
+
+sub-if3 : tie.Need-sub-if3
+sub-if3 c = search needs
+
+holds-requires : tie.Need-holds-requires
+holds-requires c κs = search needs
+
+returns-3 : tie.Need-returns-3
+returns-3 c =
+    let a = c .before .before .before .before .before .before .before .before .args in
+    let R = ruleOf (now (a .mark)) in
+    let s = now (a .s) in
+    let S = c .before .before .before .before .before .before .before .before .pre .1 in
+    mark-inside R s (a .p) (a .a) (a .n) S (length s) (omega arith) (c .before .holds .ensures .found (c .if4 .taken))
+
+returns-4 : tie.Need-returns-4
+returns-4 c =
+    let a = c .before .before .before .before .before .before .before .before .args in
+    let R = ruleOf (now (a .mark)) in
+    let s = now (a .s) in
+    let S = c .before .before .before .before .before .before .before .before .pre .1 in
+    fields-short R s (a .p) (a .a) (a .n) S (c .before .before .before .before .before .before .before .before .pre .0) _ (c .before .before .before .before .matched .ensures) (omega arith) (omega arith) (c .before .holds .ensures .none (c .if4 .left)) (λ i. omega (arith, c .before .before .before .before .before .before .before .shared-slice-known .given i))
+
+add-e : tie.Need-add-e
+add-e c = search needs
+
+sub-if5 : tie.Need-sub-if5
+sub-if5 c = search needs
+
+shared-slice-read-if5 : tie.Need-shared-slice-read-if5
+shared-slice-read-if5 c = search needs
+
+returns-5 : tie.Need-returns-5
+returns-5 c =
+    let a = c .before .before .before .before .before .before .before .before .args in
+    let R = ruleOf (now (a .mark)) in
+    let s = now (a .s) in
+    let S = c .before .before .before .before .before .before .before .before .pre .1 in
+    last-wrong R s (a .p) (a .a) (a .n) S (omega arith) (c .if5 .taken)
+
+holds-requires-2 : tie.Need-holds-requires-2
+holds-requires-2 c κs = search needs
+
+returns-6 : tie.Need-returns-6
+returns-6 c =
+    let a = c .before .before .before .before .before .before .before .before .before .before .args in
+    let R = ruleOf (now (a .mark)) in
+    let s = now (a .s) in
+    let S = c .before .before .before .before .before .before .before .before .before .before .pre .1 in
+    mark-inside R s (a .p) (a .a) (a .n) S (a .a + a .n) (omega arith) (c .before .holds2 .ensures .found (c .if6 .taken))
+
+returns-7 : tie.Need-returns-7
+returns-7 c =
+    let a = c .before .before .before .before .before .before .before .before .before .before .args in
+    let R = ruleOf (now (a .mark)) in
+    let s = now (a .s) in
+    let S = c .before .before .before .before .before .before .before .before .before .before .pre .1 in
+    (fields-next R s (a .p) (a .a) (a .n) S (omega arith) _ (c .before .before .before .before .before .before .matched .ensures) (omega arith) (λ i. omega (arith, c .before .before .before .before .before .before .before .before .before .shared-slice-known .given i)) (c .before .before .if5 .left) (c .before .holds2 .ensures .none (c .if6 .left)), omega arith)
+
+pub step-fields-spec : {M : Type 1} → statement M
+step-fields-spec =
+    tie.close
+    (tie.spec
+    slice-aggregate-matched
+    matched-requires
+    add-if2
+    returns
+    returns-2
+    sub-if3
+    holds-requires
+    returns-3
+    returns-4
+    add-e
+    sub-if5
+    shared-slice-read-if5
+    returns-5
+    holds-requires-2
+    returns-6
+    returns-7)

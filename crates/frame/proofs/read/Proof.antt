@@ -1,0 +1,20 @@
+-- `read`: the mark `8=FIXT.1.1|9=` meets the conditions.
+use borrow.Author.Needs.{needs}
+use Rattle.frame.specs.Frame.{fixt}
+use Rattle.frame.proofs.Marks.{fixt-ok}
+use Rattle.frame.proofs.read.Statement.{statement}
+use Rattle.frame.proofs.read.Tie as tie
+
+slice-aggregate-read-with : tie.Need-slice-aggregate-read-with
+slice-aggregate-read-with c = search needs
+
+read-with-requires : tie.Need-read-with-requires
+unfolding fixt
+read-with-requires c κs = fixt-ok
+
+returns : tie.Need-returns
+unfolding fixt
+returns c = c .read-with .ensures
+
+pub read-spec : {M : Type 1} → statement M
+read-spec = tie.close (tie.spec slice-aggregate-read-with read-with-requires returns)

@@ -1,0 +1,54 @@
+-- What the leaves of the scan answer. Only the code's walk needs these: nothing here states document 01.
+use Prim.Native.Nat.{ℕ, _+_, _≤_, _<_}
+use mathlib.Core.Path.{_≡_}
+use mathlib.Core.Bool.{Bool, true, false}
+use lib.ListN.{length, take, drop, getD}
+use Rattle.frame.specs.Bytes.{Bytes, value, At}
+
+-- a decimal digit, as two orders
+abbrev pub Digit : ℕ → Type 0
+Digit d = (48 ≤ d) × (d ≤ 57)
+
+-- r bytes of lit, and not one more, stand in s from p on
+pub record Matched (s : Bytes) (p : ℕ) (lit : Bytes) (r : ℕ) : Type 0 where
+  pub within : p + r ≤ length s
+  pub most : r ≤ length lit
+  pub same : (i : ℕ) → i < r → getD s (p + i) 0 ≡ getD lit i 0
+  pub stop : r < length lit → p + r < length s → getD s (p + r) 0 ≡ getD lit r 0 → ⊥
+
+-- c digits stand in s from p on, at most `most`, and no further one follows unless c is `most`; v is what they are worth
+pub record Number (s : Bytes) (p most v c : ℕ) : Type 0 where
+  pub within : p + c ≤ length s
+  pub few : c ≤ most
+  pub digits : (i : ℕ) → i < c → Digit (getD s (p + i) 0)
+  pub worth : v ≡ value (take c (drop p s))
+  pub small : v < 1_000_000_000_000
+  pub stop : c < most → p + c < length s → Digit (getD s (p + c) 0) → ⊥
+
+-- the first place from a on, before e, at which the byte x stands; or e
+pub record FirstByte (s : Bytes) (a e x r : ℕ) : Type 0 where
+  pub low : a ≤ r
+  pub high : r ≤ e
+  pub none : (q : ℕ) → q < r → a ≤ q → getD s q 0 ≡ x → ⊥
+  pub found : r < e → getD s r 0 ≡ x
+
+-- whether none of the sixteen bytes from i on is x; nothing is said where the answer is no
+abbrev pub Calm : Bytes → ℕ → ℕ → Bool → Type 0
+Calm s i x r = r ≡ true → (k : ℕ) → k < 16 → getD s (i + k) 0 ≡ x → ⊥
+
+-- lit stands whole in s between a and e
+pub record Stands (s : Bytes) (a e : ℕ) (lit : Bytes) : Type 0 where
+  pub place : ℕ
+  pub low : a ≤ place
+  pub high : place + length lit ≤ e
+  pub there : At s place lit
+
+-- whether it does with its fifth byte at j
+pub record Around (s : Bytes) (a e j : ℕ) (lit : Bytes) (r : Bool) : Type 0 where
+  pub found : r ≡ true → Stands s a e lit
+  pub none : r ≡ false → (q : ℕ) → q + 4 ≡ j → a ≤ q → q + length lit ≤ e → At s q lit → ⊥
+
+-- whether it does at all
+pub record Searched (s : Bytes) (a e : ℕ) (lit : Bytes) (r : Bool) : Type 0 where
+  pub found : r ≡ true → Stands s a e lit
+  pub none : r ≡ false → Stands s a e lit → ⊥

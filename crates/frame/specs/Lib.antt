@@ -1,0 +1,9 @@
+pub mod Bytes
+pub mod Frame
+pub mod Mark
+pub mod Reading
+pub mod Stream
+pub mod Line
+pub mod Desk
+pub mod Leaf
+pub mod Walk

@@ -1,0 +1,67 @@
+-- How far the walk over a candidate's parts has come, and what one step of it answers. Only the code's walk needs these: nothing here
+-- states document 01.
+use Prim.Native.Nat.{ℕ, _+_, _-_, _≤_, _<_}
+use mathlib.Core.Path.{_≡_}
+use mathlib.Core.List.{_∷_, _++_}
+use lib.ListN.{length, drop}
+use Rattle.frame.specs.Bytes.{Bytes, value, At}
+use Rattle.frame.specs.Frame.{Rule, Length, Body, GoodAt, Live, front}
+use Rattle.frame.specs.declared.parts.Part.{Part}
+use Rattle.frame.specs.declared.parts.Part.the-variants.{Mark, Size, Fields, Tail}
+use Rattle.frame.specs.declared.parts.Step.{Step}
+use Rattle.frame.specs.declared.parts.Step.the-variants.{Next, Whole, Short, Wrong}
+
+-- parts still to come
+abbrev pub rank : Part → ℕ
+rank Mark = 3
+rank (Size a) = 2
+rank (Fields a n) = 1
+rank (Tail a) = 0
+
+-- the mark stands at p, and a is behind it
+pub record MarkSeen (R : Rule) (s : Bytes) (p a : ℕ) : Type 0 where
+  pub from : p ≤ length s
+  pub within : a ≤ length s
+  pub split : drop p s ≡ R .mark ++ drop a s
+
+-- the mark and a body length of n stand at p, and a is behind its `|`
+pub record SizeSeen (R : Rule) (s : Bytes) (p a n : ℕ) : Type 0 where
+  pub within : a ≤ length s
+  pub digits : Bytes
+  pub split : drop p s ≡ R .mark ++ (digits ++ (1 ∷ drop a s))
+  pub len : Length R digits
+  pub worth : n ≡ value digits
+
+-- the mark, a body length and a body with no mark in it stand at p, and a is behind the body
+pub record BodySeen (R : Rule) (s : Bytes) (p a : ℕ) : Type 0 where
+  pub within : a ≤ length s
+  pub digits : Bytes
+  pub body : Bytes
+  pub split : drop p s ≡ front R digits body ++ drop a s
+  pub len : Length R digits
+  pub inner : Body (value digits) body
+  pub free : (q : ℕ) → At body q (R .mark) → ⊥
+
+-- what has been seen of a frame that begins at p, before the part in hand
+abbrev pub Seen : Rule → Bytes → ℕ → Part → Type 0
+Seen R s p Mark = p ≤ length s
+Seen R s p (Size a) = MarkSeen R s p a
+Seen R s p (Fields a n) = SizeSeen R s p a n
+Seen R s p (Tail a) = BodySeen R s p a
+
+-- live, and not yet whole
+pub record Open (R : Rule) (s : Bytes) (p : ℕ) : Type 0 where
+  pub live : Live R s p
+  pub past : length s < p + live .size
+
+-- a good frame from p to e
+pub record Ended (R : Rule) (s : Bytes) (p e : ℕ) : Type 0 where
+  pub from : p ≤ e
+  pub to : e ≤ length s
+  pub goodAt : GoodAt R s p (e - p)
+
+abbrev pub Stepped : Rule → Bytes → ℕ → Part → Step → Type 0
+Stepped R s p x (Next y) = Seen R s p y × (rank y < rank x)
+Stepped R s p x (Whole e) = Ended R s p e
+Stepped R s p x Short = Open R s p
+Stepped R s p x Wrong = Live R s p → ⊥

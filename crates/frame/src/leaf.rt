@@ -1,0 +1,154 @@
+// The leaves of the scan: bytes compared, digits read, bytes summed, a byte and a row of bytes looked for.
+ghost use mathlib.Core.Path.{_≡_};
+ghost use mathlib.Core.Bool.{Bool, true, false};
+ghost use Prim.Native.Nat.{ℕ, _+_, _-_, _%_, _≤_, _<_};
+ghost use lib.ListN.{length, take, drop, getD};
+ghost use Rattle.frame.specs.Bytes.{sum};
+ghost use Rattle.frame.specs.Leaf.{Matched, Number, FirstByte, Calm, Stands, Around, Searched};
+
+// How many bytes of lit stand in s from at on.
+pub fn matched(s: &[u8], at: usize, lit: &[u8]) -> usize
+    requires { ⌜ at ≤ length (now s) ⌝ }
+    ensures { λ r. ⌜ Matched (now (s .entry)) at (now (lit .entry)) r ⌝ }
+{
+    let mut i = 0;
+    while i < lit.len() {
+        if at + i == s.len() {
+            return i;
+        }
+        if s[at + i] != lit[i] {
+            return i;
+        }
+        i += 1;
+    }
+    i
+}
+
+// Decimal digits that stand in a row: how many, and what they are worth.
+pub struct Num {
+    pub value: usize,
+    pub count: usize,
+}
+
+// The decimal digits of s from at on, at most `most` of them.
+pub fn number(s: &[u8], at: usize, most: usize) -> Num
+    requires { ⌜ (at ≤ length (now s)) × (most ≤ 12) ⌝ }
+    ensures { λ r. ⌜ Number (now (s .entry)) at most (r .value) (r .count) ⌝ }
+{
+    let mut v: usize = 0;
+    let mut c: usize = 0;
+    while c < most {
+        if at + c == s.len() {
+            return Num { value: v, count: c };
+        }
+        let d = s[at + c];
+        if d < 48 {
+            return Num { value: v, count: c };
+        }
+        if 57 < d {
+            return Num { value: v, count: c };
+        }
+        v = v * 10 + ((d - 48) as usize);
+        c += 1;
+    }
+    Num { value: v, count: c }
+}
+
+// The sum of the bytes of s from a to e, modulo 256. It is kept modulo 256 all the way, so that the compiler adds sixteen bytes at once.
+pub fn checksum(s: &[u8], a: usize, e: usize) -> u8
+    requires { ⌜ (a ≤ e) × (e ≤ length (now s)) ⌝ }
+    ensures { λ r. ⌜ r ≡ sum (take (e - a) (drop a (now (s .entry)))) % 256 ⌝ }
+{
+    let mut t: u8 = 0;
+    let mut i = a;
+    while i < e {
+        t = std::num::wrapping_add_u8(t, s[i]);
+        i += 1;
+    }
+    t
+}
+
+// Whether none of the sixteen bytes from i on is x. The loop has no way out, so the compiler compares the sixteen at once.
+fn calm(s: &[u8], i: usize, x: u8) -> bool
+    requires { ⌜ i + 16 ≤ length (now s) ⌝ }
+    ensures { λ r. ⌜ Calm (now (s .entry)) i x r ⌝ }
+{
+    let mut none = true;
+    let mut k = 0;
+    while k < 16 {
+        if s[i + k] == x {
+            none = false;
+        }
+        k += 1;
+    }
+    none
+}
+
+// The first place from a on at which x stands before e, or e: byte by byte.
+fn byte_from(s: &[u8], a: usize, e: usize, x: u8) -> usize
+    requires { ⌜ (a ≤ e) × (e ≤ length (now s)) ⌝ }
+    ensures { λ r. ⌜ FirstByte (now (s .entry)) a e x r ⌝ }
+{
+    let mut i = a;
+    while i < e {
+        if s[i] == x {
+            return i;
+        }
+        i += 1;
+    }
+    i
+}
+
+// The same, sixteen bytes at a time as long as x is not among them.
+pub fn find_byte(s: &[u8], a: usize, e: usize, x: u8) -> usize
+    requires { ⌜ (a ≤ e) × (e ≤ length (now s)) ⌝ }
+    ensures { λ r. ⌜ FirstByte (now (s .entry)) a e x r ⌝ }
+{
+    let mut i = a;
+    while 16 <= e - i {
+        if !calm(s, i, x) {
+            return byte_from(s, i, e, x);
+        }
+        i += 16;
+    }
+    byte_from(s, i, e, x)
+}
+
+// Whether lit stands whole between a and e with its fifth byte at j.
+fn stands_around(s: &[u8], a: usize, e: usize, j: usize, lit: &[u8]) -> bool
+    requires { ⌜ (j < e) × (e ≤ length (now s)) ⌝ }
+    ensures { λ r. ⌜ Around (now (s .entry)) a e j (now (lit .entry)) r ⌝ }
+{
+    if j < 4 {
+        return false;
+    }
+    let q = j - 4;
+    if q < a {
+        return false;
+    }
+    if e - q < lit.len() {
+        return false;
+    }
+    matched(s, q, lit) == lit.len()
+}
+
+// Whether lit stands whole between a and e. A mark's fifth byte, the `X` of FIX, is rare in a body, so that is what is looked for.
+// Each byte is passed by find_byte once, and each place of that byte costs at most one comparison with lit: linear whatever the bytes are.
+pub fn holds(s: &[u8], a: usize, e: usize, lit: &[u8]) -> bool
+    requires { ⌜ ((a ≤ e) × (e ≤ length (now s))) × (5 ≤ length (now lit)) ⌝ }
+    ensures { λ r. ⌜ Searched (now (s .entry)) a e (now (lit .entry)) r ⌝ }
+{
+    let x = lit[4];
+    let mut i = a;
+    while i < e {
+        let j = find_byte(s, i, e, x);
+        if j == e {
+            return false;
+        }
+        if stands_around(s, a, e, j, lit) {
+            return true;
+        }
+        i = j + 1;
+    }
+    false
+}

@@ -1,0 +1,118 @@
+// The good frame: one reading of a byte string, whether bytes are one good frame, and its body; a stream in pieces is in `line`.
+mod leaf;
+mod line;
+mod parts;
+
+pub use leaf::Num;
+use leaf::find_byte;
+pub use leaf::number;
+pub use line::drop_front;
+pub use line::put_piece;
+use parts::Part;
+use parts::Step;
+use parts::look;
+ghost use mathlib.Core.Bool.{true};
+ghost use mathlib.Core.Path.{_≡_};
+ghost use Rattle.frame.specs.Frame.{ruleOf, fixt, Good, BodyOf};
+ghost use Rattle.frame.specs.Mark.{MarkOk};
+ghost use Rattle.frame.specs.Reading.{Reads, numbers, Handed};
+
+// One reading's answer: a frame with the bytes skipped before it, or refusal 1 with the bytes to drop.
+pub enum Reading {
+    Frame { skip: usize, len: usize },
+    NoFrame { drop: usize },
+}
+
+// `8=FIXT.1.1|9=`
+const FIXT: [u8; 13] = [56, 61, 70, 73, 88, 84, 46, 49, 46, 49, 1, 57, 61];
+
+// The leftmost good frame of s under a mark, as that part of s, with the bytes before it in `at`; or no bytes, with the bytes to drop in `at`.
+//
+// Linear in s, whatever its bytes are: find_byte passes each byte that doesn't begin a mark once; a candidate that isn't a whole mark is left
+// within the mark's length; and a body is scanned at most up to the next mark, behind which the next body scan begins, so that no byte is in
+// more than one body scan that ends at a mark and one that doesn't.
+fn read_with<'a>(s: &'a [u8], mark: &[u8], at: &mut usize) -> &'a [u8]
+    requires { ⌜ MarkOk (now mark) ⌝ }
+    ensures { λ r. ⌜ Handed (ruleOf (now (mark .entry))) (now (s .entry)) (now r) (now (at .exit)) ⌝ }
+{
+    let n = s.len();
+    let first = mark[0];
+    let mut p = 0;
+    let found: &'a [u8] = 'positions: loop {
+        let q = find_byte(s, p, n, first);
+        if n <= q {
+            *at = n;
+            break 'positions &s[..0];
+        }
+        let mut part = Part::Mark;
+        'parts: loop {
+            match look(s, q, part, mark) {
+                Step::Next(next) => {
+                    part = next;
+                }
+                Step::Whole(e) => {
+                    *at = q;
+                    break 'positions &s[q..e];
+                }
+                Step::Short => {
+                    *at = q;
+                    break 'positions &s[..0];
+                }
+                Step::Wrong => {
+                    break 'parts;
+                }
+            }
+        }
+        p = q + 1;
+    };
+    found
+}
+
+// One reading: the leftmost good frame of s as that part of s, with the bytes skipped before it in `at`; or, under refusal 1, no bytes, with the
+// bytes to drop in `at`.
+pub fn read<'a>(s: &'a [u8], at: &mut usize) -> &'a [u8]
+    ensures { λ r. ⌜ Handed fixt (now (s .entry)) (now r) (now (at .exit)) ⌝ }
+{
+    read_with(s, &FIXT, at)
+}
+
+// The same in numbers alone.
+pub fn reading_of(s: &[u8]) -> Reading
+    ensures { λ r. ⌜ Reads fixt (now (s .entry)) (numbers r) ⌝ }
+{
+    let mut at: usize = 0;
+    let n = read(s, &mut at).len();
+    if n == 0 {
+        return Reading::NoFrame { drop: at };
+    }
+    Reading::Frame { skip: at, len: n }
+}
+
+// Whether s is exactly one good frame.
+pub fn is_frame(s: &[u8]) -> bool
+    ensures { λ b. ⌜ ((b ≡ true → Good fixt (now (s .entry))) × (Good fixt (now (s .entry)) → b ≡ true)) ⌝ }
+{
+    let mut at: usize = 0;
+    let n = read(s, &mut at).len();
+    if n == 0 {
+        return false;
+    }
+    if at != 0 {
+        return false;
+    }
+    n == s.len()
+}
+
+// The body of exactly one good frame, as that part of f; no bytes where f is none.
+pub fn body_of<'a>(f: &'a [u8]) -> &'a [u8]
+    ensures { λ r. ⌜ BodyOf fixt (now (f .entry)) (now r) ⌝ }
+{
+    if is_frame(f) {
+        let n = number(f, 13, 4);
+        let c = n.count;
+        let a = 14 + c;
+        let e = f.len() - 7;
+        return &f[a..e];
+    }
+    &f[..0]
+}

@@ -1,0 +1,144 @@
+// The parts of a candidate: the mark, the body length, the body, the trailer, each looked at by a function of its own.
+use crate::leaf::checksum;
+use crate::leaf::holds;
+use crate::leaf::matched;
+use crate::leaf::number;
+ghost use Prim.Native.Nat.{_≤_};
+ghost use lib.ListN.{length};
+ghost use Rattle.frame.specs.Frame.{ruleOf};
+ghost use Rattle.frame.specs.Mark.{MarkOk};
+ghost use Rattle.frame.specs.Walk.{Seen, Stepped};
+
+// The part that is to be looked at next.
+pub enum Part {
+    Mark,
+    // Behind the mark, at this place.
+    Size(usize),
+    // Behind the length's `|`, at this place; the body is this many bytes.
+    Fields(usize, usize),
+    // Behind the body, at this place.
+    Tail(usize),
+}
+
+// What looking at a part finds.
+pub enum Step {
+    Next(Part),
+    // The frame is good and ends here.
+    Whole(usize),
+    // The bytes run out: the position is live.
+    Short,
+    // No good frame begins at this position, whatever follows.
+    Wrong,
+}
+
+// "the start mark"
+fn step_mark(s: &[u8], p: usize, mark: &[u8]) -> Step
+    requires { ⌜ MarkOk (now mark) ⌝ }
+    requires { ⌜ p ≤ length (now s) ⌝ }
+    ensures { λ r. ⌜ Stepped (ruleOf (now (mark .entry))) (now (s .entry)) p Part.Mark r ⌝ }
+{
+    let m = matched(s, p, mark);
+    if m == mark.len() {
+        return Step::Next(Part::Size(p + m));
+    }
+    if p + m == s.len() {
+        return Step::Short;
+    }
+    Step::Wrong
+}
+
+// "the body length, 1 to 4 digits, no leading zero, value 5 to 2,048; `|`"
+fn step_size(s: &[u8], p: usize, a: usize, mark: &[u8]) -> Step
+    requires { ⌜ MarkOk (now mark) ⌝ }
+    requires { ⌜ Seen (ruleOf (now mark)) (now s) p (Part.Size a) ⌝ }
+    ensures { λ r. ⌜ Stepped (ruleOf (now (mark .entry))) (now (s .entry)) p (Part.Size a) r ⌝ }
+{
+    let n = number(s, a, 4);
+    let count = n.count;
+    let value = n.value;
+    let e = a + count;
+    if count == 0 {
+        if e == s.len() {
+            return Step::Short;
+        }
+        return Step::Wrong;
+    }
+    if s[a] == 48 {
+        return Step::Wrong;
+    }
+    if 2048 < value {
+        return Step::Wrong;
+    }
+    if e == s.len() {
+        return Step::Short;
+    }
+    if s[e] != 1 {
+        return Step::Wrong;
+    }
+    if value < 5 {
+        return Step::Wrong;
+    }
+    Step::Next(Part::Fields(e + 1, value))
+}
+
+// "a body of that many bytes that begins `35=` and ends with `|`", with no second mark in it
+fn step_fields(s: &[u8], p: usize, a: usize, n: usize, mark: &[u8]) -> Step
+    requires { ⌜ MarkOk (now mark) ⌝ }
+    requires { ⌜ Seen (ruleOf (now mark)) (now s) p (Part.Fields a n) ⌝ }
+    ensures { λ r. ⌜ Stepped (ruleOf (now (mark .entry))) (now (s .entry)) p (Part.Fields a n) r ⌝ }
+{
+    let m = matched(s, a, b"35=");
+    let end = s.len();
+    if m < 3 {
+        if a + m == end {
+            return Step::Short;
+        }
+        return Step::Wrong;
+    }
+    if end - a < n {
+        if holds(s, a, end, mark) {
+            return Step::Wrong;
+        }
+        return Step::Short;
+    }
+    let e = a + n;
+    if s[e - 1] != 1 {
+        return Step::Wrong;
+    }
+    if holds(s, a, e, mark) {
+        return Step::Wrong;
+    }
+    Step::Next(Part::Tail(e))
+}
+
+// "then `10=`, three digits, `|`. The three digits are the sum of all bytes before `10=`, modulo 256."
+fn step_tail(s: &[u8], p: usize, a: usize, mark: &[u8]) -> Step
+    requires { ⌜ MarkOk (now mark) ⌝ }
+    requires { ⌜ Seen (ruleOf (now mark)) (now s) p (Part.Tail a) ⌝ }
+    ensures { λ r. ⌜ Stepped (ruleOf (now (mark .entry))) (now (s .entry)) p (Part.Tail a) r ⌝ }
+{
+    let v = checksum(s, p, a);
+    let t: [u8; 7] = [49, 48, 61, 48 + v / 100, 48 + v / 10 % 10, 48 + v % 10, 1];
+    let m = matched(s, a, &t);
+    if m == 7 {
+        return Step::Whole(a + 7);
+    }
+    if a + m == s.len() {
+        return Step::Short;
+    }
+    Step::Wrong
+}
+
+// The part in hand of a candidate at p.
+pub fn look(s: &[u8], p: usize, x: Part, mark: &[u8]) -> Step
+    requires { ⌜ MarkOk (now mark) ⌝ }
+    requires { ⌜ Seen (ruleOf (now mark)) (now s) p x ⌝ }
+    ensures { λ r. ⌜ Stepped (ruleOf (now (mark .entry))) (now (s .entry)) p x r ⌝ }
+{
+    match x {
+        Part::Mark => step_mark(s, p, mark),
+        Part::Size(a) => step_size(s, p, a, mark),
+        Part::Fields(a, n) => step_fields(s, p, a, n, mark),
+        Part::Tail(a) => step_tail(s, p, a, mark),
+    }
+}
