@@ -1,6 +1,5 @@
 -- A candidate's first bytes beside the mark; and what a live position gives to compare with, part by part.
 use Prim.Native.Nat.{ℕ, _+_, _≤_, _<_}
-use native.Mathlib.Nat.{add-zero}
 use native.Mathlib.Omega.{arith}
 use mathlib.Core.Path.{_≡_, refl, sym, ap, ap₂, _∙_, subst}
 use mathlib.Core.List.{List, [], _∷_, _++_, append-assoc, append-cancel-left, tail-eq-of-cons-eq}
@@ -82,9 +81,6 @@ module _ (R : Rule) where
       let B = begun s p (omega arith) w in
       sym (getD-drop p s i 0)
       ∙ agree (drop p s) (B .t) (R .mark) _ i (B .eq ∙ good-split R (B .g) (B .u) (B .good)) (omega (arith, length-drop p s)) l
-
-  pub live-first : (s : Bytes) (p : ℕ) → p < length s → 0 < length (R .mark) → Live R s p → getD s p 0 ≡ getD (R .mark) 0 0
-  live-first s p h l w = ap (λ (k : ℕ). getD s k 0) (sym (add-zero p)) ∙ live-byte s p 0 (omega arith) l w
 
   pub mark-wrong : (s : Bytes) (p m : ℕ) → Matched s p (R .mark) m → (m ≡ length (R .mark) → ⊥) → (p + m ≡ length s → ⊥) → Live R s p → ⊥
   mark-wrong s p m M h k w =

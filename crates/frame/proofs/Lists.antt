@@ -9,7 +9,7 @@ use mathlib.Core.List.{List, [], _∷_, _++_}
 use lib.ListN.{length, take, drop, getD, length-drop, length-append, List·getD-append}
 use lib.Seq.{take-suc, getD-drop, getD-take, ext-getD, length-take-le, drop-append-le, take-append-le}
 use Rattle.frame.specs.Bytes.{Bytes, sum, value, valueFrom, At}
-use Rattle.frame.specs.Leaf.{Matched, FirstByte, Around, Stands}
+use Rattle.frame.specs.Leaf.{Matched, FirstByte, NextStart, Around, Stands}
 use native.Mathlib.Decide.{decLt}
 
 -- one more byte of a part
@@ -110,6 +110,15 @@ none-further s a i n x f g q h k e = go (decLt q i)
         let w : q ≡ i + (q - i) = omega arith in
         g (q - i) (omega arith) (ap (λ (z : ℕ). getD s z 0) (sym w) ∙ e)
 
+-- the same from i to the end e
+pub none-to-end : (s : Bytes) (a i e x : ℕ) → ((q : ℕ) → q < i → a ≤ q → getD s q 0 ≡ x → ⊥) → ((q : ℕ) → q < e → i ≤ q → getD s q 0 ≡ x → ⊥)
+    → (q : ℕ) → q < e → a ≤ q → getD s q 0 ≡ x → ⊥
+none-to-end s a i e x f g q h k w = go (decLt q i)
+  where
+    go : Dec (q < i) → ⊥
+    go (yes l) = f q l k w
+    go (no l) = g q h (omega arith) w
+
 -- the first from i on is the first from a on, where there is none between
 pub first-further : (s : Bytes) (a i e x r : ℕ) → a ≤ i → ((q : ℕ) → q < i → a ≤ q → getD s q 0 ≡ x → ⊥) → FirstByte s i e x r → FirstByte s a e x r
 first-further s a i e x r h f F = record { low = omega (arith, F .low); high = F .high; none = none; found = F .found }
@@ -120,6 +129,21 @@ first-further s a i e x r h f F = record { low = omega (arith, F .low); high = F
         go : Dec (q < i) → ⊥
         go (yes y) = f q y k w
         go (no y) = F .none q l (omega arith) w
+
+-- what stands nowhere in the last n bytes before e stands nowhere from i on
+pub free-tail : (s : Bytes) (i e n x : ℕ) → n ≤ e → e ≤ i + n → ((k : ℕ) → k < n → getD s (e - n + k) 0 ≡ x → ⊥) → (q : ℕ) → q < e → i ≤ q → getD s q 0 ≡ x → ⊥
+free-tail s i e n x h l f q k y w =
+    let z : e - n + (q - (e - n)) ≡ q = omega arith in
+    f (q - (e - n)) (omega arith) (ap (λ (j : ℕ). getD s j 0) z ∙ w)
+
+pub next-from : (s : Bytes) (p x j : ℕ) → FirstByte s (p + 4) (length s) x j → NextStart s p x (j - 4)
+next-from s p x j F =
+    record {
+      low = omega (arith, F .low);
+      high = omega (arith, F .high);
+      inside = λ q l h. omega (arith, F .high, F .low);
+      none = λ q l h. F .none (q + 4) (omega (arith, F .low)) (omega arith);
+    }
 
 -- ---- a literal looked for by its fifth byte
 module _ (s : Bytes) (a e : ℕ) (lit : Bytes) (five : 5 ≤ length lit) where

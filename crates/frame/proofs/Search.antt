@@ -7,27 +7,27 @@ use mathlib.Core.Logic.{inl, inr}
 use mathlib.Core.List.{List, []}
 use lib.ListN.{length, take, drop, getD}
 use Rattle.frame.specs.Bytes.{Bytes}
-use Rattle.frame.specs.Leaf.{FirstByte}
+use Rattle.frame.specs.Leaf.{NextStart}
 use Rattle.frame.specs.Frame.{Rule, GoodAt, Live}
 use Rattle.frame.specs.Reading.{frame, Leftmost, Unfinished, Reads, answered, Handed}
 use Rattle.frame.specs.Walk.{Open, Ended}
 use Rattle.frame.specs.Mark.{MarkOk}
 use Rattle.frame.proofs.Lists.{part-length}
 use Rattle.frame.proofs.Good.{good-at-length, good-live, open-none}
-use Rattle.frame.proofs.AtMark.{live-first}
+use Rattle.frame.proofs.AtMark.{live-byte}
 
 module _ (R : Rule) (s : Bytes) where
   -- no position before p is live
   abbrev pub Dead : ℕ → Type 0
   Dead p = (q : ℕ) → q < p → Live R s q → ⊥
 
-  -- positions without the mark's first byte are not live
-  pub dead-further : MarkOk (R .mark) → (p q : ℕ) → FirstByte s p (length s) (getD (R .mark) 0 0) q → Dead p → Dead q
+  -- positions without the mark's fifth byte four bytes behind are not live
+  pub dead-further : MarkOk (R .mark) → (p q : ℕ) → NextStart s p (getD (R .mark) 4 0) q → Dead p → Dead q
   dead-further ok p q F dead i l w = go (decLt i p)
     where
       go : Dec (i < p) → ⊥
       go (yes y) = dead i y w
-      go (no y) = F .none i l (omega arith) (live-first R s i (omega (arith, F .high)) (omega (arith, ok .long)) w)
+      go (no y) = F .none i l (omega arith) (live-byte R s i 4 (F .inside i l (omega arith)) (omega (arith, ok .long)) w)
 
   answered-frame : (at n : ℕ) → 0 < n → frame at n ≡ answered at n
   answered-frame at zero h = absurd (omega arith)

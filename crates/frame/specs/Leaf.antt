@@ -32,9 +32,20 @@ pub record FirstByte (s : Bytes) (a e x r : ℕ) : Type 0 where
   pub none : (q : ℕ) → q < r → a ≤ q → getD s q 0 ≡ x → ⊥
   pub found : r < e → getD s r 0 ≡ x
 
--- whether none of the sixteen bytes from i on is x; nothing is said where the answer is no
-abbrev pub Calm : Bytes → ℕ → ℕ → Bool → Type 0
-Calm s i x r = r ≡ true → (k : ℕ) → k < 16 → getD s (i + k) 0 ≡ x → ⊥
+-- whether none of the n bytes from i on is x; nothing is said where the answer is no
+abbrev pub Calm : Bytes → ℕ → ℕ → ℕ → Bool → Type 0
+Calm s i n x r = r ≡ true → (k : ℕ) → k < n → getD s (i + k) 0 ≡ x → ⊥
+
+-- whether x stands nowhere from i to e; nothing is said where the answer is no
+abbrev pub Free : Bytes → ℕ → ℕ → ℕ → Bool → Type 0
+Free s i e x r = r ≡ true → (q : ℕ) → q < e → i ≤ q → getD s q 0 ≡ x → ⊥
+
+-- the next place from p on at which a mark with the fifth byte x may begin: at none before it, since four bytes behind stands another byte
+pub record NextStart (s : Bytes) (p x r : ℕ) : Type 0 where
+  pub low : p ≤ r
+  pub high : r ≤ length s
+  pub inside : (q : ℕ) → q < r → p ≤ q → q + 4 < length s
+  pub none : (q : ℕ) → q < r → p ≤ q → getD s (q + 4) 0 ≡ x → ⊥
 
 -- lit stands whole in s between a and e
 pub record Stands (s : Bytes) (a e : ℕ) (lit : Bytes) : Type 0 where

@@ -4,7 +4,7 @@ ghost use mathlib.Core.Bool.{Bool, true, false};
 ghost use Prim.Native.Nat.{ℕ, _+_, _-_, _%_, _≤_, _<_};
 ghost use lib.ListN.{length, take, drop, getD};
 ghost use Rattle.frame.specs.Bytes.{sum};
-ghost use Rattle.frame.specs.Leaf.{Matched, Number, FirstByte, Calm, Stands, Around, Searched};
+ghost use Rattle.frame.specs.Leaf.{Matched, Number, FirstByte, Calm, Free, NextStart, Around, Searched};
 
 // How many bytes of lit stand in s from at on.
 pub fn matched(s: &[u8], at: usize, lit: &[u8]) -> usize
@@ -68,14 +68,14 @@ pub fn checksum(s: &[u8], a: usize, e: usize) -> u8
     t
 }
 
-// Whether none of the sixteen bytes from i on is x. The loop has no way out, so the compiler compares the sixteen at once.
-fn calm(s: &[u8], i: usize, x: u8) -> bool
-    requires { ⌜ i + 16 ≤ length (now s) ⌝ }
-    ensures { λ r. ⌜ Calm (now (s .entry)) i x r ⌝ }
+// Whether none of the n bytes from i on is x. The loop has no way out, so the compiler compares sixteen bytes at once.
+fn calm(s: &[u8], i: usize, n: usize, x: u8) -> bool
+    requires { ⌜ i + n ≤ length (now s) ⌝ }
+    ensures { λ r. ⌜ Calm (now (s .entry)) i n x r ⌝ }
 {
     let mut none = true;
     let mut k = 0;
-    while k < 16 {
+    while k < n {
         if s[i + k] == x {
             none = false;
         }
@@ -99,19 +99,52 @@ fn byte_from(s: &[u8], a: usize, e: usize, x: u8) -> usize
     i
 }
 
-// The same, sixteen bytes at a time as long as x is not among them.
+// Whether x stands nowhere in the last bytes before e, from i on, fewer than sixteen: told by the last sixteen, where there are as many behind a.
+fn tail_free(s: &[u8], a: usize, i: usize, e: usize, x: u8) -> bool
+    requires { ⌜ ((a ≤ i) × (e - i ≤ 16)) × ((i ≤ e) × (e ≤ length (now s))) ⌝ }
+    ensures { λ r. ⌜ Free (now (s .entry)) i e x r ⌝ }
+{
+    if e - a < 16 {
+        return false;
+    }
+    calm(s, e - 16, 16, x)
+}
+
+// The first place from a on at which x stands before e, or e: thirty-two bytes at a time, and then sixteen, as long as x is not among them.
 pub fn find_byte(s: &[u8], a: usize, e: usize, x: u8) -> usize
     requires { ⌜ (a ≤ e) × (e ≤ length (now s)) ⌝ }
     ensures { λ r. ⌜ FirstByte (now (s .entry)) a e x r ⌝ }
 {
     let mut i = a;
+    while 32 <= e - i {
+        if !calm(s, i, 32, x) {
+            return byte_from(s, i, e, x);
+        }
+        i += 32;
+    }
     while 16 <= e - i {
-        if !calm(s, i, x) {
+        if !calm(s, i, 16, x) {
             return byte_from(s, i, e, x);
         }
         i += 16;
     }
+    if tail_free(s, a, i, e, x) {
+        return e;
+    }
     byte_from(s, i, e, x)
+}
+
+// The next place from p on at which a mark with the fifth byte x may begin. The last four places are left to the mark's own comparison.
+pub fn next_start(s: &[u8], p: usize, x: u8) -> usize
+    requires { ⌜ p ≤ length (now s) ⌝ }
+    ensures { λ r. ⌜ NextStart (now (s .entry)) p x r ⌝ }
+{
+    let n = s.len();
+    if n - p <= 4 {
+        return p;
+    }
+    let j = find_byte(s, p + 4, n, x);
+    j - 4
 }
 
 // Whether lit stands whole between a and e with its fifth byte at j.

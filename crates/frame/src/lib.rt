@@ -4,7 +4,7 @@ mod line;
 mod parts;
 
 pub use leaf::Num;
-use leaf::find_byte;
+use leaf::next_start;
 pub use leaf::number;
 pub use line::drop_front;
 pub use line::put_piece;
@@ -28,18 +28,18 @@ const FIXT: [u8; 13] = [56, 61, 70, 73, 88, 84, 46, 49, 46, 49, 1, 57, 61];
 
 // The leftmost good frame of s under a mark, as that part of s, with the bytes before it in `at`; or no bytes, with the bytes to drop in `at`.
 //
-// Linear in s, whatever its bytes are: find_byte passes each byte that doesn't begin a mark once; a candidate that isn't a whole mark is left
-// within the mark's length; and a body is scanned at most up to the next mark, behind which the next body scan begins, so that no byte is in
-// more than one body scan that ends at a mark and one that doesn't.
+// Linear in s, whatever its bytes are: next_start passes each byte once, by the mark's fifth byte, the `X` of FIX; a candidate that isn't a whole
+// mark is left within the mark's length; and a body is scanned at most up to the next mark, which is where the next body scan can begin, so that
+// no byte is in more than two body scans.
 fn read_with<'a>(s: &'a [u8], mark: &[u8], at: &mut usize) -> &'a [u8]
     requires { ⌜ MarkOk (now mark) ⌝ }
     ensures { λ r. ⌜ Handed (ruleOf (now (mark .entry))) (now (s .entry)) (now r) (now (at .exit)) ⌝ }
 {
     let n = s.len();
-    let first = mark[0];
+    let x = mark[4];
     let mut p = 0;
     let found: &'a [u8] = 'positions: loop {
-        let q = find_byte(s, p, n, first);
+        let q = next_start(s, p, x);
         if n <= q {
             *at = n;
             break 'positions &s[..0];

@@ -14,26 +14,26 @@ use Rattle.frame.proofs.read_with.Statement.{statement}
 use Rattle.frame.proofs.read_with.Tie as tie
 
 abbrev Inv-parts : tie.InvT-parts
-Inv-parts s mark at₀ n first p q part₀ at part = (q < length s) × (Seen (ruleOf mark) s q part × Dead (ruleOf mark) s q)
+Inv-parts s mark at₀ n x p q part₀ at part = (q < length s) × (Seen (ruleOf mark) s q part × Dead (ruleOf mark) s q)
 
 abbrev μ-parts : tie.MeasureT-parts
-μ-parts s mark at₀ n first p q part₀ at part = rank part
+μ-parts s mark at₀ n x p q part₀ at part = rank part
 
 abbrev Inv-positions : tie.InvT-positions
-Inv-positions s mark at₀ n first p₀ at p = (p ≤ length s) × Dead (ruleOf mark) s p
+Inv-positions s mark at₀ n x p₀ at p = (p ≤ length s) × Dead (ruleOf mark) s p
 
 abbrev μ-positions : tie.MeasureT-positions
-μ-positions s mark at₀ n first p₀ at p = length s - p
+μ-positions s mark at₀ n x p₀ at p = length s - p
 
-shared-slice-read-first :
-    tie.Need-shared-slice-read-first Inv-parts μ-parts Inv-positions μ-positions
-shared-slice-read-first c = let k = c .before .before .before .pre .long in omega arith
+shared-slice-read-x :
+    tie.Need-shared-slice-read-x Inv-parts μ-parts Inv-positions μ-positions
+shared-slice-read-x c = let k = c .before .before .before .pre .long in omega arith
 
 positions-holds : tie.Need-positions-holds Inv-parts μ-parts Inv-positions μ-positions
 positions-holds c = (omega arith, λ q l. absurd (omega arith))
 
-find-byte-requires : tie.Need-find-byte-requires Inv-parts μ-parts Inv-positions μ-positions
-find-byte-requires c κs = search needs
+next-start-requires : tie.Need-next-start-requires Inv-parts μ-parts Inv-positions μ-positions
+next-start-requires c κs = search needs
 
 slice-aggregate-found : tie.Need-slice-aggregate-found Inv-parts μ-parts Inv-positions μ-positions
 slice-aggregate-found c = search needs
@@ -42,7 +42,7 @@ parts-holds : tie.Need-parts-holds Inv-parts μ-parts Inv-positions μ-positions
 parts-holds c =
     let a = c .before .before .before .before .before .before .args in
     let o = c .before .before .positions in
-    (omega arith, (omega arith, dead-further (ruleOf (now (a .mark))) (now (a .s)) (c .before .before .before .before .before .before .pre) (o .p) _ (c .before .find-byte .ensures) (o .inv .1)))
+    (omega arith, (omega arith, dead-further (ruleOf (now (a .mark))) (now (a .s)) (c .before .before .before .before .before .before .pre) (o .p) _ (c .before .next-start .ensures) (o .inv .1)))
 
 look-requires : tie.Need-look-requires Inv-parts μ-parts Inv-positions μ-positions
 look-requires c κs = (c .before .before .before .before .before .before .before .pre, c .parts .inv .1 .0)
@@ -55,7 +55,7 @@ parts-less c =
     let a = c .before .before .before .before .before .before .before .before .before .before .before .args in
     let s = now (a .s) in
     let R = ruleOf (now (a .mark)) in
-    let q = c .before .before .before .before .before .before .find-byte .result in
+    let q = c .before .before .before .before .before .before .next-start .result in
     let x = c .before .before .before .before .parts .part in
     let w = subst (λ (y : Step). Stepped R s q x y) (c .before .next .given .1) (c .before .before .before .look .ensures) in
     w .1
@@ -65,7 +65,7 @@ parts-again c =
     let a = c .before .before .before .before .before .before .before .before .before .before .before .args in
     let s = now (a .s) in
     let R = ruleOf (now (a .mark)) in
-    let q = c .before .before .before .before .before .before .find-byte .result in
+    let q = c .before .before .before .before .before .before .next-start .result in
     let x = c .before .before .before .before .parts .part in
     let w = subst (λ (y : Step). Stepped R s q x y) (c .before .next .given .1) (c .before .before .before .look .ensures) in
     (c .before .before .before .before .parts .inv .0, (w .0, c .before .before .before .before .parts .inv .1 .1))
@@ -78,7 +78,7 @@ sub-found c =
     let a = c .before .before .before .before .before .before .before .before .before .before .before .args in
     let s = now (a .s) in
     let R = ruleOf (now (a .mark)) in
-    let q = c .before .before .before .before .before .before .find-byte .result in
+    let q = c .before .before .before .before .before .before .next-start .result in
     let x = c .before .before .before .before .parts .part in
     let w = subst (λ (y : Step). Stepped R s q x y) (c .before .e .given .1) (c .before .before .before .look .ensures) in
     w .from
@@ -88,7 +88,7 @@ part-found-start c =
     let a = c .before .before .before .before .before .before .before .before .before .before .before .args in
     let s = now (a .s) in
     let R = ruleOf (now (a .mark)) in
-    let q = c .before .before .before .before .before .before .find-byte .result in
+    let q = c .before .before .before .before .before .before .next-start .result in
     let x = c .before .before .before .before .parts .part in
     let w = subst (λ (y : Step). Stepped R s q x y) (c .before .e .given .1) (c .before .before .before .look .ensures) in
     w .from
@@ -98,7 +98,7 @@ part-found-end c =
     let a = c .before .before .before .before .before .before .before .before .before .before .before .args in
     let s = now (a .s) in
     let R = ruleOf (now (a .mark)) in
-    let q = c .before .before .before .before .before .before .find-byte .result in
+    let q = c .before .before .before .before .before .before .next-start .result in
     let x = c .before .before .before .before .parts .part in
     let w = subst (λ (y : Step). Stepped R s q x y) (c .before .e .given .1) (c .before .before .before .look .ensures) in
     w .to
@@ -117,14 +117,14 @@ add-p : tie.Need-add-p Inv-parts μ-parts Inv-positions μ-positions
 add-p c = search needs
 
 positions-less : tie.Need-positions-less Inv-parts μ-parts Inv-positions μ-positions
-positions-less c = omega (arith, c .before .before .before .before .before .find-byte .ensures .low)
+positions-less c = omega (arith, c .before .before .before .before .before .next-start .ensures .low)
 
 positions-again : tie.Need-positions-again Inv-parts μ-parts Inv-positions μ-positions
 positions-again c =
     let a = c .before .before .before .before .before .before .before .before .before .before .args in
     let s = now (a .s) in
     let R = ruleOf (now (a .mark)) in
-    let q = c .before .before .before .before .before .find-byte .result in
+    let q = c .before .before .before .before .before .next-start .result in
     let x = c .before .before .before .parts .part in
     let w = subst (λ (y : Step). Stepped R s q x y) (c .enum-told2 .given .1) (c .before .before .look .ensures) in
     (omega arith, below-more _ _ (c .before .before .before .parts .inv .1 .1) w)
@@ -134,7 +134,7 @@ returns c =
     let a = c .before .before .before .before .before .before .before .args in
     let R = ruleOf (now (a .mark)) in
     let o = c .before .before .before .positions in
-    let F = c .before .before .find-byte .ensures in
+    let F = c .before .before .next-start .ensures in
     let D = dead-further R (now (a .s)) (c .before .before .before .before .before .before .before .pre) (o .p) _ F (o .inv .1) in
     hand-none R (now (a .s)) (λ q l. D q (omega arith))
 
@@ -143,7 +143,7 @@ returns-2 c =
     let a = c .before .before .before .before .before .before .before .before .before .before .before .before .args in
     let s = now (a .s) in
     let R = ruleOf (now (a .mark)) in
-    let q = c .before .before .before .before .before .before .before .find-byte .result in
+    let q = c .before .before .before .before .before .before .before .next-start .result in
     let x = c .before .before .before .before .before .parts .part in
     let w = subst (λ (y : Step). Stepped R s q x y) (c .before .before .e .given .1) (c .before .before .before .before .look .ensures) in
     hand-frame R s q _ w (c .before .before .before .before .before .parts .inv .1 .1)
@@ -153,7 +153,7 @@ returns-3 c =
     let a = c .before .before .before .before .before .before .before .before .before .before .before .args in
     let s = now (a .s) in
     let R = ruleOf (now (a .mark)) in
-    let q = c .before .before .before .before .before .before .find-byte .result in
+    let q = c .before .before .before .before .before .before .next-start .result in
     let x = c .before .before .before .before .parts .part in
     let w = subst (λ (y : Step). Stepped R s q x y) (c .before .enum-told .given .1) (c .before .before .before .look .ensures) in
     hand-open R s q (c .before .before .before .before .parts .inv .0) (c .before .before .before .before .parts .inv .1 .1) w
@@ -166,9 +166,9 @@ read-with-spec =
     μ-parts
     Inv-positions
     μ-positions
-    shared-slice-read-first
+    shared-slice-read-x
     positions-holds
-    find-byte-requires
+    next-start-requires
     slice-aggregate-found
     parts-holds
     look-requires

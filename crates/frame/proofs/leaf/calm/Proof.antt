@@ -5,17 +5,17 @@ use native.Mathlib.Omega.{arith}
 use Prim.Native.Nat.{ℕ, _+_, _-_, _≤_, _<_}
 use mathlib.Core.Path.{_≡_, sym, _∙_, subst}
 use lib.ListN.{length, getD}
-use mathlib.Core.Bool.{true, false}
+use mathlib.Core.Bool.{true}
 use mathlib.Core.Logic.{⊎-elim}
 use lib.Dec.{T}
 use Rattle.frame.proofs.leaf.calm.Statement.{statement}
 use Rattle.frame.proofs.leaf.calm.Tie as tie
 
 abbrev Inv-loop : tie.InvT-loop
-Inv-loop s i x none₀ k₀ none k = (k ≤ 16) × (none ≡ true → (j : ℕ) → j < k → getD s (i + j) 0 ≡ x → ⊥)
+Inv-loop s i n x none₀ k₀ none k = (k ≤ n) × (none ≡ true → (j : ℕ) → j < k → getD s (i + j) 0 ≡ x → ⊥)
 
 abbrev μ-loop : tie.MeasureT-loop
-μ-loop s i x none₀ k₀ none k = 16 - k
+μ-loop s i n x none₀ k₀ none k = n - k
 
 loop-holds : tie.Need-loop-holds Inv-loop μ-loop
 loop-holds c = (omega arith, λ t k h. absurd (omega arith))

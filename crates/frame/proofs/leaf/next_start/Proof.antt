@@ -1,0 +1,29 @@
+-- `next_start`: by the first place of the fifth byte.
+use borrow.Author.Needs.{needs}
+use native.Mathlib.Omega.{arith}
+use Rattle.frame.proofs.Lists.{next-from}
+use Rattle.frame.proofs.leaf.next_start.Statement.{statement}
+use Rattle.frame.proofs.leaf.next_start.Tie as tie
+
+sub-if1 : tie.Need-sub-if1
+sub-if1 c = search needs
+
+returns : tie.Need-returns
+returns c =
+    record { low = omega arith; high = omega arith; inside = λ q l h. absurd (omega arith); none = λ q l h. absurd (omega arith) }
+
+add-find-byte : tie.Need-add-find-byte
+add-find-byte c = search needs
+
+find-byte-requires : tie.Need-find-byte-requires
+find-byte-requires c κs = search needs
+
+sub-result : tie.Need-sub-result
+sub-result c = search needs
+
+returns-2 : tie.Need-returns-2
+returns-2 c = next-from _ _ _ _ (c .find-byte .ensures)
+
+pub next-start-spec : {M : Type 1} → statement M
+next-start-spec =
+    tie.close (tie.spec sub-if1 returns add-find-byte find-byte-requires sub-result returns-2)
