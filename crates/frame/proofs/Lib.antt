@@ -12,3 +12,11 @@ pub mod AtSize
 pub mod Search
 pub mod Lines
 pub mod Bodies
+pub mod Apart
+pub mod Decide
+pub mod Readable
+pub mod Streams
+pub mod Worked
+pub mod Pieces
+pub mod Hosted
+pub mod Desk

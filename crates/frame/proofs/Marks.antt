@@ -4,9 +4,9 @@ use native.Mathlib.Decide.{decLt}
 use native.Mathlib.Omega.{arith}
 use mathlib.Core.Path.{_≡_, refl, sym, ap, _∙_, subst}
 use mathlib.Core.Bool.{Bool, true, false, not, _&&_}
-use lib.Dec.{T, leb, eqb}
+use lib.Dec.{T, leb, ltb, eqb}
 use lib.ListN.{length, getD}
-use borrow.Author.Tests.{leb-true, le-leb, eq-eqb}
+use borrow.Author.Tests.{ltb-true, leb-true, le-leb, eq-eqb}
 use Rattle.frame.specs.Bytes.{Bytes, digit}
 use Rattle.frame.specs.Leaf.{Digit}
 use Rattle.frame.specs.Frame.{fixt, fix42}
@@ -45,7 +45,11 @@ module _ (m : Bytes) where
   abbrev no-end : ℕ → Bool
   no-end i = not (eqb (getD m (i + 2) 0) 1 && digit (getD m i 0))
 
+  abbrev a-byte : ℕ → Bool
+  a-byte i = ltb (getD m i 0) 256
+
   pub record MarkTest : Type 0 where
+    pub bytes : allBelow (length m) a-byte ≡ true
     pub long : leb 8 (length m) ≡ true
     pub first : not (true && eqb (getD m 0 0) 1) ≡ true
     pub second : not (true && eqb (getD m 1 0) 1) ≡ true
@@ -58,6 +62,7 @@ module _ (m : Bytes) where
   pub mark-ok : MarkTest → MarkOk m
   mark-ok t =
       record {
+        bytes = λ i l. ltb-true _ 256 (at-below (length m) a-byte (t .bytes) i l);
         long = leb-true 8 (length m) (t .long);
         first = λ e. apart true _ (t .first) refl (eq-eqb _ _ e);
         second = λ e. apart true _ (t .second) refl (eq-eqb _ _ e);
@@ -71,9 +76,9 @@ module _ (m : Bytes) where
 pub fixt-ok : MarkOk (fixt .mark)
 unfolding fixt
 fixt-ok =
-    mark-ok (fixt .mark) (record { long = refl; first = refl; second = refl; second-digit = refl; last = refl; alone = refl; soh = refl; end = refl })
+    mark-ok (fixt .mark) (record { bytes = refl; long = refl; first = refl; second = refl; second-digit = refl; last = refl; alone = refl; soh = refl; end = refl })
 
 pub fix42-ok : MarkOk (fix42 .mark)
 unfolding fix42
 fix42-ok =
-    mark-ok (fix42 .mark) (record { long = refl; first = refl; second = refl; second-digit = refl; last = refl; alone = refl; soh = refl; end = refl })
+    mark-ok (fix42 .mark) (record { bytes = refl; long = refl; first = refl; second = refl; second-digit = refl; last = refl; alone = refl; soh = refl; end = refl })

@@ -7,6 +7,8 @@ use Rattle.frame.specs.Bytes.{Bytes}
 use Rattle.frame.specs.Leaf.{Digit}
 
 pub record MarkOk (m : Bytes) : Type 0 where
+  -- it is made of bytes
+  pub bytes : (i : ℕ) → i < length m → getD m i 0 < 256
   -- it is longer than the trailer
   pub long : 8 ≤ length m
   -- its first byte is no `|` and does not come again: no mark begins inside a mark

@@ -1,0 +1,107 @@
+-- The desk examples W1 to W5 hold.
+use Prim.Native.Nat.{ℕ, _+_, _-_, _%_, _≤_, _<_}
+use native.Mathlib.Nat.{add-zero}
+use native.Mathlib.Omega.{arith}
+use native.Mathlib.Decide.{decLt}
+use mathlib.Core.Path.{_≡_, refl, sym, ap, ap₂, _∙_, subst}
+use mathlib.Core.Logic.{inl}
+use mathlib.Core.Bool.{true}
+use mathlib.Core.List.{List, [], _∷_, _++_, append-assoc}
+use lib.Dec.{lit≤, ltb}
+use lib.ListN.{length, take, drop, getD, length-append, List·getD-append, List·getD-eq-default}
+use lib.Seq.{take-at, drop-at, take-length, getD-take, getD-append-add}
+use borrow.Author.Tests.{ltb-true}
+use Rattle.frame.specs.Bytes.{Bytes, fix, sum, numeral}
+use Rattle.frame.specs.Frame.{Rule, fixt, Good, GoodAt, front, trailer, sumOf}
+use Rattle.frame.specs.Desk.{Desk}
+use Rattle.frame.proofs.Lists.{at-byte}
+use Rattle.frame.proofs.Numerals.{numeral-is}
+use Rattle.frame.proofs.Good.{good-at-length, good-at-mark}
+use Rattle.frame.proofs.Make.{good-make}
+use Rattle.frame.proofs.Marks.{fixt-ok, allBelow, at-below}
+use Rattle.frame.proofs.Apart.{left-none}
+
+module _ (R : Rule) where
+  -- the last seven bytes of a good frame are the trailer of the sum of those before
+  good-sum : (g : Bytes) → Good R g → drop (length g - 7) g ≡ trailer (sum (take (length g - 7) g) % 256)
+  good-sum g G =
+      let b = front R (G .digits) (G .body) in
+      let t = trailer (sumOf R (G .digits) (G .body)) in
+      let n : length b ≡ length g - 7 = omega (arith, ap length (G .whole), length-append b t) in
+      ap (λ (l : Bytes). drop (length g - 7) l) (G .whole) ∙ drop-at b t (length g - 7) n
+      ∙ ap (λ (l : Bytes). trailer (sum l % 256)) (sym (ap (λ (l : Bytes). take (length g - 7) l) (G .whole) ∙ take-at b t (length g - 7) n))
+
+  -- the first digit of the length is no zero
+  good-first : (g : Bytes) → Good R g → getD g (length (R .mark)) 0 ≡ 48 → ⊥
+  good-first g G z =
+      let w = numeral-is (R .most) (G .digits) (G .len .written) in
+      w .no-zero
+      (sym
+      (ap (λ (k : ℕ). getD g k 0) (sym (add-zero (length (R .mark))))
+      ∙ ap (λ (l : Bytes). getD l (length (R .mark) + 0) 0) (G .whole ∙ regroup (R .mark) (G .digits) (G .body) (trailer (sumOf R (G .digits) (G .body))))
+      ∙ getD-append-add (R .mark) _ 0 0
+      ∙ List·getD-append (G .digits) _ 0 0 (w .present))
+      ∙ z)
+    where
+      regroup : (m ds b t : Bytes) → m ++ (ds ++ (1 ∷ b)) ++ t ≡ m ++ (ds ++ ((1 ∷ b) ++ t))
+      regroup m ds b t = simp append-assoc
+
+small : (l : Bytes) → allBelow (length l) (λ i. ltb (getD l i 0) 256) ≡ true → (i : ℕ) → getD l i 0 < 256
+small l t i = go (decLt i (length l))
+  where
+    go : Dec (i < length l) → getD l i 0 < 256
+    go (yes k) = ltb-true _ 256 (at-below (length l) (λ i. ltb (getD l i 0) 256) t i k)
+    go (no k) = omega (arith, List·getD-eq-default l 0 {n = i} (omega arith))
+
+-- W1 is a good frame
+w1-good : Good fixt (fix "8=FIXT.1.1|9=5|35=0|10=241|")
+unfolding fixt numeral
+w1-good =
+    good-make fixt fixt-ok (fix "5") (fix "35=0|") (record { written = refl; low = lit≤ tt; high = lit≤ tt })
+    (record { sized = refl; begins = (lit≤ tt, refl); ends = refl; bytes = small (fix "35=0|") refl })
+    (λ q a. omega (arith, a .0))
+
+-- a good frame as long as the bytes it stands in is all of them
+all-of : (s : Bytes) (q m : ℕ) → q ≡ 0 → m ≡ length s → GoodAt fixt s q m → Good fixt s
+all-of s q m e f G = subst (λ (l : Bytes). Good fixt l) (ap₂ (λ (n i : ℕ). take n (drop i s)) f e ∙ take-length s) (G .good)
+
+second : (q m : ℕ) → GoodAt fixt (fix "8=FIXT.1.1|9=5|35=0|10=242|") q m → ⊥
+unfolding fixt
+second q m G =
+    let k = (good-at-length fixt G) .0 in
+    let s = fix "8=FIXT.1.1|9=5|35=0|10=242|" in
+    let e = good-sum fixt s (all-of s q m (omega (arith, G .inside)) (omega (arith, G .inside)) G) in
+    let z : _≡_ {A = ℕ} 50 49 = ap (λ (l : Bytes). getD l 5 0) e in
+    omega arith
+
+-- W3 has one byte more than the shortest frame: a frame would begin at its first byte or at its second
+third : (q m : ℕ) → GoodAt fixt (fix "8=FIXT.1.1|9=05|35=0|10=241|") q m → Dec (q < 1) → ⊥
+unfolding fixt
+third q m G (yes l) =
+    let s = fix "8=FIXT.1.1|9=05|35=0|10=241|" in
+    let e : q ≡ 0 = omega arith in
+    let k = (good-at-length fixt G) .0 in
+    let z : getD (take m (drop q s)) 13 0 ≡ 48 = getD-take m (drop q s) 13 0 (omega arith) ∙ ap (λ (i : ℕ). getD (drop i s) 13 0) e in
+    good-first fixt (take m (drop q s)) (G .good) z
+third q m G (no l) =
+    let s = fix "8=FIXT.1.1|9=05|35=0|10=241|" in
+    let k = (good-at-length fixt G) .0 in
+    let e : q ≡ 1 = omega (arith, G .inside) in
+    let z : _≡_ {A = ℕ} 61 56 = ap (λ (i : ℕ). getD s (i + 0) 0) (sym e) ∙ at-byte s q (fixt .mark) (good-at-mark fixt G) 0 (omega arith) in
+    omega arith
+
+nothing-in : (s : Bytes) → length s < 27 → (q m : ℕ) → GoodAt fixt s q m → ⊥
+unfolding fixt
+nothing-in s h q m G = omega (arith, G .inside, (good-at-length fixt G) .0)
+
+pub desk : Desk
+desk =
+    record {
+      W1 = record { here = record { inside = lit≤ tt; good = w1-good }; left = λ q m l. absurd (omega arith) };
+      W2 = second;
+      W3 = λ q m G. third q m G (decLt q 1);
+      W4 = (refl, record { none = nothing-in [] (lit≤ tt); dead = λ q l. absurd (omega arith); stop = inl refl });
+      W5 =
+          left-none fixt fixt-ok (fix "8=FIXT.1.1|9=40|") (fix "8=FIXT.1.1|9=5|35=0|10=241|") [] w1-good
+          (nothing-in (fix "8=FIXT.1.1|9=40|") (lit≤ tt));
+    }
