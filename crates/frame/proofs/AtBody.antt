@@ -13,7 +13,7 @@ use Rattle.frame.specs.Frame.{Rule, Body, GoodAt, Live, trailer, sumOf}
 use Rattle.frame.specs.Walk.{SizeSeen, BodySeen, Open}
 use Rattle.frame.specs.Mark.{MarkOk}
 use Rattle.frame.proofs.Lists.{at-byte, bytes-at, matched-at, part-length, at-part, at-more}
-use Rattle.frame.proofs.Numerals.{Digits, numeral-is}
+use Rattle.frame.proofs.Numerals.{Digits, numeral-means, row-digits}
 use Rattle.frame.proofs.Good.{good-length}
 use Rattle.frame.proofs.Complete.{type-tag, Comp, open-of, comp-fields}
 use Rattle.frame.proofs.AtMark.{agree, Begun, begun, begun-digits, begun-size}
@@ -29,7 +29,7 @@ module _ (R : Rule) (s : Bytes) (p a n : ℕ) (S : SizeSeen R s p a n) where
   ds = S .digits
 
   abbrev decimal : Digits (S .digits)
-  decimal = (numeral-is (R .most) (S .digits) (S .len .written)) .decimal
+  decimal = row-digits (S .digits) ((numeral-means (R .most) (S .digits) (S .len .written)) .whole)
 
   pub size-range : (5 ≤ n) × (n ≤ 2048)
   size-range = omega (arith, S .worth, S .len .low, S .len .high)

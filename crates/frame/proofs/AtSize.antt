@@ -14,7 +14,7 @@ use Rattle.frame.specs.Frame.{Rule, Length, Live}
 use Rattle.frame.specs.Walk.{MarkSeen, SizeSeen, Open}
 use Rattle.frame.specs.Mark.{MarkOk}
 use Rattle.frame.proofs.Lists.{valueFrom-append}
-use Rattle.frame.proofs.Numerals.{Digits, Written, digit-at, digits-of, digits-append, valueFrom-least, numeral-is, is-numeral, small-one}
+use Rattle.frame.proofs.Numerals.{Digits, Numeral, digit-at, digits-of, digits-append, value-from, numeral-means, numeral-true, small-one, row-digits, digits-row}
 use Rattle.frame.proofs.Good.{good-digits}
 use Rattle.frame.proofs.Complete.{Comp, open-of, comp-more, comp-size, comp-mark}
 use Rattle.frame.proofs.AtMark.{agree, Begun, begun, begun-mark}
@@ -40,13 +40,13 @@ module _ (R : Rule) (s : Bytes) (p a : ℕ) (S : MarkSeen R s p a) (v c : ℕ) (
   unfolding ds
   ds-first k = getD-take c (drop a s) 0 0 k ∙ getD-drop a s 0 0 ∙ ap (λ (z : ℕ). getD s z 0) (add-zero a)
 
-  ds-written : 0 < c → (getD s a 0 ≡ 48 → ⊥) → Written (R .most) ds
+  ds-written : 0 < c → (getD s a 0 ≡ 48 → ⊥) → Numeral (R .most) ds
   ds-written k z =
-      record { decimal = ds-digits; present = omega (arith, ds-length); few = omega (arith, ds-length, N .few); no-zero = λ y. z (sym (ds-first k) ∙ y) }
+      record { whole = digits-row ds ds-digits; some-digit = omega (arith, ds-length); few = omega (arith, ds-length, N .few); no-zero = λ y. z (sym (ds-first k) ∙ y) }
 
   ds-size : 0 < c → (getD s a 0 ≡ 48 → ⊥) → 5 ≤ v → v ≤ 2048 → Length R ds
   ds-size k z lo hi =
-      record { written = is-numeral (R .most) ds (ds-written k z); low = omega (arith, ds-value); high = omega (arith, ds-value) }
+      record { written = numeral-true (R .most) ds (ds-written k z); low = omega (arith, ds-value); high = omega (arith, ds-value) }
 
   pub size-next : 0 < c → (getD s a 0 ≡ 48 → ⊥) → 5 ≤ v → v ≤ 2048 → a + c < length s → getD s (a + c) 0 ≡ 1 → SizeSeen R s p (a + c + 1) v
   unfolding ds
@@ -84,11 +84,11 @@ module _ (R : Rule) (s : Bytes) (p a : ℕ) (S : MarkSeen R s p a) (v c : ℕ) (
     unfolding es
     es-len = B .good .len
 
-    es-written : Written (R .most) es
-    es-written = numeral-is (R .most) es (es-len .written)
+    es-written : Numeral (R .most) es
+    es-written = numeral-means (R .most) es (es-len .written)
 
     es-digit : (i : ℕ) → i < length es → Digit (getD es i 0)
-    es-digit i k = digit-at es (es-written .decimal) i k
+    es-digit i k = digit-at es (row-digits es (es-written .whole)) i k
 
     -- the digits that stand there are among those of the frame
     es-reach : c ≤ length es
@@ -110,17 +110,17 @@ module _ (R : Rule) (s : Bytes) (p a : ℕ) (S : MarkSeen R s p a) (v c : ℕ) (
     es-value =
         let e₁ : value es ≡ valueFrom (value ds) (drop c es) =
         ap value (sym (take-append-drop c es)) ∙ valueFrom-append 0 (take c es) (drop c es) ∙ ap (λ (l : Bytes). valueFrom (value l) (drop c es)) es-take in
-        omega (arith, valueFrom-least (drop c es) (value ds), ds-value)
+        omega (arith, value-from (value ds) (drop c es), ds-value)
 
     pub size-wrong-none : c ≡ 0 → (a + c ≡ length s → ⊥) → 0 < R .most → ⊥
     size-wrong-none z l k =
         let h : a < length s = omega (arith, N .within) in
         N .stop (omega arith) (omega arith)
-        (subst (λ (i : ℕ). Digit (getD s (a + i) 0)) (sym z) (subst Digit (sym (es-eq 0 (es-written .present) (omega arith))) (es-digit 0 (es-written .present))))
+        (subst (λ (i : ℕ). Digit (getD s (a + i) 0)) (sym z) (subst Digit (sym (es-eq 0 (es-written .some-digit) (omega arith))) (es-digit 0 (es-written .some-digit))))
 
     pub size-wrong-zero : a < length s → getD s a 0 ≡ 48 → ⊥
     size-wrong-zero l z =
-        es-written .no-zero (sym (es-eq 0 (es-written .present) (omega arith)) ∙ ap (λ (i : ℕ). getD s i 0) (add-zero a) ∙ z)
+        es-written .no-zero (sym (es-eq 0 (es-written .some-digit) (omega arith)) ∙ ap (λ (i : ℕ). getD s i 0) (add-zero a) ∙ z)
 
     pub size-wrong-high : 2048 < v → ⊥
     size-wrong-high k = omega (arith, es-value, es-len .high)
@@ -170,10 +170,10 @@ module _ (R : Rule) (s : Bytes) (p a : ℕ) (S : MarkSeen R s p a) (v c : ℕ) (
             (comp-size R ok (ds ++ (48 ∷ []))
             (record {
               written =
-                  is-numeral (R .most) (ds ++ (48 ∷ []))
+                  numeral-true (R .most) (ds ++ (48 ∷ []))
                   (record {
-                    decimal = digits-append ds (48 ∷ []) ds-digits ((omega arith, omega arith), tt);
-                    present = omega arith;
+                    whole = digits-row (ds ++ (48 ∷ [])) (digits-append ds (48 ∷ []) ds-digits ((omega arith, omega arith), tt));
+                    some-digit = omega arith;
                     few = omega arith;
                     no-zero = λ q. w .no-zero (sym (List·getD-append ds (48 ∷ []) 0 0 (omega (arith, ds-length))) ∙ q);
                   });

@@ -11,7 +11,7 @@ use Rattle.frame.specs.Frame.{Rule, Good, Live, front, trailer, sumOf}
 use Rattle.frame.specs.Walk.{BodySeen, Open, Ended}
 use Rattle.frame.specs.Mark.{MarkOk}
 use Rattle.frame.proofs.Lists.{matched-at}
-use Rattle.frame.proofs.Numerals.{Digits, numeral-is}
+use Rattle.frame.proofs.Numerals.{Digits, numeral-means, row-digits}
 use Rattle.frame.proofs.Good.{same-start}
 use Rattle.frame.proofs.Make.{good-make}
 use Rattle.frame.proofs.Complete.{open-of, comp-tail}
@@ -19,7 +19,7 @@ use Rattle.frame.proofs.AtMark.{at-drop, agree, rest-is, begun, begun-d
 
 module _ (R : Rule) (s : Bytes) (p a : ℕ) (S : BodySeen R s p a) where
   abbrev decimal : Digits (S .digits)
-  decimal = (numeral-is (R .most) (S .digits) (S .len .written)) .decimal
+  decimal = row-digits (S .digits) ((numeral-means (R .most) (S .digits) (S .len .written)) .whole)
 
   front-length : length (front R (S .digits) (S .body)) ≡ length (R .mark) + (length (S .digits) + (value (S .digits) + 1))
   front-length = omega (arith, length-append (R .mark) (S .digits ++ (1 ∷ S .body)), length-append (S .digits) (1 ∷ S .body), S .inner .sized)

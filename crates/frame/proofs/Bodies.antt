@@ -9,7 +9,7 @@ use lib.Seq.{take-at, drop-at}
 use Rattle.frame.specs.Bytes.{Bytes, value}
 use Rattle.frame.specs.Leaf.{Digit, Number}
 use Rattle.frame.specs.Frame.{Rule, Good, BodyOf, its-body, trailer, sumOf}
-use Rattle.frame.proofs.Numerals.{digit-at, numeral-is}
+use Rattle.frame.proofs.Numerals.{digit-at, numeral-means}
 use Rattle.frame.proofs.Make.{j-digit, j-soh}
 use Rattle.frame.proofs.Good.{good-length, good-split, good-digits}
 
@@ -41,7 +41,7 @@ module _ (R : Rule) (f : Bytes) (G : Good R f) (v c : ℕ) (N : Number f (length
       go : Dec (n < c) → Dec (c < n) → c ≡ n
       go (yes k) _ = absurd (omega (arith, N .digits n k, soh))
       go (no k) (yes l) =
-          absurd (N .stop (omega (arith, (numeral-is (R .most) (G .digits) (G .len .written)) .few)) (omega (arith, good-length R f G)) (dig l))
+          absurd (N .stop (omega (arith, (numeral-means (R .most) (G .digits) (G .len .written)) .few)) (omega (arith, good-length R f G)) (dig l))
       go (no k) (no l) = omega arith
 
   pub body-fits : (length (R .mark) + (c + 1) ≤ length f - 7) × (7 ≤ length f)

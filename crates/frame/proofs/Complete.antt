@@ -14,7 +14,7 @@ use Rattle.frame.specs.Frame.{Rule, Length, Body, Good, GoodAt, front, t
 use Rattle.frame.specs.Walk.{Open}
 use Rattle.frame.specs.Mark.{MarkOk}
 use Rattle.frame.proofs.Lists.{at-byte, bytes-at}
-use Rattle.frame.proofs.Numerals.{is-numeral}
+use Rattle.frame.proofs.Numerals.{numeral-true, digits-row}
 use Rattle.frame.proofs.Make.{good-make}
 
 -- the bytes with which a body begins
@@ -174,7 +174,7 @@ module _ (R : Rule) (ok : MarkOk (R .mark)) where
       comp-more (R .mark) (53 ∷ [])
       (comp-size (53 ∷ [])
       (record {
-        written = is-numeral (R .most) (53 ∷ []) (record { decimal = ((lit≤ tt, lit≤ tt), tt); present = omega arith; few = h; no-zero = λ e. omega arith });
+        written = numeral-true (R .most) (53 ∷ []) (record { whole = digits-row (53 ∷ []) ((lit≤ tt, lit≤ tt), tt); some-digit = omega arith; few = h; no-zero = λ e. omega arith });
         low = lit≤ tt;
         high = lit≤ tt;
       }))

@@ -15,7 +15,7 @@ use Rattle.frame.specs.Bytes.{Bytes, fix, sum, numeral}
 use Rattle.frame.specs.Frame.{Rule, fixt, Good, GoodAt, front, trailer, sumOf}
 use Rattle.frame.specs.Desk.{Desk}
 use Rattle.frame.proofs.Lists.{at-byte}
-use Rattle.frame.proofs.Numerals.{numeral-is}
+use Rattle.frame.proofs.Numerals.{numeral-means}
 use Rattle.frame.proofs.Good.{good-at-length, good-at-mark}
 use Rattle.frame.proofs.Make.{good-make}
 use Rattle.frame.proofs.Marks.{fixt-ok, allBelow, at-below}
@@ -34,13 +34,13 @@ module _ (R : Rule) where
   -- the first digit of the length is no zero
   good-first : (g : Bytes) → Good R g → getD g (length (R .mark)) 0 ≡ 48 → ⊥
   good-first g G z =
-      let w = numeral-is (R .most) (G .digits) (G .len .written) in
+      let w = numeral-means (R .most) (G .digits) (G .len .written) in
       w .no-zero
       (sym
       (ap (λ (k : ℕ). getD g k 0) (sym (add-zero (length (R .mark))))
       ∙ ap (λ (l : Bytes). getD l (length (R .mark) + 0) 0) (G .whole ∙ regroup (R .mark) (G .digits) (G .body) (trailer (sumOf R (G .digits) (G .body))))
       ∙ getD-append-add (R .mark) _ 0 0
-      ∙ List·getD-append (G .digits) _ 0 0 (w .present))
+      ∙ List·getD-append (G .digits) _ 0 0 (w .some-digit))
       ∙ z)
     where
       regroup : (m ds b t : Bytes) → m ++ (ds ++ (1 ∷ b)) ++ t ≡ m ++ (ds ++ ((1 ∷ b) ++ t))

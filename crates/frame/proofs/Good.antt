@@ -11,7 +11,7 @@ use Rattle.frame.specs.Bytes.{Bytes, value, At}
 use Rattle.frame.specs.Frame.{Rule, Good, GoodAt, Live, front, trailer, sumOf}
 use Rattle.frame.specs.Walk.{Open}
 use Rattle.frame.proofs.Lists.{part-length, at-part, at-whole, at-more, part-more}
-use Rattle.frame.proofs.Numerals.{Digits, numeral-is, split-digits}
+use Rattle.frame.proofs.Numerals.{Digits, numeral-means, split-digits, row-digits}
 
 -- two ways to write one list that begin with parts of one length begin with the same part
 pub same-start : (x y c d : Bytes) → length x ≡ length y → x ++ c ≡ y ++ d → x ≡ y
@@ -19,7 +19,7 @@ same-start x y c d h e = sym (take-at x c (length x) refl) ∙ ap (λ (l : Bytes
 
 module _ (R : Rule) where
   pub good-digits : (g : Bytes) (G : Good R g) → Digits (G .digits)
-  good-digits g G = (numeral-is (R .most) (G .digits) (G .len .written)) .decimal
+  good-digits g G = row-digits (G .digits) ((numeral-means (R .most) (G .digits) (G .len .written)) .whole)
 
   pub good-length : (g : Bytes) (G : Good R g) → length g ≡ length (R .mark) + (length (G .digits) + (value (G .digits) + 8))
   good-length g G =
@@ -32,10 +32,10 @@ module _ (R : Rule) where
 
   -- "The longest frame is 2,073 bytes": the mark, `most` digits and 2,056 bytes more
   pub good-longest : (g : Bytes) (G : Good R g) → length g ≤ length (R .mark) + (R .most + 2056)
-  good-longest g G = omega (arith, good-length g G, (numeral-is (R .most) (G .digits) (G .len .written)) .few, G .len .high)
+  good-longest g G = omega (arith, good-length g G, (numeral-means (R .most) (G .digits) (G .len .written)) .few, G .len .high)
 
   pub good-shortest : (g : Bytes) (G : Good R g) → length (R .mark) + 14 ≤ length g
-  good-shortest g G = omega (arith, good-length g G, (numeral-is (R .most) (G .digits) (G .len .written)) .present, G .len .low)
+  good-shortest g G = omega (arith, good-length g G, (numeral-means (R .most) (G .digits) (G .len .written)) .some-digit, G .len .low)
 
   -- the frame, and what is behind it, behind the mark
   pub good-split : (g u : Bytes) (G : Good R g) → g ++ u ≡ R .mark ++ (G .digits ++ (1 ∷ (G .body ++ (trailer (sumOf R (G .digits) (G .body)) ++ u))))

@@ -20,3 +20,4 @@ pub mod Worked
 pub mod Pieces
 pub mod Hosted
 pub mod Desk
+pub mod Decimals

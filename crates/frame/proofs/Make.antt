@@ -11,7 +11,7 @@ use Rattle.frame.specs.Bytes.{Bytes, value, At}
 use Rattle.frame.specs.Frame.{Rule, Length, Body, Good, front, trailer, sumOf}
 use Rattle.frame.specs.Mark.{MarkOk}
 use Rattle.frame.proofs.Lists.{at-byte, bytes-at}
-use Rattle.frame.proofs.Numerals.{Digits, digit-at, numeral-is}
+use Rattle.frame.proofs.Numerals.{Digits, digit-at, numeral-means, row-digits}
 
 module _ (m ds b tr : Bytes) where
   abbrev pub joined : Bytes
@@ -106,7 +106,7 @@ module _ (R : Rule) (ok : MarkOk (R .mark)) where
         inner = B;
         whole = refl;
         once = λ q h a.
-            one-mark (R .mark) ds b tr ok ((numeral-is (R .most) ds (L .written)) .decimal) (omega (arith, B .sized, L .low)) (ap (λ (k : ℕ). getD b (k - 1) 0) (B .sized) ∙ B .ends) refl refl none q h
+            one-mark (R .mark) ds b tr ok (row-digits ds ((numeral-means (R .most) ds (L .written)) .whole)) (omega (arith, B .sized, L .low)) (ap (λ (k : ℕ). getD b (k - 1) 0) (B .sized) ∙ B .ends) refl refl none q h
             (subst (λ (g : Bytes). At g q (R .mark)) (simp append-assoc) a);
       }
     where

@@ -11,7 +11,7 @@ use Rattle.frame.specs.Bytes.{Bytes, digit}
 use Rattle.frame.specs.Leaf.{Digit}
 use Rattle.frame.specs.Frame.{fixt, fix42}
 use Rattle.frame.specs.Mark.{MarkOk}
-use Rattle.frame.proofs.Numerals.{both, both-left, both-right, is-within}
+use Rattle.frame.proofs.Numerals.{both, and-true, is-digit}
 
 -- a test at each number below n
 abbrev pub allBelow : ℕ → (ℕ → Bool) → Bool
@@ -20,20 +20,17 @@ allBelow (suc n) f = f n && allBelow n f
 
 pub at-below : (n : ℕ) (f : ℕ → Bool) → allBelow n f ≡ true → (k : ℕ) → k < n → f k ≡ true
 at-below zero f t k h = absurd (omega arith)
-at-below (suc n) f t k h = go (decLt k n) (at-below n f (both-right (f n) (allBelow n f) t) k)
+at-below (suc n) f t k h = go (decLt k n) (at-below n f ((both (f n) (allBelow n f) t) .1) k)
   where
     go : Dec (k < n) → (k < n → f k ≡ true) → f k ≡ true
     go (yes l) below = below l
     go (no l) below =
         let e : n ≡ k = omega arith in
-        subst (λ (i : ℕ). f i ≡ true) e (both-left (f n) (allBelow n f) t)
+        subst (λ (i : ℕ). f i ≡ true) e ((both (f n) (allBelow n f) t) .0)
 
 -- two tests of which one fails
 apart : (a b : Bool) → not (a && b) ≡ true → a ≡ true → b ≡ true → ⊥
-apart a b t p q = subst T (sym t ∙ ap not (both a b p q)) tt
-
-digit-is : (d : ℕ) → Digit d → digit d ≡ true
-digit-is d h = is-within 48 57 d (h .0) (h .1)
+apart a b t p q = subst T (sym t ∙ ap not (and-true a b p q)) tt
 
 module _ (m : Bytes) where
   abbrev fresh : ℕ → Bool
@@ -66,11 +63,11 @@ module _ (m : Bytes) where
         long = leb-true 8 (length m) (t .long);
         first = λ e. apart true _ (t .first) refl (eq-eqb _ _ e);
         second = λ e. apart true _ (t .second) refl (eq-eqb _ _ e);
-        second-digit = λ h. apart true _ (t .second-digit) refl (digit-is _ h);
+        second-digit = λ h. apart true _ (t .second-digit) refl (is-digit _ h);
         last = λ e. apart true _ (t .last) refl (eq-eqb _ _ e);
         alone = λ i l k e. apart _ _ (at-below (length m) fresh (t .alone) i l) (le-leb 1 i k) (eq-eqb _ _ e);
         soh = λ i l e f. apart _ _ (at-below (length m) no-trailer (t .soh) i l) (eq-eqb _ _ e) (eq-eqb _ _ f);
-        end = λ i l e h. apart _ _ (at-below (length m) no-end (t .end) i l) (eq-eqb _ _ e) (digit-is _ h);
+        end = λ i l e h. apart _ _ (at-below (length m) no-end (t .end) i l) (eq-eqb _ _ e) (is-digit _ h);
       }
 
 pub fixt-ok : MarkOk (fixt .mark)

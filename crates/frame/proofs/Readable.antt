@@ -12,7 +12,7 @@ use Rattle.frame.specs.Frame.{Rule, Length, Body, Good, GoodAt, Live, fr
 use Rattle.frame.specs.Reading.{Answer, frame, refusal, Reads}
 use Rattle.frame.specs.Mark.{MarkOk}
 use Rattle.frame.proofs.Lists.{part-length}
-use Rattle.frame.proofs.Numerals.{digit-at, numeral-is}
+use Rattle.frame.proofs.Numerals.{digit-at, numeral-means}
 use Rattle.frame.proofs.Good.{good-split, good-digits, good-at-length, good-live, good-less}
 use Rattle.frame.proofs.Decide.{both, neither, turn, lists, holds?, Least, least, some-below, Small, Some, some-bytes, small?, at?}
 
@@ -85,7 +85,7 @@ module _ (R : Rule) where
       from G = (
         length (G .digits),
         (
-          (numeral-is (R .most) (G .digits) (G .len .written)) .few,
+          (numeral-means (R .most) (G .digits) (G .len .written)) .few,
           subst (λ (x : Bytes). Parts g x (bodyIn g (length (G .digits)))) (sym (digits-in g G))
               (subst (λ (x : Bytes). Parts g (G .digits) x) (sym (body-in g G)) (record { len = G .len; inner = G .inner; whole = G .whole; once = G .once })),
         ),

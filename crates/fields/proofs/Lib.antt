@@ -1,0 +1,9 @@
+pub mod Cutting
+pub mod Bodies
+pub mod Places
+pub mod Items
+pub mod Rows
+pub mod Firsts
+pub mod Readings
+pub mod Readers
+pub mod Cases

@@ -1,0 +1,5 @@
+pub mod Values
+pub mod Shapes
+pub mod Stamps
+pub mod Months
+pub mod Cases

@@ -1,0 +1,223 @@
+// The kinds of values: form and value of one field's bytes.
+mod dates;
+
+use dates::judge_day;
+use dates::judge_time;
+use frame::number;
+ghost use mathlib.Core.Path.{_≡_};
+ghost use mathlib.Core.List.{[], _∷_};
+ghost use Rattle.frame.specs.Bytes.{same};
+ghost use Rattle.kinds.specs.Kind.{text, number_to_, Y/N, among};
+ghost use Rattle.kinds.specs.Judged.{choices, meaning, judged, numberOf};
+
+// A kind as the dictionary's table holds it; specs/Judged.antt says which words each case stands for.
+pub enum Kind {
+    Text { most: usize },
+    Number { least: u32, most: u32 },
+    Flag,
+    Time,
+    Day,
+    OneOf(Choice),
+}
+
+// The lists of values that document 01 has.
+pub enum Choice {
+    Zero,
+    Eight,
+    Nine,
+    D,
+    OneOrTwo,
+    ZeroOr54,
+    Roles,
+}
+
+// A number of 1 to 9 digits, or other bytes.
+pub enum Number {
+    Is(u32),
+    Bad,
+}
+
+// The same bytes.
+pub fn same(a: &[u8], b: &[u8]) -> bool
+    ensures { λ r. ⌜ r ≡ same (now (a .entry)) (now (b .entry)) ⌝ }
+{
+    if a.len() != b.len() {
+        return false;
+    }
+    let mut i: usize = 0;
+    while i < a.len() {
+        if a[i] != b[i] {
+            return false;
+        }
+        i += 1;
+    }
+    true
+}
+
+// The number that the bytes write: 1 to 9 digits with no leading zero, "0" itself stands.
+pub fn read_number(v: &[u8]) -> Number
+    ensures { λ r. ⌜ r ≡ numberOf (now (v .entry)) ⌝ }
+{
+    let n = v.len();
+    if n == 0 {
+        return Number::Bad;
+    }
+    let d = number(v, 0, 9);
+    let value = d.value as u32;
+    if d.count != n {
+        return Number::Bad;
+    }
+    if v[0] != 48 {
+        return Number::Is(value);
+    }
+    if n == 1 {
+        return Number::Is(0);
+    }
+    Number::Bad
+}
+
+// The finding on a value of a kind: 6 for its form, 5 for its value, 0 for none.
+pub fn judge(kind: Kind, v: &[u8]) -> u32
+    ensures { λ r. ⌜ r ≡ judged (meaning kind) (now (v .entry)) ⌝ }
+{
+    match kind {
+        Kind::Text { most } => judge_text(v, most),
+        Kind::Number { least, most } => judge_number(v, least, most),
+        Kind::Flag => judge_flag(v),
+        Kind::Time => judge_time(v),
+        Kind::Day => judge_day(v),
+        Kind::OneOf(list) => judge_choice(v, list),
+    }
+}
+
+fn judge_text(v: &[u8], most: usize) -> u32
+    ensures { λ r. ⌜ r ≡ judged (text most) (now (v .entry)) ⌝ }
+{
+    let n = v.len();
+    if n < 1 {
+        return 5;
+    }
+    if most < n {
+        return 5;
+    }
+    0
+}
+
+fn judge_number(v: &[u8], least: u32, most: u32) -> u32
+    ensures { λ r. ⌜ r ≡ judged (number least to most) (now (v .entry)) ⌝ }
+{
+    let read = read_number(v);
+    let Number::Is(n) = read else {
+        return 6;
+    };
+    if n < least {
+        return 5;
+    }
+    if most < n {
+        return 5;
+    }
+    0
+}
+
+fn judge_flag(v: &[u8]) -> u32
+    ensures { λ r. ⌜ r ≡ judged Y/N (now (v .entry)) ⌝ }
+{
+    if is_one(v, b'Y') {
+        return 0;
+    }
+    if is_one(v, b'N') {
+        return 0;
+    }
+    6
+}
+
+// The value is one of a list; any other is 5.
+fn judge_choice(v: &[u8], list: Choice) -> u32
+    ensures { λ r. ⌜ r ≡ judged (among (choices list)) (now (v .entry)) ⌝ }
+{
+    match list {
+        Choice::Zero => judge_one(v, b'0'),
+        Choice::Eight => judge_one(v, b'8'),
+        Choice::Nine => judge_one(v, b'9'),
+        Choice::D => judge_one(v, b'D'),
+        Choice::OneOrTwo => judge_one_or_two(v),
+        Choice::ZeroOr54 => judge_zero_or_54(v),
+        Choice::Roles => judge_role(v),
+    }
+}
+
+fn judge_one(v: &[u8], x: u8) -> u32
+    ensures { λ r. ⌜ r ≡ judged (among ((x ∷ []) ∷ [])) (now (v .entry)) ⌝ }
+{
+    if is_one(v, x) {
+        return 0;
+    }
+    5
+}
+
+fn judge_one_or_two(v: &[u8]) -> u32
+    ensures { λ r. ⌜ r ≡ judged (among (choices Choice.OneOrTwo)) (now (v .entry)) ⌝ }
+{
+    if is_one(v, b'1') {
+        return 0;
+    }
+    if is_one(v, b'2') {
+        return 0;
+    }
+    5
+}
+
+fn judge_zero_or_54(v: &[u8]) -> u32
+    ensures { λ r. ⌜ r ≡ judged (among (choices Choice.ZeroOr54)) (now (v .entry)) ⌝ }
+{
+    if is_one(v, b'0') {
+        return 0;
+    }
+    if is_two(v, b'5', b'4') {
+        return 0;
+    }
+    5
+}
+
+fn judge_role(v: &[u8]) -> u32
+    ensures { λ r. ⌜ r ≡ judged (among (choices Choice.Roles)) (now (v .entry)) ⌝ }
+{
+    if is_one(v, b'1') {
+        return 0;
+    }
+    if is_one(v, b'3') {
+        return 0;
+    }
+    if is_two(v, b'1', b'2') {
+        return 0;
+    }
+    if is_two(v, b'1', b'7') {
+        return 0;
+    }
+    if is_two(v, b'7', b'6') {
+        return 0;
+    }
+    5
+}
+
+// The value is one byte, or two.
+fn is_one(v: &[u8], x: u8) -> bool
+    ensures { λ r. ⌜ r ≡ same (now (v .entry)) (x ∷ []) ⌝ }
+{
+    if v.len() != 1 {
+        return false;
+    }
+    v[0] == x
+}
+
+fn is_two(v: &[u8], x: u8, y: u8) -> bool
+    ensures { λ r. ⌜ r ≡ same (now (v .entry)) (x ∷ y ∷ []) ⌝ }
+{
+    if v.len() != 2 {
+        return false;
+    }
+    if v[0] != x {
+        return false;
+    }
+    v[1] == y
+}
