@@ -12,14 +12,6 @@ use borrow.Author.Tests.{eq-eqb, ne-eqb, eqb-true}
 use Rattle.frame.specs.Bytes.{Bytes, all, has}
 use Rattle.fields.specs.Field.{before, behind, cut, onFirst}
 
-pub all-append : (p : ℕ → Bool) (k l : Bytes) → all p (k ++ l) ≡ (all p k && all p l)
-all-append p [] l = refl
-all-append p (x ∷ k) l = go (p x) (all-append p k l)
-  where
-    go : (c : Bool) → all p (k ++ l) ≡ (all p k && all p l) → (c && all p (k ++ l)) ≡ ((c && all p k) && all p l)
-    go true e = e
-    go false e = refl
-
 module _ (b : ℕ) where
   pub before-within : (l : Bytes) → length (before b l) ≤ length l
   before-within [] = omega arith

@@ -16,9 +16,9 @@ use Rattle.fields.specs.Field.{Part, before, behind, partOf, field, malf
 use Rattle.fields.specs.declared.Item.the-variants.{Field, Malformed}
 use Rattle.fields.specs.Item.{Cut, itemAt, itemOf}
 use Rattle.fields.specs.Scan.{Ends}
-use Rattle.frame.proofs.Numerals.{both, digit-is, Numeral, numeral-true, numeral-means, read-digits}
+use Rattle.frame.proofs.Numerals.{both, digit-is, Numeral, numeral-true, numeral-means, read-digits, all-append}
 use Rattle.fields.proofs.Places.{item-cut}
-use Rattle.fields.proofs.Cutting.{all-append, before-first, others, before-others, behind-others, has-append}
+use Rattle.fields.proofs.Cutting.{before-first, others, before-others, behind-others, has-append}
 
 -- among digits no other byte is found
 digits-others : (b : ℕ) (l : Bytes) → (Digit b → ⊥) → all digit l ≡ true → others b l ≡ true

@@ -10,10 +10,8 @@ use lib.ListN.{length, getD, length-append, List·getD-append}
 use borrow.Author.Tests.{ltb-true, ltb-false, lt-ltb, le-ltb}
 use Rattle.frame.specs.Bytes.{Bytes, all, digit, value, valueFrom, lastDigits, decimal}
 use Rattle.frame.proofs.Lists.{valueFrom-append}
-use Rattle.frame.proofs.Numerals.{both, is-digit, digit-is, Numeral}
-use Rattle.fields.proofs.Cutting.{all-append}
+use Rattle.frame.proofs.Numerals.{both, all-append, is-digit, digit-is, Numeral}
 
--- THE DIGITS OF A NUMBER
 pub record Decimal (n : ℕ) (l : Bytes) : Type 0 where
   pub whole : all digit l ≡ true
   pub worth : value l ≡ n

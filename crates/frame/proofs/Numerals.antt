@@ -28,6 +28,14 @@ within-is a b n e = let w = both (leb a n) (leb n b) e in (leb-true a n (w .0), 
 pub is-within : (a b n : ℕ) → a ≤ n → n ≤ b → within a b n ≡ true
 is-within a b n h k = and-true (leb a n) (leb n b) (le-leb a n h) (le-leb n b k)
 
+pub all-append : (p : ℕ → Bool) (k l : Bytes) → all p (k ++ l) ≡ (all p k && all p l)
+all-append p [] l = refl
+all-append p (x ∷ k) l = go (p x) (all-append p k l)
+  where
+    go : (c : Bool) → all p (k ++ l) ≡ (all p k && all p l) → (c && all p (k ++ l)) ≡ ((c && all p k) && all p l)
+    go true e = e
+    go false e = refl
+
 -- a digit, as a test and as two orders
 pub is-digit : (d : ℕ) → Digit d → digit d ≡ true
 is-digit d h = is-within 48 57 d (h .0) (h .1)
