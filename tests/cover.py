@@ -1,0 +1,144 @@
+"""Sorts answers into classes, to see that a comparison reaches every refusal, every reason and every rule's replies."""
+from collections import Counter
+
+import model
+
+TYPE_NAMES = {b"0": "Heartbeat", b"1": "Test Request", b"2": "Resend Request", b"3": "Reject", b"4": "Sequence Reset",
+              b"5": "Logout", b"A": "Logon", b"AD": "AD", b"F": "F"}
+KINDS = ("number", "yes or no", "time", "date", "list", "string")
+MEMBERS = {tag for group in model.GROUPS.values() for tag in group.members}
+
+
+def kind_of(tag):
+    if tag in model.FROM_ONE or tag in model.FROM_ZERO:
+        return "number"
+    if tag in model.YES_OR_NO:
+        return "yes or no"
+    if tag in model.TIMES:
+        return "time"
+    if tag in model.DATES:
+        return "date"
+    return "list" if model.IN_DICTIONARY[tag].values else "string"
+
+
+def sort_of_tag(msg_type, tag):
+    """What a tag is to a message: one of the frame's, a header tag, a group's count, a member or one of its own."""
+    if tag in model.FRAME_TAGS:
+        return "frame tag"
+    if tag in model.HEADER:
+        return "header tag"
+    if tag in model.GROUP_OF_MEMBER.get(msg_type, {}):
+        return "member"
+    return "count" if tag in model.GROUPS else "own tag"
+
+
+def class_of_finding(body, reason, tag):
+    """The reason, told apart by what the tag is where several sentences give it."""
+    msg_type = model.first_field(body, 35)
+    if reason in (5, 6):
+        return f"reason {reason}, {kind_of(tag)}"
+    if reason in (1, 4, 13):
+        return f"reason {reason}, {sort_of_tag(msg_type, tag)}"
+    if reason == 15:
+        count = model.GROUP_OF_MEMBER[msg_type][tag].count
+        return f"reason 15, {'without' if model.first_field(body, count) is None else 'with'} its count"
+    return f"reason {reason}"
+
+
+def class_of_verdict(words, answer):
+    if not answer.startswith("finding"):
+        return f"verdict {answer}"
+    return "verdict " + class_of_finding(model.bytes_of(words[0]), *map(int, answer.split(" ")[1:]))
+
+
+def described(frame):
+    """A reply's message: its type, a Reject with its reason and a Logout with its SessionStatus."""
+    start, end = model.good_frame(frame)
+    body = frame[start:end]
+    msg_type = model.first_field(body, 35)
+    detail = {b"3": 373, b"5": 1409}.get(msg_type)
+    return TYPE_NAMES[msg_type] + (" " + model.first_field(body, detail).decode() if detail else "")
+
+
+def described_reply(words):
+    frames, _ = model.read_in_pieces([model.bytes_of(words)])
+    return " + ".join(described(frame) for _, frame in frames) or "nothing"
+
+
+def class_of_step(line, words, answer):
+    if not answer.startswith("ok"):
+        return "step " + " ".join(answer.split(" ")[:2])
+    rule = model.rule_of(line)
+    frame = model.bytes_of(words[2])
+    msg_type = model.first_field(frame[model.good_frame(frame)[0]:], 35)
+    _, delivered, reply = answer.split(" ")[:3]
+    what = "delivered" if delivered == "1" else described_reply(reply)
+    by_type = f", type {msg_type.decode()}" if rule in (3, 6) and msg_type in model.MESSAGES else ""
+    return f"step {'Waiting' if rule == 'Waiting' else f'rule {rule}'}{by_type}: {what}"
+
+
+def class_of_tick(words, answer):
+    if not answer.startswith("ok"):
+        return "tick " + " ".join(answer.split(" ")[:2])
+    status = ("Waiting", "Active", "Closed")[int(words[4])]
+    return f"tick {status}: {described_reply(answer.split(' ')[1])}"
+
+
+def class_of(line, answer):
+    if answer == "error":
+        return "error"
+    word, words = model.words_of(line)
+    if word == "verdict":
+        return class_of_verdict(words, answer)
+    if word == "step":
+        return class_of_step(line, words, answer)
+    if word == "tick":
+        return class_of_tick(words, answer)
+    if word == "write" and answer.startswith("written"):
+        return f"write {TYPE_NAMES[model.bytes_of(words[1])]}"
+    if word == "stream":
+        return f"stream, {min(3, answer.count(':'))}{' or more' if answer.count(':') > 2 else ''} frames"
+    return " ".join([word, *answer.split(" ")[:2 if answer.startswith("refusal") else 1]])
+
+
+# Every class that must come out; others may.
+WANTED = (
+    "error", "read frame", "read refusal 1", "fields fields", "fields refusal 10", "verdict refusal 10",
+    "verdict clean",
+    *(f"stream, {frames} frames" for frames in ("0", "1", "2", "3 or more")),
+    *(f"verdict reason {reason}" for reason in (0, 2, 3, 11, 14, 16)),
+    *(f"verdict reason 1, {sort}" for sort in ("header tag", "own tag", "member", "count")),
+    *(f"verdict reason 4, {sort}" for sort in ("header tag", "own tag", "member", "count", "frame tag")),
+    *(f"verdict reason 13, {sort}" for sort in ("header tag", "own tag", "member", "count", "frame tag")),
+    "verdict reason 15, with its count", "verdict reason 15, without its count",
+    *(f"verdict reason 5, {kind}" for kind in KINDS if kind != "yes or no"),
+    *(f"verdict reason 6, {kind}" for kind in KINDS if kind not in ("list", "string")),
+    *(f"write {TYPE_NAMES[msg_type]}" for msg_type in model.ADMINISTRATIVE), "write refusal 8", "write refusal 9",
+    "new ok", "new refusal 11", "reconnect ok", "reconnect refusal 11",
+    *(f"step refusal {refusal}" for refusal in (2, 3, 4, 5, 6, 7, 10, 11)),
+    *(f"step Waiting: {what}" for what in ("Logon", "Logon + Resend Request", "Logout 101")),
+    "step rule 1: Logout 101", "step rule 2: Reject 9 + Logout 101",
+    "step rule 3, type 4: nothing", *(f"step rule 3, type 4: Reject {reason}" for reason in (1, 4, 5, 6, 13)),
+    "step rule 4: Resend Request", "step rule 4: Sequence Reset + Resend Request",
+    "step rule 5: Logout 101", "step rule 5: Reject 1", "step rule 5: nothing",
+    "step rule 6: Reject 11", "step rule 6, type 0: nothing", "step rule 6, type 1: Heartbeat",
+    "step rule 6, type 2: Reject 5", "step rule 6, type 2: Sequence Reset", "step rule 6, type 3: nothing",
+    "step rule 6, type 4: nothing", "step rule 6, type 4: Reject 5", "step rule 6, type 5: Logout 4",
+    "step rule 6, type A: Reject 99",
+    "step rule 6, type AD: delivered", "step rule 6, type F: delivered",
+    *(f"step rule 6, type {msg_type}: Reject {reason}" for msg_type in "012345A" for reason in (0, 13)),
+    *(f"step rule 6, type {msg_type}: Reject {reason}" for msg_type in ("AD", "F") for reason in (0, 3, 13)),
+    *(f"tick refusal {refusal}" for refusal in (5, 6, 7, 11)),
+    "tick Waiting: nothing", "tick Closed: nothing", "tick Active: nothing", "tick Active: Heartbeat",
+)
+
+
+def report(counts):
+    """The classes with how often each came out, and those that never did."""
+    lines = [f"{counts[name]:8}  {name}" for name in sorted(counts)]
+    never = [name for name in WANTED if not counts[name]]
+    return "\n".join(lines + [f"never reached: {', '.join(never) or 'none'}"])
+
+
+def count(counter: Counter, line, answer):
+    counter[class_of(line, answer)] += 1
