@@ -1,11 +1,13 @@
 // The calls of the C host: numbers, byte slices and words in, numbers and words out. No call has a precondition.
+use dictionary::Verdict;
 use fields::Item;
 use frame::Reading;
 ghost use mathlib.Core.Path.{_≡_};
 ghost use Prim.Native.Nat.{_+_};
 ghost use Rattle.frame.specs.Line.{line, put, dropped};
 ghost use Rattle.fields.specs.Item.{fieldAt};
-ghost use Rattle.gateway.specs.Border.{ReadOut, fieldNumber, fieldWords};
+ghost use Rattle.dictionary.specs.Verdict.{verdict};
+ghost use Rattle.gateway.specs.Border.{ReadOut, fieldNumber, fieldWords, verdictNumber, verdictWords};
 
 // One reading of the bytes: 0 with the bytes skipped and the frame's length, or refusal 1 with the bytes to drop.
 #[no_mangle]
@@ -49,6 +51,27 @@ pub extern "C" fn fixgw_field(body: &[u8], at: usize, out: &mut [u64; 5]) -> u32
         }
         Item::NoBody => {
             *out = [0, 0, 0, 0, 0];
+            10
+        }
+    }
+}
+
+// The verdict on a body: nothing found, or a reason and a tag; refusal 10 for bytes that are none.
+#[no_mangle]
+pub extern "C" fn fixgw_verdict(body: &[u8], out: &mut [u64; 3]) -> u32
+    ensures { λ r. ⌜ (r ≡ verdictNumber (verdict (now (body .entry)))) × (now (out .exit) ≡ verdictWords (verdict (now (body .entry)))) ⌝ }
+{
+    match dictionary::verdict_on(body) {
+        Verdict::Clean => {
+            *out = [0, 0, 0];
+            0
+        }
+        Verdict::Finding { reason, tag } => {
+            *out = [1, reason as u64, tag as u64];
+            0
+        }
+        Verdict::NoBody => {
+            *out = [0, 0, 0];
             10
         }
     }

@@ -1,0 +1,183 @@
+-- What a clean verdict says: the first field of a tag of the dictionary is of its kind, and each required tag is there.
+use Prim.Native.Nat.{ℕ, _≤_}
+use native.Mathlib.Omega.{arith}
+use borrow.Author.Tests.{eqb-true, eq-eqb, leb-true}
+use mathlib.Core.Path.{_≡_, refl, ap, sym, _∙_}
+use mathlib.Core.List.{List, [], _∷_, _++_, append-assoc}
+use mathlib.Core.Bool.{Bool, true, false, cond, not, _&&_, _||_, false≢true}
+use mathlib.Core.Option.{Option, none, some}
+use mathlib.Core.Logic.{_⊎_, inl, inr}
+use lib.Dec.{eqb, leb}
+use lib.ListN.{length, drop}
+use Rattle.frame.specs.Bytes.{Bytes, fix, any, has, starts, within, decimal}
+use Rattle.fields.specs.Field.{Part, field, malformed, partOf, parts, firstOfParts, firstField, isBody}
+use Rattle.frame.proofs.Decimals.{decimal-numeral, decimal-worth}
+use Rattle.fields.proofs.Items.{field-part}
+use Rattle.fields.proofs.Firsts.{tagged, part-split}
+use Rattle.kinds.specs.Kind.{formed, allowed}
+use Rattle.dictionary.specs.Dictionary.{Row, header, fields, kindIn, rowsOf, inDictionary}
+use Rattle.dictionary.specs.Verdict.{Open, Place, outside, inside, Past, _when_, firstOf, missing, closing, left, rule9, rule10, said, skipped, taken, after, verdictBy, walk, nothingYet, msgType, verdict}
+use Rattle.dictionary.specs.declared.MsgType.{MsgType}
+use Rattle.dictionary.specs.declared.Says.{Says}
+use Rattle.dictionary.specs.declared.Says.the-variants.{Nothing, Reason}
+use Rattle.dictionary.specs.declared.Verdict.{Verdict}
+use Rattle.dictionary.specs.declared.Verdict.the-variants.{Clean, NoBody}
+use Rattle.dictionary.proofs.Lists.{and-left, and-right}
+use Rattle.dictionary.proofs.Turns.{Silent, silent, silent-at}
+
+-- a part that begins with a tag and `=` is a field of that tag, and the other way round
+starts-append : (k l : Bytes) → starts k (k ++ l) ≡ true
+starts-append [] l = refl
+starts-append (x ∷ k) l = rw (eq-eqb x x refl) (starts-append k l)
+
+starts-is : (k l : Bytes) → starts k l ≡ true → l ≡ k ++ drop (length k) l
+starts-is [] l h = refl
+starts-is (x ∷ k) [] h = absurd (false≢true h)
+starts-is (x ∷ k) (y ∷ l) h = rw (eqb-true x y (and-left (eqb x y) (starts k l) h)) (ap (λ (r : Bytes). y ∷ r) (starts-is k l (and-right (eqb x y) (starts k l) h)))
+
+tag-part : (t : ℕ) (p : Bytes) → 1 ≤ t → t ≤ 99_999 → starts (tagged t) p ≡ true → partOf p ≡ field t (drop (length (tagged t)) p)
+tag-part t p low high h =
+    let N = decimal-numeral 4 t low (omega arith) in
+    let e : p ≡ decimal t ++ (61 ∷ drop (length (tagged t)) p) = starts-is (tagged t) p h ∙ append-assoc (decimal t) (fix "=") (drop (length (tagged t)) p) in
+    ap partOf e ∙ field-part (decimal t) (N .whole) (drop (length (tagged t)) p) N ∙ ap (λ (n : ℕ). field n (drop (length (tagged t)) p)) (decimal-worth t)
+
+part-starts : (t : ℕ) (p v : Bytes) → partOf p ≡ field t v → starts (tagged t) p ≡ true
+part-starts t p v e = ap (starts (tagged t)) (part-split p v t e) ∙ starts-append (tagged t) v
+
+-- a clean walk found no fault with the part that it began with, and goes on clean
+by-clean : (s : Says) (x : Verdict) → verdictBy s x ≡ Clean → (s ≡ Nothing) × (x ≡ Clean)
+by-clean Nothing x h = (refl, h)
+by-clean (Reason a t) x h = let z : _≡_ {A = ℕ} 0 1 = cc in absurd (omega arith)
+
+-- the tags met behind a field: a member leaves none
+seen-taken : (m : MsgType) (seen : List ℕ) (u : ℕ) (v : Bytes) → taken m seen outside u v .seen ≡ u ∷ seen
+unfolding taken
+seen-taken m seen u v = refl
+
+seen-member : (m : MsgType) (seen : List ℕ) (g : Open) (u : ℕ) (v : Bytes) → taken m seen (inside g) u v .seen ≡ seen
+unfolding taken
+seen-member m seen g u v = refl
+
+-- KINDS
+when-not : (b : Bool) (a t : ℕ) → (Reason a t when not b) ≡ Nothing → b ≡ true
+when-not true a t h = refl
+when-not false a t h = let z : _≡_ {A = ℕ} 0 1 = cc in absurd (omega arith)
+
+pub record OfKind (m : MsgType) (t : ℕ) (v : Bytes) : Type 0 where
+  pub form : formed (kindIn (rowsOf m) t) v ≡ true
+  pub value : allowed (kindIn (rowsOf m) t) v ≡ true
+
+silent-kind : (m : MsgType) (w : Past) (t : ℕ) (v : Bytes) → Silent m w t v → OfKind m t v
+unfolding rule9 rule10
+silent-kind m w t v S = record { form = when-not _ 6 t (S .silent9); value = when-not _ 5 t (S .silent10) }
+
+-- t is a required tag of some rows
+abbrev pub required : List Row → ℕ → Bool
+required rows t = any (λ (r : Row). r .required && eqb (r .tag) t) rows
+
+none-missing : (rows : List Row) (met : List ℕ) (t : ℕ) → required rows t ≡ true → missing rows met ≡ Nothing → has met t ≡ true
+none-missing [] met t r h = absurd (false≢true r)
+none-missing (x ∷ rows) met t r h = go (x .required) (eqb (x .tag) t) (has met (x .tag)) refl refl r h (none-missing rows met t)
+  where
+    go : (q b c : Bool) → eqb (x .tag) t ≡ b → has met (x .tag) ≡ c → ((q && b) || required rows t) ≡ true → cond (q && not c) (Reason 1 (x .tag)) (missing rows met) ≡ Nothing
+        → (required rows t ≡ true → missing rows met ≡ Nothing → has met t ≡ true) → has met t ≡ true
+    go true b false p s k e ih = let z : _≡_ {A = ℕ} 0 1 = cc in absurd (omega arith)
+    go true true true p s k e ih = ap (has met) (sym (eqb-true (x .tag) t p)) ∙ s
+    go true false true p s k e ih = ih k e
+    go false b c p s k e ih = ih k e
+
+within-low : (t : ℕ) → within 1 99_999 t ≡ true → 1 ≤ t
+within-low t h = leb-true 1 t (and-left (leb 1 t) (leb t 99_999) h)
+
+within-high : (t : ℕ) → within 1 99_999 t ≡ true → t ≤ 99_999
+within-high t h = leb-true t 99_999 (and-right (leb 1 t) (leb t 99_999) h)
+
+none-some : (v : Bytes) → _≡_ {A = Option Bytes} none (some v) → ⊥
+none-some v e = let z : _≡_ {A = ℕ} 0 1 = cc in omega arith
+
+module _ (m : MsgType) (t : ℕ) (low : 1 ≤ t) (high : t ≤ 99_999) where
+  walk-kind : (ps : List Bytes) (w : Past) (v : Bytes) → inDictionary t ≡ true → walk m w ps ≡ Clean → firstOfParts (tagged t) ps ≡ some v → OfKind m t v
+  walk-kind [] w v k h e = absurd (none-some v e)
+  walk-kind (p ∷ ps) w v k h e =
+      let c = by-clean (said m w (partOf p)) (walk m (after m w (partOf p)) ps) h in
+      go (starts (tagged t) p) refl (c .0) e (walk-kind ps (after m w (partOf p)) v k (c .1))
+    where
+      go : (b : Bool) → starts (tagged t) p ≡ b → said m w (partOf p) ≡ Nothing → cond b (some (drop (length (tagged t)) p)) (firstOfParts (tagged t) ps) ≡ some v
+          → (firstOfParts (tagged t) ps ≡ some v → OfKind m t v) → OfKind m t v
+      go true s c g ih =
+          let x : drop (length (tagged t)) p ≡ v = cc in
+          let q : partOf p ≡ field t v = tag-part t p low high s ∙ ap (field t) x in
+          silent-kind m w t v (silent m w t v k (sym c ∙ ap (said m w) q))
+      go false s c g ih = ih g
+
+  -- REQUIRED TAGS
+  Found : List Bytes → Type 0
+  Found ps = (v : Bytes) × (firstOfParts (tagged t) ps ≡ some v)
+
+  found-here : (p : Bytes) (ps : List Bytes) → starts (tagged t) p ≡ true → Found (p ∷ ps)
+  unfolding Found
+  found-here p ps h = (drop (length (tagged t)) p, rw h)
+
+  found-later : (p : Bytes) (ps : List Bytes) → Found ps → Found (p ∷ ps)
+  unfolding Found
+  found-later p ps f = go (starts (tagged t) p)
+    where
+      go : (b : Bool) → (v : Bytes) × (cond b (some (drop (length (tagged t)) p)) (firstOfParts (tagged t) ps) ≡ some v)
+      go true = (drop (length (tagged t)) p, refl)
+      go false = f
+
+  -- the tags met behind a part: those before, or its own
+  seen-after : (w : Past) (p : Bytes) (q : Part) → partOf p ≡ q → has (after m w q .seen) t ≡ true → (has (w .seen) t ≡ true) ⊎ (starts (tagged t) p ≡ true)
+  unfolding after
+  seen-after w p malformed e h = inl h
+  seen-after w p (field u v) e h = go (skipped m u) (left (w .place) (field u v)) h
+    where
+      own : (b : Bool) → eqb u t ≡ b → (b || has (w .seen) t) ≡ true → (has (w .seen) t ≡ true) ⊎ (starts (tagged t) p ≡ true)
+      own true x y = inr (part-starts t p v (e ∙ ap (λ (n : ℕ). field n v) (eqb-true u t x)))
+      own false x y = inl y
+
+      go : (b : Bool) (pl : Place) → has (cond b (record { seen = w .seen; place = pl }) (taken m (w .seen) pl u v) .seen) t ≡ true → (has (w .seen) t ≡ true) ⊎ (starts (tagged t) p ≡ true)
+      go true pl h = inl h
+      go false outside h = own (eqb u t) refl (rw (seen-taken m (w .seen) u v) at h)
+      go false (inside g) h = inl (rw (seen-member m (w .seen) g u v) at h)
+
+  walk-required : (ps : List Bytes) (w : Past) → required (header ++ fields m) t ≡ true → walk m w ps ≡ Clean → (has (w .seen) t ≡ true) ⊎ Found ps
+  walk-required [] w r h =
+      let l = closing (w .place) ∷ missing (header ++ fields m) (w .seen) ∷ [] in
+      inl (none-missing (header ++ fields m) (w .seen) t r (silent-at l (sym (by-clean (firstOf l) Clean h .0)) 1 (omega arith)))
+  walk-required (p ∷ ps) w r h =
+      let c = by-clean (said m w (partOf p)) (walk m (after m w (partOf p)) ps) h in
+      go (walk-required ps (after m w (partOf p)) r (c .1))
+    where
+      here : (has (w .seen) t ≡ true) ⊎ (starts (tagged t) p ≡ true) → (has (w .seen) t ≡ true) ⊎ Found (p ∷ ps)
+      here (inl x) = inl x
+      here (inr x) = inr (found-here p ps x)
+
+      go : (has (after m w (partOf p) .seen) t ≡ true) ⊎ Found ps → (has (w .seen) t ≡ true) ⊎ Found (p ∷ ps)
+      go (inl x) = here (seen-after w p (partOf p) refl x)
+      go (inr f) = inr (found-later p ps f)
+
+-- behind a clean verdict
+clean-walk : (m : MsgType) (body : Bytes) → verdict body ≡ Clean → msgType body ≡ some m → walk m nothingYet (parts body) ≡ Clean
+unfolding verdict
+clean-walk m body h t = go (isBody body) (rw t at h)
+  where
+    go : (b : Bool) → cond b (walk m nothingYet (parts body)) NoBody ≡ Clean → walk m nothingYet (parts body) ≡ Clean
+    go true e = e
+    go false e = let z : _≡_ {A = ℕ} 0 1 = cc in absurd (omega arith)
+
+-- THE FIRST FIELD OF A TAG OF THE DICTIONARY IS OF ITS KIND
+pub clean-kind : (m : MsgType) (t : ℕ) (body v : Bytes) → verdict body ≡ Clean → msgType body ≡ some m → within 1 99_999 t ≡ true → inDictionary t ≡ true
+    → firstField t body ≡ some v → OfKind m t v
+unfolding firstField
+clean-kind m t body v h y n k e = walk-kind m t (within-low t n) (within-high t n) (parts body) nothingYet v k (clean-walk m body h y) e
+
+-- EACH REQUIRED TAG OF THE HEADER AND OF THE MESSAGE IS THERE
+pub clean-required : (m : MsgType) (t : ℕ) (body : Bytes) → verdict body ≡ Clean → msgType body ≡ some m → within 1 99_999 t ≡ true → required (header ++ fields m) t ≡ true
+    → (v : Bytes) × (firstField t body ≡ some v)
+unfolding firstField Found
+clean-required m t body h y n r = go (walk-required m t (within-low t n) (within-high t n) (parts body) nothingYet r (clean-walk m body h y))
+  where
+    go : (_≡_ {A = Bool} false true) ⊎ Found m t (within-low t n) (within-high t n) (parts body) → (v : Bytes) × (firstOfParts (tagged t) (parts body) ≡ some v)
+    go (inl x) = absurd (false≢true x)
+    go (inr f) = f

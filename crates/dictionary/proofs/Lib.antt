@@ -1,0 +1,13 @@
+pub mod Lists
+pub mod Places
+pub mod Needs
+pub mod Groups
+pub mod FourToEight
+pub mod Saying
+pub mod Opening
+pub mod Walking
+pub mod Turns
+pub mod Types
+pub mod Clean
+pub mod Promise
+pub mod Desk

@@ -1,0 +1,123 @@
+-- The state behind a field outside groups: the header that may be over, and the group that a count field opens.
+use Prim.Native.Nat.{ℕ}
+use native.Mathlib.Omega.{arith}
+use borrow.Author.Tests.{eqb-true}
+use mathlib.Core.Path.{_≡_, refl, ap, sym, _∙_}
+use mathlib.Core.List.{List, [], _∷_, _++_}
+use mathlib.Core.Bool.{Bool, true, false, cond, not, _||_, false≢true}
+use mathlib.Core.Logic.{inl, inr}
+use lib.Dec.{eqb}
+use Rattle.frame.specs.Bytes.{Bytes, any, value}
+use Rattle.kinds.specs.Kind.{Kind, text, number_to_, Y/N, time, day, among, formed, isNumber}
+use Rattle.kinds.specs.Judged.{meaning, numberOf}
+use Rattle.kinds.specs.declared.Number.{Number}
+use Rattle.kinds.specs.declared.Number.the-variants.{Is, Bad}
+use Rattle.dictionary.specs.Dictionary.{Row, Group, №453, №580, groups, header, fields, listed, kindIn, groupsAmong, groupsOf, rowsOf}
+use Rattle.dictionary.specs.Verdict.{Open, outside, inside, _when_, opened, rule9}
+use Rattle.dictionary.specs.Held.{bitOf, isNumeric, Two, Right, away, within, Over, Counted, Noted}
+use Rattle.dictionary.specs.declared.MsgType.{MsgType}
+use Rattle.dictionary.specs.declared.Says.the-variants.{Nothing, Reason}
+use Rattle.dictionary.specs.declared.rules.State.{State}
+use Rattle.dictionary.specs.declared.table.Entry.{Entry}
+use Rattle.dictionary.proofs.Lists.{any-append}
+use Rattle.dictionary.proofs.FourToEight.{listed-rows}
+
+-- the header
+module _ {e : Entry} {over b : Bool} (R : Right e) (p : b ≡ bitOf (e .marks) 9) where
+  pub over-header : b ≡ true → Over over (e .tag) over
+  over-header q = record { is = λ seen h. rw (sym (R .in-header) ∙ sym p ∙ q) h }
+
+  pub over-other : b ≡ false → Over over (e .tag) true
+  over-other q = record { is = λ seen h. rw (sym (R .in-header) ∙ sym p ∙ q) }
+
+-- the count
+pub counted-is : (v : Bytes) (r : Number) (n : ℕ) → r ≡ numberOf v → r ≡ Is n → Counted v n
+unfolding numberOf
+counted-is v r n p q = record { is = λ h. let e : Is n ≡ Is (value v) = sym q ∙ p ∙ rw h in cc }
+
+pub counted-bad : (v : Bytes) (r : Number) (n : ℕ) → r ≡ numberOf v → r ≡ Bad → Counted v n
+unfolding numberOf
+counted-bad v r n p q = record { is = λ h. let e : Bad ≡ Is (value v) = sym q ∙ p ∙ rw h in let z : _≡_ {A = ℕ} 0 1 = cc in absurd (omega arith) }
+
+-- the groups of a message that lists the count tag are those of the document with that count tag
+opened-among : (gs : List Group) (rows : List Row) (t : ℕ) (v : Bytes) → listed rows t ≡ true → opened (groupsAmong gs rows) t v ≡ opened gs t v
+opened-among [] rows t v h = refl
+opened-among (g ∷ gs) rows t v h = go (eqb (g .counter) t) refl (listed rows (g .counter)) refl (opened-among gs rows t v h)
+  where
+    o : Open
+    o = record { group = g; count = value v; begun = 0; last = [] }
+
+    go : (b : Bool) → eqb (g .counter) t ≡ b → (c : Bool) → listed rows (g .counter) ≡ c → opened (groupsAmong gs rows) t v ≡ opened gs t v
+        → opened (cond c (g ∷ groupsAmong gs rows) (groupsAmong gs rows)) t v ≡ cond b (inside o) (opened gs t v)
+    go b e true k ih = rw (e, ih)
+    go true e false k ih = absurd (false≢true (sym k ∙ ap (listed rows) (eqb-true (g .counter) t e) ∙ h))
+    go false e false k ih = ih
+
+opened-none : (gs : List Group) (rows : List Row) (t : ℕ) (v : Bytes) → any (λ g. eqb (g .counter) t) gs ≡ false → opened (groupsAmong gs rows) t v ≡ outside
+opened-none [] rows t v h = refl
+opened-none (g ∷ gs) rows t v h = go (eqb (g .counter) t) refl (listed rows (g .counter)) h (opened-none gs rows t v)
+  where
+    go : (b : Bool) → eqb (g .counter) t ≡ b → (c : Bool) → (b || any (λ x. eqb (x .counter) t) gs) ≡ false → (any (λ x. eqb (x .counter) t) gs ≡ false → opened (groupsAmong gs rows) t v ≡ outside)
+        → opened (cond c (g ∷ groupsAmong gs rows) (groupsAmong gs rows)) t v ≡ outside
+    go true e c k ih = absurd (false≢true (sym k))
+    go false e true k ih = rw e (ih k)
+    go false e false k ih = ih k
+
+-- the group that a count tag opens
+newly : Group → Bytes → Open
+newly g v = record { group = g; count = value v; begun = 0; last = [] }
+
+opens-two : (t : ℕ) (v : Bytes) → any (λ g. eqb (g .counter) t) groups ≡ true → (g : Group) × (Two g × (t ≡ g .counter) × (opened groups t v ≡ inside (newly g v)))
+unfolding newly
+opens-two t v h = go (eqb (№453 .counter) t) (eqb (№580 .counter) t) refl refl h
+  where
+    go : (a b : Bool) → eqb (№453 .counter) t ≡ a → eqb (№580 .counter) t ≡ b → (a || (b || false)) ≡ true
+        → (g : Group) × (Two g × (t ≡ g .counter) × (cond a (inside (newly №453 v)) (cond b (inside (newly №580 v)) outside) ≡ inside (newly g v)))
+    go true b p q k = (№453, (inl refl, sym (eqb-true (№453 .counter) t p), refl))
+    go false true p q k = (№580, (inr refl, sym (eqb-true (№580 .counter) t q), refl))
+    go false false p q k = absurd (false≢true k)
+
+no-header : (g : Group) → Two g → listed header (g .counter) ≡ false
+unfolding header №453 №580
+no-header g (inl e) = rw e
+no-header g (inr e) = rw e
+
+own-field : (m : MsgType) (t : ℕ) → listed header t ≡ false → listed (header ++ fields m) t ≡ true → listed (fields m) t ≡ true
+own-field m t n h = rw (any-append (λ (r : Row). eqb (r .tag) t) header (fields m), n) at h
+
+numeric : (k : Kind) (v : Bytes) → isNumeric k ≡ true → formed k v ≡ isNumber v
+unfolding formed
+numeric (text n) v h = absurd (false≢true h)
+numeric (number a to b) v h = refl
+numeric Y/N v h = absurd (false≢true h)
+numeric time v h = absurd (false≢true h)
+numeric day v h = absurd (false≢true h)
+numeric (among l) v h = absurd (false≢true h)
+
+rule9-silent : (m : MsgType) (t : ℕ) (v : Bytes) → rule9 m t v ≡ Nothing → formed (kindIn (rowsOf m) t) v ≡ true
+unfolding rule9
+rule9-silent m t v = go (formed (kindIn (rowsOf m) t) v)
+  where
+    go : (b : Bool) → (Reason 6 t when not b) ≡ Nothing → b ≡ true
+    go true h = refl
+    go false h = let z : _≡_ {A = ℕ} 0 1 = cc in absurd (omega arith)
+
+module _ {e : Entry} {st : State} {v : Bytes} {over b : Bool} (R : Right e) (O : Over (st .over) (e .tag) over) (p : b ≡ bitOf (e .marks) 11) where
+  pub noted-count : {n : ℕ} → b ≡ true → Counted v n → Noted st (e .tag) v (record { over = over; group = e .tag; count = n; begun = 0 })
+  unfolding groupsOf newly
+  noted-count {n} q C = record {
+    over = O;
+    none = refl;
+    place = λ m met l s.
+        let w = opens-two (e .tag) v (sym (R .counts) ∙ sym p ∙ q) in
+        let g = w .0 in
+        let f = own-field m (e .tag) (ap (listed header) (w .1 .1) ∙ no-header g (w .1 .0)) l in
+        let k : listed (rowsOf m) (e .tag) ≡ true = rw (listed-rows m (e .tag), l) in
+        let i : isNumber v ≡ true = sym (numeric (meaning (e .kind)) v (R .counts-number (sym p ∙ q))) ∙ ap (λ (x : Kind). formed x v) (R .kind-in m k) ∙ rule9-silent m (e .tag) v s in
+        rw (opened-among groups (fields m) (e .tag) v f, w .1 .2)
+        (within (record { two = w .1 .0; counter = w .1 .1; count = C .is i; begun = refl; last = λ z. absurd (false≢true (sym z)) }));
+  }
+
+  pub noted-other : b ≡ false → Noted st (e .tag) v (record { over = over; group = 0; count = 0; begun = 0 })
+  unfolding groupsOf
+  noted-other q = record { over = O; none = refl; place = λ m met l s. rw (opened-none groups (fields m) (e .tag) v (sym (R .counts) ∙ sym p ∙ q)) (away refl) }

@@ -1,0 +1,72 @@
+-- The message type, and the verdict by it.
+use Prim.Native.Nat.{ℕ, _-_, _≤_}
+use borrow.Author.Tests.{ne-eqb, not-true, not-false, leb-true}
+use mathlib.Core.Path.{_≡_, refl, ap, sym, _∙_, subst}
+use mathlib.Core.List.{[], _∷_}
+use mathlib.Core.Bool.{Bool, true, false, not}
+use mathlib.Core.Option.{Option, none, some}
+use native.Mathlib.Omega.{arith}
+use lib.Dec.{leb}
+use lib.ListN.{length, take, drop, getD}
+use Rattle.frame.specs.Bytes.{Bytes, fix, same}
+use Rattle.fields.specs.Field.{parts, isBody}
+use Rattle.fields.specs.First.{First, valueAt, Inside}
+use Rattle.fields.specs.declared.Place.{Place}
+use Rattle.fields.specs.declared.Place.the-variants.{At, Absent}
+use Rattle.kinds.proofs.Values.{same-long, same-true}
+use Rattle.dictionary.specs.Dictionary.{code35, typeOf}
+use Rattle.dictionary.specs.Verdict.{typeBy, judgedAs, walk, nothingYet, verdict}
+use Rattle.dictionary.specs.Held.{typeIs}
+use Rattle.dictionary.specs.declared.MsgType.{MsgType}
+use Rattle.dictionary.specs.declared.MsgType.the-variants.{TradeCaptureReportRequest}
+use Rattle.dictionary.specs.declared.Verdict.{Verdict}
+use Rattle.dictionary.specs.declared.Verdict.the-variants.{Finding, NoBody}
+use Rattle.dictionary.specs.declared.walk.Named.{Named}
+use Rattle.dictionary.specs.declared.walk.Named.the-variants.{Of, Other}
+use Rattle.dictionary.proofs.Lists.{and-left, and-right}
+
+-- of one byte, of two, and of others
+pub one-byte : (v : Bytes) → length v ≡ 1 → (getD v 0 0 ∷ []) ≡ v
+one-byte [] n = absurd (omega arith)
+one-byte (x ∷ []) n = refl
+one-byte (x ∷ y ∷ v) n = absurd (omega arith)
+
+pub other-byte : (x : ℕ) → (x ≡ 48 → ⊥) → (x ≡ 49 → ⊥) → (x ≡ 50 → ⊥) → (x ≡ 51 → ⊥) → (x ≡ 52 → ⊥) → (x ≡ 53 → ⊥) → (x ≡ 65 → ⊥) → (x ≡ 70 → ⊥) → none ≡ typeOf (x ∷ [])
+unfolding typeOf code35
+other-byte x a b c d e f g h = rw (ne-eqb x 48 a, ne-eqb x 49 b, ne-eqb x 50 c, ne-eqb x 51 d, ne-eqb x 52 e, ne-eqb x 53 f, ne-eqb x 65 g, ne-eqb x 70 h)
+
+pub two-bytes : (v : Bytes) {b : Bool} → b ≡ same v (65 ∷ 68 ∷ []) → b ≡ true → some TradeCaptureReportRequest ≡ typeOf v
+unfolding typeOf code35
+two-bytes v p q = rw (same-true v (65 ∷ 68 ∷ []) (sym p ∙ q))
+
+pub other-bytes : (v : Bytes) {b : Bool} → (length v ≡ 1 → ⊥) → b ≡ same v (65 ∷ 68 ∷ []) → b ≡ false → none ≡ typeOf v
+unfolding typeOf code35
+other-bytes v n p q =
+    rw (same-long v (fix "0") n, same-long v (fix "1") n, same-long v (fix "2") n, same-long v (fix "3") n, same-long v (fix "4") n, same-long v (fix "5") n, same-long v (fix "A") n, same-long v (fix "F") n, sym p ∙ q)
+
+-- the verdict
+pub verdict-nobody : (body : Bytes) {b : Bool} → b ≡ isBody body → not b ≡ true → NoBody ≡ verdict body
+unfolding verdict
+verdict-nobody body {b} p q = rw (sym p ∙ not-true b q)
+
+module _ (body : Bytes) {b : Bool} (p : b ≡ isBody body) (q : not b ≡ false) {r : Place} (F : First 35 body r) where
+  by-type : {k : Option Bytes} → valueAt body r ≡ k → verdict body ≡ judgedAs (typeBy k) body
+  unfolding verdict
+  by-type h = rw (sym p ∙ not-false b q, sym (F .value refl) ∙ h)
+
+  pub verdict-absent : r ≡ Absent → Finding 11 35 ≡ verdict body
+  verdict-absent h = sym (by-type (ap (valueAt body) h))
+
+  module _ {s e : ℕ} (h : r ≡ At s e) {k : Named} (t : typeIs k ≡ typeOf (take (e - s) (drop s body))) where
+    pub verdict-other : k ≡ Other → Finding 11 35 ≡ verdict body
+    verdict-other o = sym (by-type (ap (valueAt body) h) ∙ rw (sym t ∙ ap typeIs o))
+
+    pub verdict-walked : {m : MsgType} {f : Verdict} → k ≡ Of m → f ≡ walk m nothingYet (parts body) → f ≡ verdict body
+    verdict-walked o w = w ∙ sym (by-type (ap (valueAt body) h) ∙ rw (sym t ∙ ap typeIs o))
+
+pub place-inside : {body : Bytes} {r : Place} {s e : ℕ} → First 35 body r → r ≡ At s e → (s ≤ e) × (e ≤ length body)
+place-inside {body} F h = subst (Inside body) h (F .inside)
+
+pub body-short : (body : Bytes) {b : Bool} → b ≡ isBody body → not b ≡ false → length body ≤ 2048
+unfolding isBody
+body-short body {b} p q = leb-true (length body) 2048 (and-right (leb 5 (length body)) _ (and-left _ _ (and-left _ _ (sym p ∙ not-false b q))))

@@ -1,0 +1,131 @@
+-- The walk along the parts of a body: where it stands before each part, and one turn of it for each way that a part can go.
+use Prim.Native.Nat.{ℕ, _-_, _≤_, _<_}
+use native.Mathlib.Omega.{arith}
+use borrow.Author.Tests.{eqb-true, eqb-false}
+use mathlib.Core.Path.{_≡_, refl, ap, sym, _∙_, subst}
+use mathlib.Core.List.{List, [], _∷_, _++_}
+use mathlib.Core.Bool.{Bool, true, false, cond, not, _&&_, _||_}
+use lib.Dec.{eqb}
+use lib.ListN.{length, getD, take, drop, set, replicate, length-replicate, getD-replicate}
+use lib.Seq.{getD-set-same, getD-set-other}
+use Rattle.frame.specs.Bytes.{Bytes, has}
+use Rattle.fields.specs.Field.{Part, field, malformed, parts}
+use Rattle.fields.specs.Item.{Span, Lies, Cut}
+use Rattle.fields.specs.declared.Item.{Item}
+use Rattle.fields.specs.declared.Item.the-variants.{Field, Malformed, End, NoBody}
+use Rattle.fields.proofs.Rows.{Step, Stepped, parts-step}
+use Rattle.dictionary.specs.Dictionary.{Row, header, fields}
+use Rattle.dictionary.specs.Verdict.{Past, firstOf, rule1, rule2, said, after, verdictBy, walk, nothingYet, missing}
+use Rattle.dictionary.specs.Held.{tagAt, Looked, Marked, away, Stands, Closing, Missing, Finished}
+use Rattle.dictionary.specs.declared.MsgType.{MsgType}
+use Rattle.dictionary.specs.declared.Says.{Says}
+use Rattle.dictionary.specs.declared.Says.the-variants.{Nothing, Reason}
+use Rattle.dictionary.specs.declared.Verdict.{Verdict}
+use Rattle.dictionary.specs.declared.Verdict.the-variants.{Clean}
+use Rattle.dictionary.specs.declared.rules.State.{State}
+use Rattle.dictionary.specs.declared.table.Entry.{Entry}
+use Rattle.dictionary.specs.declared.table.Rows.the-variants.{Header, Own}
+use Rattle.dictionary.proofs.Places.{one-place}
+use Rattle.dictionary.proofs.Groups.{alone}
+
+-- a mark that is set, and no marks
+pub mark-more : {e : Entry} {p : ℕ} {marks : List Bool} {met : List ℕ} → Looked e p → length marks ≡ 128 → Marked marks met → Marked (set marks p true) (e .tag ∷ met)
+mark-more {e} {p} {marks} {met} L n M = record { at = λ q h. go q h (eqb (e .tag) (tagAt q)) refl }
+  where
+    go : (q : ℕ) → q < 44 → (b : Bool) → eqb (e .tag) (tagAt q) ≡ b → getD (set marks p true) q false ≡ (b || has met (tagAt q))
+    go q h true x =
+        let s : p ≡ q = one-place p q (L .small) h (L .tagged ∙ eqb-true (e .tag) (tagAt q) x) in
+        let k : q < 44 = h in
+        rw s (getD-set-same marks q true false (omega arith))
+    go q h false x =
+        getD-set-other marks p q true false (λ s. eqb-false (e .tag) (tagAt q) x (sym (L .tagged) ∙ ap tagAt (sym s))) ∙ M .at q h
+
+pub no-marks : Marked (replicate 128 false) []
+no-marks = record { at = λ p h. getD-replicate 128 p false false (omega arith) }
+
+-- where the walk stands before the part at a place of the body
+pub record At (m : MsgType) (body : Bytes) (seen met : List Bool) (st : State) (at : ℕ) : Type 0 where
+  pub past : Past
+  pub stands : Stands past seen met st
+  pub rest : walk m nothingYet (parts body) ≡ walk m past (parts (drop at body))
+  pub few : st .begun ≤ at
+  pub seen-long : length seen ≡ 128
+  pub met-long : length met ≡ 128
+
+pub begins : (m : MsgType) (body : Bytes) → At m body (replicate 128 false) (replicate 128 false) (record { over = false; group = 0; count = 0; begun = 0 }) 0
+begins m body = record {
+  past = nothingYet;
+  stands = record { marked = no-marks; over = refl; stood = away refl };
+  rest = refl;
+  few = omega arith;
+  seen-long = length-replicate 128 false;
+  met-long = length-replicate 128 false;
+}
+
+-- a part that is found fault with, and one that is not
+walk-on : (m : MsgType) (w : Past) (body part : Bytes) (says : Part) (at next : ℕ) → Step body at part says next
+    → walk m w (parts (drop at body)) ≡ verdictBy (said m w says) (walk m (after m w says) (parts (drop next body)))
+walk-on m w body part says at next S = ap (walk m w) (S .row) ∙ rw (S .part-is)
+
+by-reason : (s : Says) (a t : ℕ) (x y : Verdict) → s ≡ Reason a t → verdictBy s x ≡ verdictBy s y
+by-reason s a t x y e = rw e
+
+malformed-speaks : (m : MsgType) (w : Past) (x y : Verdict) → verdictBy (said m w malformed) x ≡ verdictBy (said m w malformed) y
+unfolding said rule2
+malformed-speaks m w x y = go (rule1 (w .place) malformed)
+  where
+    go : (s : Says) → verdictBy (firstOf (s ∷ Reason 0 0 ∷ [])) x ≡ verdictBy (firstOf (s ∷ Reason 0 0 ∷ [])) y
+    go Nothing = refl
+    go (Reason a t) = refl
+
+module _ {m : MsgType} {body : Bytes} {seen met : List Bool} {st : State} {at : ℕ} (A : At m body seen met st at) where
+  pub ends-with : (part : Bytes) (says : Part) (next : ℕ) (r : Says) (f : Verdict) (a t : ℕ) → Step body at part says next → r ≡ said m (A .past) says → r ≡ Reason a t
+      → f ≡ verdictBy r Clean → f ≡ walk m nothingYet (parts body)
+  ends-with part says next r f a t S s e v =
+      v ∙ by-reason r a t _ _ e ∙ ap (λ (x : Says). verdictBy x (walk m (after m (A .past) says) (parts (drop next body)))) s ∙ sym (walk-on m (A .past) body part says at next S) ∙ sym (A .rest)
+
+  pub goes-on : (part : Bytes) (says : Part) (next : ℕ) (r : Says) → Step body at part says next → r ≡ said m (A .past) says → r ≡ Nothing
+      → walk m nothingYet (parts body) ≡ walk m (after m (A .past) says) (parts (drop next body))
+  goes-on part says next r S s e =
+      A .rest ∙ walk-on m (A .past) body part says at next S ∙ ap (λ (x : Says). verdictBy x (walk m (after m (A .past) says) (parts (drop next body)))) (sym s ∙ e)
+
+  pub malformed-ends : {part : Bytes} {next : ℕ} {r : Says} {f : Verdict} → Step body at part malformed next → r ≡ said m (A .past) malformed → f ≡ verdictBy r Clean → f ≡ walk m nothingYet (parts body)
+  malformed-ends {part} {next} {r} {f} S s v = v ∙ ap (λ (x : Says). verdictBy x Clean) s ∙ malformed-speaks m (A .past) Clean _ ∙ sym (walk-on m (A .past) body part malformed at next S) ∙ sym (A .rest)
+
+-- what the item found at a place is
+module _ {body : Bytes} {at : ℕ} {r : Item} (C : Cut body at r) where
+  pub field-lies : {t s e n : ℕ} → r ≡ Field t s e n → Span body at s e n
+  field-lies h = subst (Lies body at) h (C .lies) .2
+
+  pub field-step : {t s e n u : ℕ} → r ≡ Field t s e n → u ≡ t → Step body at (take (e - at) (drop at body)) (field u (take (e - s) (drop s body))) n
+  field-step {t} {s} {e} {n} h k = subst (λ (x : ℕ). Step body at (take (e - at) (drop at body)) (field x (take (e - s) (drop s body))) n) (sym k) (subst (Stepped body at) h (parts-step C))
+
+  pub malformed-step : {s e n : ℕ} → r ≡ Malformed s e n → Step body at (take (e - at) (drop at body)) malformed n
+  malformed-step h = subst (Stepped body at) h (parts-step C)
+
+  pub end-row : r ≡ End → parts (drop at body) ≡ []
+  end-row h = subst (Stepped body at) h (parts-step C)
+
+  pub never-none : r ≡ NoBody → ⊥
+  never-none h = subst (Lies body at) h (C .lies)
+
+-- the end of the body
+missing-append : (k l : List Row) (met : List ℕ) → missing (k ++ l) met ≡ firstOf (missing k met ∷ missing l met ∷ [])
+missing-append [] l met = sym (alone (missing l met))
+missing-append (r ∷ k) l met = go (r .required && not (has met (r .tag))) (missing-append k l met)
+  where
+    go : (b : Bool) → missing (k ++ l) met ≡ firstOf (missing k met ∷ missing l met ∷ [])
+        → cond b (Reason 1 (r .tag)) (missing (k ++ l) met) ≡ firstOf (cond b (Reason 1 (r .tag)) (missing k met) ∷ missing l met ∷ [])
+    go true h = refl
+    go false h = h
+
+module _ {m : MsgType} {seen met : List Bool} {st : State} {r : Says} (C : Closing met st r) where
+  pub finish-closing : {a t : ℕ} {f : Verdict} → r ≡ Reason a t → f ≡ verdictBy r Clean → Finished m seen met st f
+  finish-closing e v = record { is = λ w S. v ∙ rw (sym (C .is (w .place) (S .stood)), e) }
+
+  module _ {h : Says} (n : r ≡ Nothing) (H : Missing seen Header h) where
+    pub finish-header : {a t : ℕ} {f : Verdict} → h ≡ Reason a t → f ≡ verdictBy h Clean → Finished m seen met st f
+    finish-header e v = record { is = λ w S. v ∙ rw (sym (C .is (w .place) (S .stood)), n, missing-append header (fields m) (w .seen), sym (H .is (w .seen) (S .marked)), e) }
+
+    pub finish-own : {o : Says} {f : Verdict} → h ≡ Nothing → Missing seen (Own m) o → f ≡ verdictBy o Clean → Finished m seen met st f
+    finish-own {o} e O v = record { is = λ w S. v ∙ rw (sym (C .is (w .place) (S .stood)), n, missing-append header (fields m) (w .seen), sym (H .is (w .seen) (S .marked)), e, sym (O .is (w .seen) (S .marked)), alone (firstOf (o ∷ [])), alone o) }

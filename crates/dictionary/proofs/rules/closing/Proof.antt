@@ -1,0 +1,31 @@
+-- Rule 1: the two checks at the end of a group, in their order.
+use borrow.Author.Needs.{needs}
+use Rattle.dictionary.proofs.Groups.{closing-none, closing-lacks, closing-counts, closing-miscounts}
+use Rattle.dictionary.proofs.rules.closing.Statement.{statement}
+use Rattle.dictionary.proofs.rules.closing.Tie as tie
+
+returns : tie.Need-returns
+returns c = record { is = closing-none (c .if1 .taken) }
+
+incomplete-requires : tie.Need-incomplete-requires
+incomplete-requires c κs = search needs
+
+enum-told : tie.Need-enum-told
+enum-told c = search needs
+
+enum-told-2 : tie.Need-enum-told-2
+enum-told-2 c = search needs
+
+returns-2 : tie.Need-returns-2
+returns-2 c = record { is = let i = c .before .before in closing-lacks (i .before .if1 .left) (i .incomplete .ensures) (c .enum-told2 .given .1) }
+
+returns-3 : tie.Need-returns-3
+returns-3 c = record { is = let i = c .before .before .before .before in closing-counts (i .before .if1 .left) (i .incomplete .ensures) (c .before .before .enum-told .given .1) (c .if2 .taken) }
+
+returns-4 : tie.Need-returns-4
+returns-4 c = record { is = let i = c .before .before .before .before in closing-miscounts (i .before .if1 .left) (i .incomplete .ensures) (c .before .before .enum-told .given .1) (c .if2 .left) }
+
+pub closing-spec : {M : Type 1} → statement M
+closing-spec =
+    tie.close
+    (tie.spec returns incomplete-requires enum-told enum-told-2 returns-2 returns-3 returns-4)

@@ -1,0 +1,24 @@
+-- The state behind a field outside groups: a count field opens its group, another leaves none open.
+use borrow.Author.Needs.{needs}
+use Rattle.dictionary.proofs.Opening.{noted-count, noted-other}
+use Rattle.dictionary.proofs.rules.noted.Statement.{statement}
+use Rattle.dictionary.proofs.rules.noted.Tie as tie
+
+over-with-requires : tie.Need-over-with-requires
+over-with-requires c κs = search needs
+
+bit-requires : tie.Need-bit-requires
+bit-requires c κs = search needs
+
+count-of-requires : tie.Need-count-of-requires
+count-of-requires c κs = search needs
+
+returns : tie.Need-returns
+returns c = noted-count (c .before .before .before .before .before .pre) (c .before .before .before .over-with .ensures) (c .before .before .bit .ensures) (c .before .if1 .taken) (c .count-of .ensures)
+
+returns-2 : tie.Need-returns-2
+returns-2 c = noted-other (c .before .before .before .before .pre) (c .before .before .over-with .ensures) (c .before .bit .ensures) (c .if1 .left)
+
+pub noted-spec : {M : Type 1} → statement M
+noted-spec =
+    tie.close (tie.spec over-with-requires bit-requires count-of-requires returns returns-2)

@@ -1,0 +1,86 @@
+-- The search for a required tag that is not marked: up to the tag at hand, the list lacks nothing.
+use borrow.Author.Needs.{needs}
+use native.Mathlib.Omega.{arith}
+use borrow.Author.Tests.{not-true, not-false}
+use Prim.Native.Nat.{ℕ, _≤_, _-_}
+use mathlib.Core.Path.{_≡_, refl, sym, _∙_}
+use mathlib.Core.List.{List}
+use denote.Ref.{now}
+use Rattle.dictionary.specs.Held.{Marked, tagsIn}
+use Rattle.dictionary.proofs.Needs.{lacking, place-fits, needed-met, needed-not, none-left, all-missing}
+use Rattle.dictionary.proofs.table.missing.Statement.{statement}
+use Rattle.dictionary.proofs.table.missing.Tie as tie
+
+abbrev Inv-loop : tie.InvT-loop
+Inv-loop marks t to k₀ k = (k ≤ to) × ((to ≤ 28) × ((met : List ℕ) → Marked marks met → lacking (tagsIn t k₀ to) met ≡ lacking (tagsIn t k to) met))
+
+abbrev μ-loop : tie.MeasureT-loop
+μ-loop marks t to k₀ k = to - k
+
+required-requires : tie.Need-required-requires Inv-loop μ-loop
+required-requires c κs = search needs
+
+span-of-requires : tie.Need-span-of-requires Inv-loop μ-loop
+span-of-requires c κs = search needs
+
+loop-holds : tie.Need-loop-holds Inv-loop μ-loop
+loop-holds c = (search needs, (search needs, λ met M. refl))
+
+mul-n : tie.Need-mul-n Inv-loop μ-loop
+mul-n c = search needs
+
+array-copy-out-n : tie.Need-array-copy-out-n Inv-loop μ-loop
+array-copy-out-n c = search needs
+
+element-copy-out-if1 : tie.Need-element-copy-out-if1 Inv-loop μ-loop
+element-copy-out-if1 c =
+    let l = c .before .before in
+    place-fits _ (l .before .before .required .ensures) _ _ _ (c .before .loop-test .taken) (l .loop .inv .1 .0)
+
+returns : tie.Need-returns Inv-loop μ-loop
+returns c = record {
+  is = λ met M.
+      let l = c .before .before .before .before in
+      let R = l .before .before .required .ensures in
+      let S = l .before .span-of .ensures in
+      sym (all-missing _ R (l .before .before .before .args .rows) _ _ met (S .first) (S .last) ∙ l .loop .inv .1 .1 met M ∙ needed-not _ R _ _ _ (c .before .before .before .loop-test .taken) (l .loop .inv .1 .0) (now (l .before .before .before .args .marks)) met M (not-true _ (c .if1 .taken)));
+}
+
+add-k : tie.Need-add-k Inv-loop μ-loop
+add-k c = search needs
+
+loop-less : tie.Need-loop-less Inv-loop μ-loop
+loop-less c = search needs
+
+loop-again : tie.Need-loop-again Inv-loop μ-loop
+loop-again c =
+    let l = c .before .before .before .before in
+    let R = l .before .before .required .ensures in
+    (omega arith, (omega arith, λ met M. l .loop .inv .1 .1 met M ∙ needed-met _ R _ _ _ (c .before .before .before .loop-test .taken) (l .loop .inv .1 .0) (now (l .before .before .before .args .marks)) met M (not-false _ (c .if1 .left))))
+
+returns-2 : tie.Need-returns-2 Inv-loop μ-loop
+returns-2 c = record {
+  is = λ met M.
+      let l = c .before in
+      let R = l .before .before .required .ensures in
+      let S = l .before .span-of .ensures in
+      sym (all-missing _ R (l .before .before .before .args .rows) _ _ met (S .first) (S .last) ∙ l .loop .inv .1 .1 met M ∙ none-left _ _ _ met (c .loop-test .left));
+}
+
+pub missing-spec : {M : Type 1} → statement M
+missing-spec =
+    tie.close
+    (tie.spec
+    Inv-loop
+    μ-loop
+    required-requires
+    span-of-requires
+    loop-holds
+    mul-n
+    array-copy-out-n
+    element-copy-out-if1
+    returns
+    add-k
+    loop-less
+    loop-again
+    returns-2)

@@ -1,0 +1,14 @@
+-- The code's table is the table of the definitions: one computed test over all entries and all nine messages.
+use mathlib.Core.Path.{refl}
+use Rattle.kinds.specs.Kind.{kindOf}
+use Rattle.dictionary.specs.Dictionary.{№453, №580, header, fields, groupsOf, member, rowsOf}
+use Rattle.dictionary.specs.Held.{tags, bitOf, rightIn, rightOf, right}
+use Rattle.dictionary.proofs.table.table.Statement.{statement}
+use Rattle.dictionary.proofs.table.table.Tie as tie
+
+returns : tie.Need-returns
+unfolding tags bitOf rightIn rightOf right №453 №580 header fields groupsOf member rowsOf kindOf
+returns c = record { order = refl; rights = refl }
+
+pub table-spec : {M : Type 1} → statement M
+table-spec = tie.close (tie.spec returns)

@@ -1,0 +1,40 @@
+-- The types of one byte, AD, and others.
+use borrow.Author.Needs.{needs}
+use Rattle.dictionary.specs.Dictionary.{typeOf}
+use Rattle.dictionary.proofs.Types.{one-byte, two-bytes, other-bytes}
+use mathlib.Core.Path.{ap, _∙_}
+use Rattle.dictionary.proofs.walk.type_of.Statement.{statement}
+use Rattle.dictionary.proofs.walk.type_of.Tie as tie
+
+shared-slice-read-type-of-one : tie.Need-shared-slice-read-type-of-one
+shared-slice-read-type-of-one c = search needs
+
+type-of-one-requires : tie.Need-type-of-one-requires
+type-of-one-requires c κs = search needs
+
+returns : tie.Need-returns
+returns c = c .type-of-one .ensures ∙ ap typeOf (one-byte _ (c .before .before .if1 .taken))
+
+slice-aggregate-same : tie.Need-slice-aggregate-same
+slice-aggregate-same c = search needs
+
+same-requires : tie.Need-same-requires
+same-requires c κs = search needs
+
+returns-2 : tie.Need-returns-2
+returns-2 c = two-bytes _ (c .before .same .ensures) (c .if2 .taken)
+
+returns-3 : tie.Need-returns-3
+returns-3 c = other-bytes _ (c .before .before .before .if1 .left) (c .before .same .ensures) (c .if2 .left)
+
+pub type-of-spec : {M : Type 1} → statement M
+type-of-spec =
+    tie.close
+    (tie.spec
+    shared-slice-read-type-of-one
+    type-of-one-requires
+    returns
+    slice-aggregate-same
+    same-requires
+    returns-2
+    returns-3)

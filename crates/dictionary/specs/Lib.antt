@@ -1,0 +1,4 @@
+pub mod Dictionary
+pub mod Verdict
+pub mod Desk
+pub mod Held

@@ -1,0 +1,302 @@
+// The constant table of the dictionary, looked up at each field, and the required tags in the document's order.
+use super::MsgType;
+use super::Says;
+use kinds::Choice;
+use kinds::Kind;
+ghost use mathlib.Core.Path.{_≡_};
+ghost use Prim.Native.Nat.{_<_, _≤_};
+ghost use Rattle.dictionary.specs.Held.{entryOf, Table, Placed, Required, Missing, Spanned};
+
+// A tag's line of the dictionary: its kind, with the list of its values; the messages that have it outside groups; and the group that has it as a
+// member.
+pub struct Entry {
+    pub tag: u32,
+    pub kind: Kind,
+    pub marks: u32,
+    pub member: Member,
+}
+
+// A member's group by its count tag (0: none), whether it is the group's first, and the messages that have the group.
+pub struct Member {
+    pub group: u32,
+    pub first: bool,
+    pub marks: u32,
+}
+
+// The marks of an entry: bits 0 to 8 for the nine messages, 9 for the header, 10 for a tag of the frame, 11 for the count of a group.
+const IN_0: u32 = 1;
+
+const IN_1: u32 = 2;
+
+const IN_2: u32 = 4;
+
+const IN_3: u32 = 8;
+
+const IN_4: u32 = 16;
+
+const IN_5: u32 = 32;
+
+const IN_A: u32 = 64;
+
+const IN_F: u32 = 128;
+
+const IN_AD: u32 = 256;
+
+const HEADER: u32 = 511 + 512;
+
+const FRAME: u32 = 1024;
+
+const COUNT: u32 = 2048;
+
+const STRING: Kind = Kind::Text { most: 32 };
+
+const NUMBER: Kind = Kind::Number {
+    least: 0,
+    most: 999999999,
+};
+
+const COUNTED: Kind = Kind::Number {
+    least: 1,
+    most: 999999999,
+};
+
+const ONE_TO_8: Kind = Kind::Number { least: 1, most: 8 };
+
+const ONE_OR_2: Kind = Kind::Number { least: 1, most: 2 };
+
+const NO_GROUP: Member = Member {
+    group: 0,
+    first: false,
+    marks: 0,
+};
+
+const FIRST_453: Member = Member {
+    group: 453,
+    first: true,
+    marks: IN_F + IN_AD,
+};
+
+const OTHER_453: Member = Member {
+    group: 453,
+    first: false,
+    marks: IN_F + IN_AD,
+};
+
+const FIRST_580: Member = Member {
+    group: 580,
+    first: true,
+    marks: IN_AD,
+};
+
+const OTHER_580: Member = Member {
+    group: 580,
+    first: false,
+    marks: IN_AD,
+};
+
+// A line of the table: an entry's fields in their order.
+pub struct Line(pub u32, pub Kind, pub u32, pub Member);
+
+pub fn entry_of(line: Line) -> Entry
+    ensures { λ r. ⌜ r ≡ entryOf line ⌝ }
+{
+    let kind = line.1;
+    let member = line.3;
+    Entry {
+        tag: line.0,
+        kind: kind,
+        marks: line.2,
+        member: member,
+    }
+}
+
+// In the order of the tags; a line's place is also the place of its tag's mark.
+const TABLE: [Line; 44] = [
+    Line(7, COUNTED, IN_2, NO_GROUP),
+    Line(8, STRING, FRAME, NO_GROUP),
+    Line(9, STRING, FRAME, NO_GROUP),
+    Line(10, STRING, FRAME, NO_GROUP),
+    Line(11, STRING, IN_F, NO_GROUP),
+    Line(16, NUMBER, IN_2, NO_GROUP),
+    Line(22, Kind::OneOf(Choice::Eight), IN_F + IN_AD, NO_GROUP),
+    Line(34, COUNTED, HEADER, NO_GROUP),
+    Line(35, STRING, HEADER, NO_GROUP),
+    Line(36, COUNTED, IN_4, NO_GROUP),
+    Line(41, STRING, IN_F, NO_GROUP),
+    Line(43, Kind::Flag, HEADER, NO_GROUP),
+    Line(45, COUNTED, IN_3, NO_GROUP),
+    Line(48, STRING, IN_F + IN_AD, NO_GROUP),
+    Line(49, STRING, HEADER, NO_GROUP),
+    Line(52, Kind::Time, HEADER, NO_GROUP),
+    Line(54, Kind::OneOf(Choice::OneOrTwo), IN_F, NO_GROUP),
+    Line(56, STRING, HEADER, NO_GROUP),
+    Line(58, Kind::Text { most: 256 }, IN_3 + IN_5 + IN_AD, NO_GROUP),
+    Line(60, Kind::Time, IN_F, OTHER_580),
+    Line(75, Kind::Day, 0, FIRST_580),
+    Line(97, Kind::Flag, HEADER, NO_GROUP),
+    Line(98, Kind::OneOf(Choice::Zero), IN_A, NO_GROUP),
+    Line(108, Kind::Number { least: 1, most: 60 }, IN_A, NO_GROUP),
+    Line(112, Kind::Text { most: 64 }, IN_0 + IN_1, NO_GROUP),
+    Line(122, Kind::Time, HEADER, NO_GROUP),
+    Line(123, Kind::Flag, IN_4, NO_GROUP),
+    Line(141, Kind::Flag, IN_A, NO_GROUP),
+    Line(263, Kind::OneOf(Choice::Zero), IN_AD, NO_GROUP),
+    Line(371, NUMBER, IN_3, NO_GROUP),
+    Line(372, STRING, IN_3, NO_GROUP),
+    Line(373, NUMBER, IN_3, NO_GROUP),
+    Line(447, Kind::OneOf(Choice::D), 0, OTHER_453),
+    Line(448, STRING, 0, FIRST_453),
+    Line(452, Kind::OneOf(Choice::Roles), 0, OTHER_453),
+    Line(453, ONE_TO_8, IN_F + IN_AD + COUNT, NO_GROUP),
+    Line(568, STRING, IN_AD, NO_GROUP),
+    Line(569, Kind::OneOf(Choice::Zero), IN_AD, NO_GROUP),
+    Line(
+        580,
+        Kind::Number { least: 1, most: 2 },
+        IN_AD + COUNT,
+        NO_GROUP,
+    ),
+    Line(828, Kind::OneOf(Choice::ZeroOr54), IN_AD, NO_GROUP),
+    Line(1041, STRING, IN_AD, NO_GROUP),
+    Line(1128, Kind::OneOf(Choice::Nine), HEADER, NO_GROUP),
+    Line(1137, Kind::OneOf(Choice::Nine), IN_A, NO_GROUP),
+    Line(1409, NUMBER, IN_5, NO_GROUP),
+];
+
+// The one function that names the table: whoever looks into it takes it into a local, once.
+pub fn table() -> [Line; 44]
+    ensures { λ r. ⌜ Table r ⌝ }
+{
+    TABLE
+}
+
+// The place of a tag in the table, or 44. (Compiled, the search over constants is a tree of comparisons.)
+pub fn place_of(tag: u32) -> usize
+    ensures { λ r. ⌜ Placed tag r ⌝ }
+{
+    let t = table();
+    let mut i: usize = 0;
+    while i < 44 {
+        let line = t[i];
+        if line.0 == tag {
+            return i;
+        }
+        i += 1;
+    }
+    i
+}
+
+// A required tag, and the place of its mark.
+pub struct Needed(pub u32, pub usize);
+
+const REQUIRED: [Needed; 28] = [
+    // header
+    Needed(35, 8),
+    Needed(49, 14),
+    Needed(56, 17),
+    Needed(34, 7),
+    Needed(52, 15),
+    // TestRequest
+    Needed(112, 24),
+    // ResendRequest
+    Needed(7, 0),
+    Needed(16, 5),
+    // Reject
+    Needed(45, 12),
+    // SequenceReset
+    Needed(36, 9),
+    // Logon
+    Needed(98, 22),
+    Needed(108, 23),
+    Needed(1137, 42),
+    // OrderCancelRequest
+    Needed(11, 4),
+    Needed(41, 10),
+    Needed(54, 16),
+    Needed(48, 13),
+    Needed(22, 6),
+    Needed(60, 19),
+    // TradeCaptureReportRequest
+    Needed(568, 36),
+    Needed(569, 37),
+    Needed(22, 6),
+    Needed(48, 13),
+    Needed(580, 38),
+    // group 453
+    Needed(448, 33),
+    Needed(447, 32),
+    Needed(452, 34),
+    // group 580
+    Needed(75, 20),
+];
+
+pub fn required() -> [Needed; 28]
+    ensures { λ r. ⌜ Required r ⌝ }
+{
+    REQUIRED
+}
+
+// Lists of the document: the header, a message's own fields, the members of a group.
+pub enum Rows {
+    Header,
+    Own(MsgType),
+    Members(u32),
+}
+
+// Where a list's required tags stand in REQUIRED.
+pub struct Span {
+    pub from: usize,
+    pub to: usize,
+}
+
+fn span_of(rows: Rows) -> Span
+    ensures { λ r. ⌜ Spanned rows r ⌝ }
+{
+    match rows {
+        Rows::Header => Span { from: 0, to: 5 },
+        Rows::Own(m) => own(m),
+        Rows::Members(g) => if g == 453 {
+            Span { from: 24, to: 27 }
+        } else {
+            Span { from: 27, to: 28 }
+        },
+    }
+}
+
+fn own(m: MsgType) -> Span
+    ensures { λ r. ⌜ Spanned (Rows.Own m) r ⌝ }
+{
+    match m {
+        MsgType::Heartbeat => Span { from: 0, to: 0 },
+        MsgType::TestRequest => Span { from: 5, to: 6 },
+        MsgType::ResendRequest => Span { from: 6, to: 8 },
+        MsgType::Reject => Span { from: 8, to: 9 },
+        MsgType::SequenceReset => Span { from: 9, to: 10 },
+        MsgType::Logout => Span { from: 0, to: 0 },
+        MsgType::Logon => Span { from: 10, to: 13 },
+        MsgType::OrderCancelRequest => Span { from: 13, to: 19 },
+        MsgType::TradeCaptureReportRequest => Span { from: 19, to: 24 },
+    }
+}
+
+// The first required tag of a list that is not marked.
+pub fn missing(marks: &[bool; 128], rows: Rows) -> Says
+    ensures { λ r. ⌜ Missing (now (marks .entry)) rows r ⌝ }
+{
+    let t = required();
+    let s = span_of(rows);
+    let to = s.to;
+    let mut k = s.from;
+    while k < to {
+        let n = t[k];
+        let place = n.1;
+        if !marks[place] {
+            return Says::Reason {
+                reason: 1,
+                tag: n.0,
+            };
+        }
+        k += 1;
+    }
+    Says::Nothing
+}

@@ -1,0 +1,182 @@
+// The walk along the fields of a body, and the verdict.
+use super::MsgType;
+use super::Says;
+use super::Verdict;
+use super::rules::State;
+use super::rules::begun;
+use super::rules::closing;
+use super::rules::is_inside;
+use super::rules::left;
+use super::rules::noted;
+use super::rules::of_known;
+use super::rules::of_malformed;
+use super::rules::of_unknown;
+use super::table::Rows;
+use super::table::entry_of;
+use super::table::missing;
+use super::table::place_of;
+use super::table::table;
+use fields::Item;
+use fields::Place;
+use fields::first_field;
+use fields::is_body;
+use kinds::same;
+ghost use mathlib.Core.Path.{_≡_};
+ghost use Prim.Native.Nat.{_≤_};
+ghost use lib.ListN.{length};
+ghost use Rattle.fields.specs.Field.{parts};
+ghost use mathlib.Core.List.{[], _∷_};
+ghost use Rattle.dictionary.specs.Dictionary.{typeOf};
+ghost use Rattle.dictionary.specs.Verdict.{verdictBy, walk, nothingYet, verdict};
+ghost use Rattle.dictionary.specs.Held.{Finished, typeIs};
+
+// The verdict by what was said, where nothing more is to come.
+fn finding(said: Says) -> Verdict
+    ensures { λ r. ⌜ r ≡ verdictBy said Verdict.Clean ⌝ }
+{
+    match said {
+        Says::Nothing => Verdict::Clean,
+        Says::Reason { reason, tag } => Verdict::Finding { reason, tag },
+    }
+}
+
+// At the end of the body: rule 1, then the first missing required tag, header first.
+fn finish(m: MsgType, st: State, seen: &[bool; 128], met: &[bool; 128]) -> Verdict
+    ensures { λ r. ⌜ Finished m (now (seen .entry)) (now (met .entry)) st r ⌝ }
+{
+    let end = closing(st, met);
+    let Says::Nothing = end else {
+        return finding(end);
+    };
+    let header = missing(seen, Rows::Header);
+    let Says::Nothing = header else {
+        return finding(header);
+    };
+    finding(missing(seen, Rows::Own(m)))
+}
+
+// The fields from the left; the first finding stands.
+fn walk(m: MsgType, body: &[u8]) -> Verdict
+    requires { ⌜ length (now body) ≤ 2048 ⌝ }
+    ensures { λ r. ⌜ r ≡ walk m nothingYet (parts (now (body .entry))) ⌝ }
+{
+    let t = table();
+    let mut seen = [false; 128];
+    let mut met = [false; 128];
+    let mut st = State {
+        over: false,
+        group: 0,
+        count: 0,
+        begun: 0,
+    };
+    let mut at: usize = 0;
+    loop {
+        let item = fields::item_at(body, at);
+        match item {
+            Item::Field {
+                tag,
+                start,
+                end,
+                next,
+            } => {
+                let p = place_of(tag);
+                if p == 44 {
+                    let said = of_unknown(m, st, &met, tag);
+                    let Says::Nothing = said else {
+                        return finding(said);
+                    };
+                    st = left(st);
+                    at = next;
+                    continue;
+                }
+                let line = t[p];
+                let e = entry_of(line);
+                let v = &body[start..end];
+                let said = of_known(m, st, e, p, &seen, &met, v);
+                let Says::Nothing = said else {
+                    return finding(said);
+                };
+                if !is_inside(st, e) {
+                    seen[p] = true;
+                    st = noted(st, e, v);
+                    at = next;
+                    continue;
+                }
+                if e.member.first {
+                    met = [false; 128];
+                    met[p] = true;
+                    st = begun(st);
+                    at = next;
+                    continue;
+                }
+                met[p] = true;
+                at = next;
+                continue;
+            }
+            Item::Malformed {
+                start: _,
+                end: _,
+                next: _,
+            } => return finding(of_malformed(st, &met)),
+            Item::End => return finish(m, st, &seen, &met),
+            Item::NoBody => return Verdict::NoBody,
+        }
+    }
+}
+
+// One of the nine message types, or another.
+pub enum Named {
+    Of(MsgType),
+    Other,
+}
+
+// The type that a value of 35 names.
+pub fn type_of(v: &[u8]) -> Named
+    ensures { λ r. ⌜ typeIs r ≡ typeOf (now (v .entry)) ⌝ }
+{
+    if v.len() == 1 {
+        return type_of_one(v[0]);
+    }
+    if same(v, b"AD") {
+        return Named::Of(MsgType::TradeCaptureReportRequest);
+    }
+    Named::Other
+}
+
+fn type_of_one(c: u8) -> Named
+    ensures { λ r. ⌜ typeIs r ≡ typeOf (c ∷ []) ⌝ }
+{
+    match c {
+        b'0' => Named::Of(MsgType::Heartbeat),
+        b'1' => Named::Of(MsgType::TestRequest),
+        b'2' => Named::Of(MsgType::ResendRequest),
+        b'3' => Named::Of(MsgType::Reject),
+        b'4' => Named::Of(MsgType::SequenceReset),
+        b'5' => Named::Of(MsgType::Logout),
+        b'A' => Named::Of(MsgType::Logon),
+        b'F' => Named::Of(MsgType::OrderCancelRequest),
+        _ => Named::Other,
+    }
+}
+
+// The verdict on a body.
+pub fn verdict_on(body: &[u8]) -> Verdict
+    ensures { λ r. ⌜ r ≡ verdict (now (body .entry)) ⌝ }
+{
+    if !is_body(body) {
+        return Verdict::NoBody;
+    }
+    let Place::At { start, end } = first_field(body, 35) else {
+        return Verdict::Finding {
+            reason: 11,
+            tag: 35,
+        };
+    };
+    let Named::Of(m) = type_of(&body[start..end]) else {
+        return Verdict::Finding {
+            reason: 11,
+            tag: 35,
+        };
+    };
+    walk(m, body)
+}
