@@ -1,0 +1,337 @@
+/* The calls by which a C host reaches the gateway core of one FIXT 1.1 session (libgateway.a). Document 01 decides what
+   each call answers; this header says it in C terms. `|` stands for the byte 1. */
+#ifndef FIXGW_GATEWAY_H
+#define FIXGW_GATEWAY_H
+
+/* Only these two headers are needed. A compiler that has none, but names its types, is served as well. */
+#ifdef __has_include
+#if __has_include(<stdint.h>) && __has_include(<stddef.h>)
+#define FIXGW_HAS_HEADERS 1
+#endif
+#else
+#define FIXGW_HAS_HEADERS 1
+#endif
+
+#ifdef FIXGW_HAS_HEADERS
+#include <stddef.h>
+#include <stdint.h>
+#else
+typedef __SIZE_TYPE__ size_t;
+typedef __UINT8_TYPE__ uint8_t;
+typedef __UINT32_TYPE__ uint32_t;
+typedef __UINT64_TYPE__ uint64_t;
+#endif
+
+#ifdef __cplusplus
+extern "C" {
+#endif
+
+/* What holds for every call
+
+   - A slice is a pointer and a length. NULL with length 0 is an empty slice; otherwise the pointer is good for `length`
+     bytes. An array, `uint64_t out[2]`, is a pointer that is good for as many elements and is never NULL.
+   - What a call may write (no const) overlaps nothing else that the same call is given.
+   - Nothing else is asked of the caller: every number, every byte and every length may be given, and each input has
+     exactly one outcome.
+   - A call returns 0 or the number of a refusal. It writes every word of `out` in either case.
+   - A call keeps nothing and uses nothing but what it is given: no global state, no allocation, no clock, no input or
+     output. Calls on different memory may run at the same time in different threads. */
+
+enum fixgw_refusal {
+    FIXGW_OK = 0,
+    FIXGW_REFUSED_NO_FRAME_YET = 1,         /* no whole frame yet */
+    FIXGW_REFUSED_CLOSED = 2,               /* a step while Closed */
+    FIXGW_REFUSED_NOT_A_LOGON = 3,          /* the first message is not a Logon; the session is Closed */
+    FIXGW_REFUSED_LOGON = 4,                /* the Logon's number, CompIDs or fields are wrong; the session is Closed */
+    FIXGW_REFUSED_NUMBERS_USED_UP = 5,      /* a sequence number above 999,999,990; the session is Closed */
+    FIXGW_REFUSED_REPLY_ROOM = 6,           /* a reply buffer under FIXGW_LEAST_REPLY_ROOM bytes */
+    FIXGW_REFUSED_TIME = 7,                 /* a time at or past FIXGW_END_OF_TIME */
+    FIXGW_REFUSED_VALUE = 8,                /* the writer: a value or a type that the dictionary would reject */
+    FIXGW_REFUSED_WRITE_ROOM = 9,           /* the writer: a buffer shorter than the message */
+    FIXGW_REFUSED_NOT_A_FRAME = 10,         /* not exactly one good frame; for fields and verdict, no body */
+    FIXGW_REFUSED_RECORD = 11               /* the session's record breaks its ranges */
+};
+
+/* 373, SessionRejectReason: what a verdict finds and what a Reject carries. */
+enum fixgw_reason {
+    FIXGW_REASON_INVALID_TAG = 0,
+    FIXGW_REASON_REQUIRED_TAG_MISSING = 1,
+    FIXGW_REASON_NOT_FOR_THIS_MESSAGE = 2,
+    FIXGW_REASON_UNDEFINED_TAG = 3,
+    FIXGW_REASON_NO_VALUE = 4,
+    FIXGW_REASON_VALUE_INCORRECT = 5,
+    FIXGW_REASON_DATA_FORMAT = 6,
+    FIXGW_REASON_COMP_ID = 9,
+    FIXGW_REASON_INVALID_MSG_TYPE = 11,
+    FIXGW_REASON_TAG_TWICE = 13,
+    FIXGW_REASON_TAG_ORDER = 14,
+    FIXGW_REASON_GROUP_ORDER = 15,
+    FIXGW_REASON_GROUP_COUNT = 16,
+    FIXGW_REASON_OTHER = 99
+};
+
+/* 1409, SessionStatus, of the Logouts that the gateway writes. */
+enum fixgw_session_status {
+    FIXGW_SESSION_LOGOUT_COMPLETE = 4,      /* the answer to a Logout */
+    FIXGW_SESSION_ENDED_BY_GATEWAY = 101
+};
+
+/* 35, MsgType: one byte, or two as first * 256 + second. */
+enum fixgw_type {
+    FIXGW_TYPE_HEARTBEAT = 0x30,
+    FIXGW_TYPE_TEST_REQUEST = 0x31,
+    FIXGW_TYPE_RESEND_REQUEST = 0x32,
+    FIXGW_TYPE_REJECT = 0x33,
+    FIXGW_TYPE_SEQUENCE_RESET = 0x34,
+    FIXGW_TYPE_LOGOUT = 0x35,
+    FIXGW_TYPE_LOGON = 0x41,
+    FIXGW_TYPE_ORDER_CANCEL_REQUEST = 0x46,             /* F */
+    FIXGW_TYPE_TRADE_CAPTURE_REPORT_REQUEST = 0x4144    /* AD */
+};
+
+enum fixgw_tag {
+    FIXGW_TAG_BEGIN_SEQ_NO = 7,
+    FIXGW_TAG_BEGIN_STRING = 8,
+    FIXGW_TAG_BODY_LENGTH = 9,
+    FIXGW_TAG_CHECK_SUM = 10,
+    FIXGW_TAG_CL_ORD_ID = 11,
+    FIXGW_TAG_END_SEQ_NO = 16,
+    FIXGW_TAG_SECURITY_ID_SOURCE = 22,
+    FIXGW_TAG_MSG_SEQ_NUM = 34,
+    FIXGW_TAG_MSG_TYPE = 35,
+    FIXGW_TAG_NEW_SEQ_NO = 36,
+    FIXGW_TAG_ORIG_CL_ORD_ID = 41,
+    FIXGW_TAG_POSS_DUP_FLAG = 43,
+    FIXGW_TAG_REF_SEQ_NUM = 45,
+    FIXGW_TAG_SECURITY_ID = 48,
+    FIXGW_TAG_SENDER_COMP_ID = 49,
+    FIXGW_TAG_SENDING_TIME = 52,
+    FIXGW_TAG_SIDE = 54,
+    FIXGW_TAG_TARGET_COMP_ID = 56,
+    FIXGW_TAG_TEXT = 58,
+    FIXGW_TAG_TRANSACT_TIME = 60,
+    FIXGW_TAG_TRADE_DATE = 75,
+    FIXGW_TAG_POSS_RESEND = 97,
+    FIXGW_TAG_ENCRYPT_METHOD = 98,
+    FIXGW_TAG_HEART_BT_INT = 108,
+    FIXGW_TAG_TEST_REQ_ID = 112,
+    FIXGW_TAG_ORIG_SENDING_TIME = 122,
+    FIXGW_TAG_GAP_FILL_FLAG = 123,
+    FIXGW_TAG_RESET_SEQ_NUM_FLAG = 141,
+    FIXGW_TAG_SUBSCRIPTION_REQUEST_TYPE = 263,
+    FIXGW_TAG_REF_TAG_ID = 371,
+    FIXGW_TAG_REF_MSG_TYPE = 372,
+    FIXGW_TAG_SESSION_REJECT_REASON = 373,
+    FIXGW_TAG_PARTY_ID_SOURCE = 447,
+    FIXGW_TAG_PARTY_ID = 448,
+    FIXGW_TAG_PARTY_ROLE = 452,
+    FIXGW_TAG_NO_PARTY_IDS = 453,
+    FIXGW_TAG_TRADE_REQUEST_ID = 568,
+    FIXGW_TAG_TRADE_REQUEST_TYPE = 569,
+    FIXGW_TAG_NO_DATES = 580,
+    FIXGW_TAG_TRD_TYPE = 828,
+    FIXGW_TAG_FIRM_TRADE_ID = 1041,
+    FIXGW_TAG_APPL_VER_ID = 1128,
+    FIXGW_TAG_DEFAULT_APPL_VER_ID = 1137,
+    FIXGW_TAG_SESSION_STATUS = 1409
+};
+
+/* ---- Bytes of the line ------------------------------------------------------------------------------------------- */
+
+enum {
+    FIXGW_LONGEST_FRAME = 2073,
+    FIXGW_MOST_PENDING = 2072,              /* what can stay in a line buffer once reading answers refusal 1 */
+    FIXGW_TRAILER = 7                       /* 10=ddd| */
+};
+
+/* One reading of bytes[0..len).
+   0: the leftmost good frame is bytes[out[0] .. out[0] + out[1]); the bytes before it are no part of any frame.
+   1: there is none; no frame can ever begin in the first out[0] bytes, so they may be dropped; out[1] is 0. */
+uint32_t fixgw_read(const uint8_t *bytes, size_t len, uint64_t out[2]);
+
+/* Puts as much of a piece as there is room for behind the first `held` bytes of a line buffer.
+   Returns how many bytes of the piece were put, 0 if held is not below buf_len. The held bytes stay; so does what lies
+   behind the bytes put. */
+uint64_t fixgw_put(uint8_t *buf, size_t buf_len, uint64_t held, const uint8_t *piece, size_t piece_len);
+
+/* Drops n bytes from the front of the `held` ones in a line buffer: the others move to its front.
+   Returns how many are held then: held - n, and 0 if n is at least held. A `held` above buf_len counts as buf_len. What
+   lies behind the bytes held then means nothing. */
+uint64_t fixgw_drop(uint8_t *buf, size_t buf_len, uint64_t held, uint64_t n);
+
+/* ---- Fields of a body -------------------------------------------------------------------------------------------- */
+
+/* A body is what lies between the `|` behind 9= and the 10= of a frame: 5 to 2,048 bytes, beginning 35= and ending
+   with `|`. Anything else is refusal 10, and then every word of out is 0. */
+
+/* What the dictionary finds in a body, the first finding from the left.
+   0: out is {0, 0, 0} if it is clean, or {1, reason, tag}; tag is 0 where there is no readable one. */
+uint32_t fixgw_verdict(const uint8_t *body, size_t len, uint64_t out[3]);
+
+enum fixgw_part {
+    FIXGW_PART_FIELD = 0,
+    FIXGW_PART_MALFORMED = 1,               /* no `=`, or no tag of 1 to 5 digits without leading zero */
+    FIXGW_PART_END = 2
+};
+
+/* The field of a body at place `at`; begin with 0 and go on with the place that is answered, up to the end.
+   0: out is {what, tag, start, end, next}, `what` one of fixgw_part. Of a field body[start .. end) is the value, of a
+   malformed part (tag 0) the part whole. At the end, which is also everywhere behind it, the other words are 0. */
+uint32_t fixgw_field(const uint8_t *body, size_t len, uint64_t at, uint64_t out[5]);
+
+/* ---- Writing one message ----------------------------------------------------------------------------------------- */
+
+/* The places of the writer's values: first the numbers, then the byte strings. Three words each, at 3 * place:
+   {given, a, b}. `given` is 0 for an absent tag. A number is a; a byte string is text[a .. b). */
+enum fixgw_place {
+    FIXGW_PLACE_BEGIN_SEQ_NO = 0,           /* 7 */
+    FIXGW_PLACE_END_SEQ_NO,                 /* 16 */
+    FIXGW_PLACE_MSG_SEQ_NUM,                /* 34 */
+    FIXGW_PLACE_NEW_SEQ_NO,                 /* 36 */
+    FIXGW_PLACE_REF_SEQ_NUM,                /* 45 */
+    FIXGW_PLACE_HEART_BT_INT,               /* 108 */
+    FIXGW_PLACE_REF_TAG_ID,                 /* 371 */
+    FIXGW_PLACE_SESSION_REJECT_REASON,      /* 373 */
+    FIXGW_PLACE_SESSION_STATUS,             /* 1409 */
+    FIXGW_PLACE_POSS_DUP_FLAG,              /* 43, the first byte string */
+    FIXGW_PLACE_SENDER_COMP_ID,             /* 49 */
+    FIXGW_PLACE_SENDING_TIME,               /* 52 */
+    FIXGW_PLACE_TARGET_COMP_ID,             /* 56 */
+    FIXGW_PLACE_TEXT,                       /* 58 */
+    FIXGW_PLACE_ENCRYPT_METHOD,             /* 98 */
+    FIXGW_PLACE_TEST_REQ_ID,                /* 112 */
+    FIXGW_PLACE_ORIG_SENDING_TIME,          /* 122 */
+    FIXGW_PLACE_GAP_FILL_FLAG,              /* 123 */
+    FIXGW_PLACE_RESET_SEQ_NUM_FLAG,         /* 141 */
+    FIXGW_PLACE_REF_MSG_TYPE,               /* 372 */
+    FIXGW_PLACE_DEFAULT_APPL_VER_ID,        /* 1137 */
+    FIXGW_PLACES,
+    FIXGW_VALUES = 3 * FIXGW_PLACES
+};
+
+/* Writes one of the seven administrative messages, whole, at the front of buf. It belongs to no session.
+   0: out is {the message's length}; buf keeps its bytes behind it.
+   8: another type, a value that the dictionary would reject, one that this message does not have, a byte string that
+   does not lie in text, or a required value absent. 9: buf is too short. Under both out is {0} and buf keeps all of its
+   bytes. */
+uint32_t fixgw_write(const uint8_t *type, size_t type_len, const uint64_t values[FIXGW_VALUES],
+                     const uint8_t *text, size_t text_len, uint8_t *buf, size_t buf_len, uint64_t out[1]);
+
+static inline void fixgw_give_number(uint64_t values[FIXGW_VALUES], enum fixgw_place place, uint64_t number)
+{
+    values[3 * (size_t)place] = 1;
+    values[3 * (size_t)place + 1] = number;
+}
+
+static inline void fixgw_give_bytes(uint64_t values[FIXGW_VALUES], enum fixgw_place place, uint64_t start, uint64_t end)
+{
+    values[3 * (size_t)place] = 1;
+    values[3 * (size_t)place + 1] = start;
+    values[3 * (size_t)place + 2] = end;
+}
+
+/* ---- The session ------------------------------------------------------------------------------------------------- */
+
+enum fixgw_status { FIXGW_WAITING = 0, FIXGW_ACTIVE = 1, FIXGW_CLOSED = 2 };
+
+/* The words of a session's record. */
+enum fixgw_word {
+    FIXGW_WORD_OURS_LEN = 0,                /* how long our CompID is, 1 to 11 */
+    FIXGW_WORD_PEER_LEN,                    /* how long the peer's is */
+    FIXGW_WORD_STATUS,                      /* one of fixgw_status */
+    FIXGW_WORD_EXPECTED,                    /* E, the number of the peer's next message, 1 to 999,999,999 */
+    FIXGW_WORD_NEXT_OUT,                    /* the number of our next message, 1 to 999,999,999 */
+    FIXGW_WORD_HEARTBEAT,                   /* seconds, 1 to 60 */
+    FIXGW_WORD_LAST_SENT,                   /* when we last sent a message, in microseconds since 1970; any number */
+    FIXGW_WORDS
+};
+
+enum {
+    FIXGW_COMP_ID = 11,                     /* bytes of a CompID's place; those behind its length mean nothing */
+    FIXGW_LEAST_REPLY_ROOM = 512,
+    FIXGW_LONGEST_REPLY = 269
+};
+
+#define FIXGW_END_OF_TIME 253402300800000000u   /* the first microsecond of the year 10000 */
+
+/* Fills the record of a new session: Waiting, both numbers 1, heartbeat 30, last sent 0.
+   11: a CompID is not 1 to 11 bytes without `|`. The record is then as new, but Closed and with two empty CompIDs; no
+   step is taken on it. */
+uint32_t fixgw_new(uint64_t words[FIXGW_WORDS], uint8_t ours[FIXGW_COMP_ID], uint8_t peer[FIXGW_COMP_ID],
+                   const uint8_t *our_id, size_t our_len, const uint8_t *peer_id, size_t peer_len);
+
+/* The peer has a new connection: the status becomes Waiting, everything else stays.
+   11: the record breaks its ranges and stays as it is. */
+uint32_t fixgw_reconnect(uint64_t words[FIXGW_WORDS], const uint8_t ours[FIXGW_COMP_ID],
+                         const uint8_t peer[FIXGW_COMP_ID]);
+
+/* Takes one frame at a time in microseconds since 1970, moves the record on and writes what is to be sent.
+   0: out is {delivered, reply length}. delivered is 1 if the frame is an application message (AD, F) for the host to
+   act on, else 0. buf[0 .. reply length) holds no, one or two messages to send, in order; buf keeps its bytes behind
+   them.
+   11, 10, 7, 6, 2, 5, 3, 4, looked for in this order: out is {0, 0}, buf keeps all of its bytes, and the record stays
+   as it is, except that 5, 3 and 4 set it Closed. */
+uint32_t fixgw_step(uint64_t words[FIXGW_WORDS], const uint8_t ours[FIXGW_COMP_ID], const uint8_t peer[FIXGW_COMP_ID],
+                    const uint8_t *frame, size_t frame_len, uint64_t time, uint8_t *buf, size_t buf_len,
+                    uint64_t out[2]);
+
+/* Looks whether a Heartbeat is due at a time, and writes it.
+   0: out is {reply length}, 0 if nothing is due; the record moves on only if something is written; buf keeps its bytes
+   behind the reply.
+   11, 7, 6, 5, looked for in this order (5 only while Active): out is {0}, buf keeps all of its bytes, and the record
+   stays as it is, except that 5 sets it Closed. */
+uint32_t fixgw_tick(uint64_t words[FIXGW_WORDS], const uint8_t ours[FIXGW_COMP_ID], const uint8_t peer[FIXGW_COMP_ID],
+                    uint64_t time, uint8_t *buf, size_t buf_len, uint64_t out[1]);
+
+/* ---- For convenience: the record in one struct, the body and the type of a frame --------------------------------- */
+
+struct fixgw_session {
+    uint64_t words[FIXGW_WORDS];
+    uint8_t ours[FIXGW_COMP_ID], peer[FIXGW_COMP_ID];
+};
+
+static inline uint32_t fixgw_session_new(struct fixgw_session *session, const uint8_t *our_id, size_t our_len,
+                                         const uint8_t *peer_id, size_t peer_len)
+{
+    return fixgw_new(session->words, session->ours, session->peer, our_id, our_len, peer_id, peer_len);
+}
+
+static inline uint32_t fixgw_session_reconnect(struct fixgw_session *session)
+{
+    return fixgw_reconnect(session->words, session->ours, session->peer);
+}
+
+static inline uint32_t fixgw_session_step(struct fixgw_session *session, const uint8_t *frame, size_t frame_len,
+                                          uint64_t time, uint8_t *buf, size_t buf_len, uint64_t out[2])
+{
+    return fixgw_step(session->words, session->ours, session->peer, frame, frame_len, time, buf, buf_len, out);
+}
+
+static inline uint32_t fixgw_session_tick(struct fixgw_session *session, uint64_t time, uint8_t *buf, size_t buf_len,
+                                          uint64_t out[1])
+{
+    return fixgw_tick(session->words, session->ours, session->peer, time, buf, buf_len, out);
+}
+
+/* Where the body of a frame begins that fixgw_read handed out; it ends FIXGW_TRAILER bytes before the frame does. */
+static inline size_t fixgw_body_start(const uint8_t *frame)
+{
+    size_t at = 15;                         /* 8=FIXT.1.1|9= and the shortest length with its `|` */
+    while (frame[at - 1] != 1)
+        at++;
+    return at;
+}
+
+/* A MsgType as a number of fixgw_type; 0 for one that is not of one or two bytes. */
+static inline uint32_t fixgw_type_number(const uint8_t *type, size_t len)
+{
+    if (len == 1)
+        return type[0];
+    return len == 2 ? (uint32_t)type[0] << 8 | type[1] : 0;
+}
+
+#ifdef __cplusplus
+}
+#endif
+
+#endif

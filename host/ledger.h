@@ -1,0 +1,41 @@
+/* The ledger of the example host: what came over the line, what the gateway decided and why, what went out. */
+#ifndef HOST_LEDGER_H
+#define HOST_LEDGER_H
+
+#include "message.h"
+
+/* One step as its host saw it. */
+struct step {
+    struct fixgw_session before, after;
+    uint32_t refusal;
+    bool delivered;
+    struct message in;
+    struct message reply[2];                /* no reply has more messages */
+    size_t replies;
+};
+
+/* Puts the messages of a reply in the step. */
+void take_reply(struct step *step, const uint8_t *reply, size_t len);
+
+/* The rule of document 01 that was applied, in words, deduced from what came, what went out and the record before and
+   after: it explains an outcome and decides nothing. */
+void explain(const struct step *step, char *words, size_t room);
+
+/* The refusal of a call in words. */
+const char *refusal_words(uint32_t refusal);
+
+void ledger_head(uint64_t time);
+void ledger_line(uint64_t time, const char *what);
+void ledger_connected(uint64_t time, const struct fixgw_session *session);
+
+/* Bytes that came in `reads` reads since the last of these rows. Nothing for no read, or one that left nothing over. */
+void ledger_came(uint64_t time, uint64_t reads, uint64_t bytes, uint64_t pending);
+
+/* Bytes in front of a frame, or dropped: no part of any. Nothing for none. */
+void ledger_noise(uint64_t time, const uint8_t *bytes, size_t len);
+
+void ledger_step(uint64_t time, const struct step *step);
+void ledger_tick(uint64_t time, const uint8_t *reply, size_t len);
+void ledger_foot(void);
+
+#endif
