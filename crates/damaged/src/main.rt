@@ -1,23 +1,7 @@
 // A damaged line, read in awkward pieces as a host would: what comes out of it, in words.
 use frame::Reading;
-
-// The bytes with `|` for the byte 1.
-fn print_bytes(s: &[u8]) {
-    let mut i = 0;
-    while i < s.len() {
-        if s[i] == 1 {
-            io::write_all(1, b"|");
-        } else {
-            io::write_all(1, &s[i..i + 1]);
-        }
-        i += 1;
-    }
-}
-
-fn print_count(text: &[u8], n: usize) {
-    io::write_all(1, text);
-    io::print_decimal(1, n as u64);
-}
+use print::print_bytes;
+use print::print_count;
 
 // The frame of len bytes behind skip bytes of what is pending.
 fn print_frame(pending: &[u8], skip: usize, len: usize) {

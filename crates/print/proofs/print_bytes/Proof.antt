@@ -2,8 +2,8 @@
 use borrow.Author.Needs.{needs}
 use Prim.Native.Nat.{_-_, _≤_}
 use lib.ListN.{length}
-use Rattle.damaged.proofs.print_bytes.Statement.{statement}
-use Rattle.damaged.proofs.print_bytes.Tie as tie
+use Rattle.print.proofs.print_bytes.Statement.{statement}
+use Rattle.print.proofs.print_bytes.Tie as tie
 
 abbrev Inv-loop : tie.InvT-loop
 Inv-loop s i₀ t3 i = i ≤ length s
