@@ -4,6 +4,7 @@ mod line;
 mod parts;
 
 pub use leaf::Num;
+pub use leaf::checksum;
 use leaf::next_start;
 pub use leaf::number;
 pub use line::drop_front;

@@ -1,0 +1,27 @@
+-- The desk examples, by computation.
+use mathlib.Core.Path.{refl}
+use Rattle.frame.specs.Bytes.{numeral, decimal}
+use Rattle.frame.specs.Frame.{fixt}
+use Rattle.kinds.specs.Kind.{kindOf, isNumber, formed, allowed, goodDay, goodClock}
+use Rattle.dictionary.specs.Dictionary.{№453, №580, header, code35, fields, typeOf, administrative, groupsOf, rowsOf}
+use Rattle.writer.specs.Message.{framed, own, order, written}
+use Rattle.writer.specs.Reply.{heartbeat}
+use Rattle.writer.specs.Tags.{tags, numeric}
+use Rattle.writer.specs.Call.{valueIn, rejected, required, refused8, admin, write}
+use Rattle.writer.specs.Desk.{Desk}
+
+pub desk : Desk
+unfolding heartbeat write valueIn rejected required refused8 admin written framed order own tags numeric kindOf isNumber formed allowed goodDay goodClock №453 №580 header code35 fields typeOf administrative groupsOf rowsOf numeral decimal fixt
+desk =
+    record {
+      W6 = refl;
+      W6-length = refl;
+      W6-call = λ buf. refl;
+      order-4 = refl;
+      zero-16 = refl;
+      zero-371 = refl;
+      type-F = λ buf. refl;
+      absent-52 = λ buf. refl;
+      outside-52 = refl;
+      short-72 = refl;
+    }

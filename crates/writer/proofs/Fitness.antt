@@ -1,0 +1,91 @@
+-- Whether a value is fit, test by test as the code looks at it.
+use Prim.Native.Nat.{ℕ, _+_, _≤_, _<_}
+use native.Mathlib.Numerals.{add-one}
+use native.Mathlib.Omega.{arith}
+use mathlib.Core.Path.{_≡_, refl, ap}
+use mathlib.Core.Bool.{Bool, true, false, cond, not, _||_, false≢true}
+use lib.Dec.{eqb}
+use lib.ListN.{length, drop, getD, drop-of-length-le}
+use lib.Seq.{drop-cons}
+use borrow.Author.Tests.{eq-eqb, ne-eqb, not-false}
+use Rattle.frame.specs.Bytes.{Bytes, fix, has, same, value, numeral, decimal}
+use Rattle.frame.proofs.Numerals.{numeral-means, value-below}
+use Rattle.frame.proofs.Decimals.{decimal-worth}
+use Rattle.kinds.specs.Kind.{Kind, text, number_to_, Y/N, time, day, among, isNumber, formed, allowed}
+use Rattle.kinds.specs.Judged.{judged}
+use Rattle.kinds.proofs.Values.{same-true}
+use Rattle.dictionary.specs.declared.MsgType.{MsgType}
+use Rattle.dictionary.specs.Dictionary.{rowsOf, listed, kindIn}
+use Rattle.writer.specs.Tags.{isNumeric}
+use Rattle.writer.specs.Call.{rejected}
+use Rattle.writer.specs.Held.{unwritten, most}
+use Rattle.writer.proofs.Accepted.{neither, kind-length}
+
+-- IS THERE A `|`: at the place looked at, behind it, or nowhere
+pub has-here : (v : Bytes) (i : ℕ) → i < length v → getD v i 0 ≡ 1 → has (drop i v) 1 ≡ true
+has-here v i h e = rw (drop-cons v i 0 h, eq-eqb _ 1 e)
+
+pub has-next : (v : Bytes) (i : ℕ) → i < length v → (getD v i 0 ≡ 1 → ⊥) → has (drop i v) 1 ≡ has (drop (i + 1) v) 1
+has-next v i h n = rw (drop-cons v i 0 h, ne-eqb _ 1 n, add-one)
+
+pub has-end : (v : Bytes) (i : ℕ) → length v ≤ i → has (drop i v) 1 ≡ false
+has-end v i h = rw (drop-of-length-le v {i = i} h)
+
+-- A VALUE OF A KIND
+pub unwritten-empty : (k : Kind) (v : Bytes) → length v ≡ 0 → true ≡ unwritten k v
+unfolding unwritten
+unwritten-empty k v n = rw (eq-eqb (length v) 0 n)
+
+pub unwritten-bar : (k : Kind) (v : Bytes) {b : Bool} → (length v ≡ 0 → ⊥) → b ≡ has v 1 → b ≡ true → true ≡ unwritten k v
+unfolding unwritten
+unwritten-bar k v n e h = rw (ne-eqb (length v) 0 n, ← e, h)
+
+pub unwritten-judged : (k : Kind) (v : Bytes) {b : Bool} {j : ℕ} → (length v ≡ 0 → ⊥) → b ≡ has v 1 → b ≡ false → j ≡ judged k v → not (eqb j 0) ≡ unwritten k v
+unfolding unwritten judged
+unwritten-judged k v n e h j = rw (ne-eqb (length v) 0 n, ← e, h, j) (go (formed k v) (allowed k v))
+  where
+    go : (a b : Bool) → not (eqb (cond a (cond b 0 5) 6) 0) ≡ (not a || not b)
+    go true true = refl
+    go true false = refl
+    go false b = refl
+
+-- a value that is written is no longer than its kind allows
+pub written-short : (k : Kind) (v : Bytes) → unwritten k v ≡ false → length v ≤ most k
+unfolding unwritten
+written-short k v h =
+    let a = neither _ (not (allowed k v)) h in
+    let b = neither (eqb (length v) 0 || has v 1) (not (formed k v)) (a .0) in
+    kind-length k v (not-false _ (b .1)) (not-false _ (a .1))
+
+-- a number of ten digits or more is none of its kind
+large-number : (n : ℕ) → 999_999_999 < n → isNumber (decimal n) ≡ false
+unfolding isNumber
+large-number n h = go (numeral 9 (decimal n)) refl (same (decimal n) (fix "0")) refl
+  where
+    go : (a : Bool) → numeral 9 (decimal n) ≡ a → (b : Bool) → same (decimal n) (fix "0") ≡ b → (a || b) ≡ false
+    go true e b f = let N = numeral-means 9 (decimal n) e in absurd (omega (arith, value-below 9 (decimal n) (N .whole) (N .few), decimal-worth n))
+    go false e true f = absurd (omega (arith, ap value (same-true (decimal n) (fix "0") f), decimal-worth n))
+    go false e false f = refl
+
+pub unwritten-large : (k : Kind) (n : ℕ) → isNumeric k ≡ true → 999_999_999 < n → unwritten k (decimal n) ≡ true
+unfolding unwritten formed
+unwritten-large (text l) n i h = absurd (false≢true i)
+unwritten-large (number a to b) n i h = rw (large-number n h) (go (eqb (length (decimal n)) 0 || has (decimal n) 1))
+  where
+    go : (x : Bool) → ((x || true) || not (allowed (number a to b) (decimal n))) ≡ true
+    go true = refl
+    go false = refl
+unwritten-large Y/N n i h = absurd (false≢true i)
+unwritten-large time n i h = absurd (false≢true i)
+unwritten-large day n i h = absurd (false≢true i)
+unwritten-large (among l) n i h = absurd (false≢true i)
+
+-- IN A MESSAGE that has the tag
+pub rejected-is : (m : MsgType) (t : ℕ) (v : Bytes) {k : Kind} → listed (rowsOf m) t ≡ true → k ≡ kindIn (rowsOf m) t → rejected m t v ≡ unwritten k v
+unfolding rejected unwritten
+rejected-is m t v l e = rw (l, e)
+
+-- in one that has not
+pub rejected-other : (m : MsgType) (t : ℕ) (v : Bytes) → listed (rowsOf m) t ≡ false → rejected m t v ≡ true
+unfolding rejected
+rejected-other m t v l = rw l

@@ -1,0 +1,121 @@
+-- Values of a message that are fit: absent where the message has no such field, and how long the row of the others can be.
+use Prim.Native.Nat.{ℕ, zero, suc, _+_, _≤_}
+use native.Mathlib.Omega.{arith}
+use mathlib.Core.Path.{_≡_, refl, sym, ap, _∙_, subst}
+use mathlib.Core.List.{List, [], _∷_, _++_}
+use mathlib.Core.Bool.{Bool, true, false, cond, _&&_, _||_, false≢true}
+use mathlib.Core.Option.{Option, none, some}
+use lib.Dec.{eqb, leb, ltb}
+use lib.ListN.{length, take, length-append}
+use borrow.Author.Tests.{eqb-true, eq-eqb, leb-true}
+use Rattle.frame.specs.Bytes.{Bytes, fix, any, all, has, decimal}
+use Rattle.frame.proofs.Numerals.{both}
+use Rattle.kinds.specs.Kind.{kindOf}
+use Rattle.dictionary.specs.declared.MsgType.{MsgType}
+use Rattle.dictionary.specs.Dictionary.{№453, №580, header, fields, code35, administrative, groupsOf, rowsOf, listed, kindIn}
+use Rattle.writer.specs.Message.{Value, _is_, shown, tagged, row, valued, order, message}
+use Rattle.writer.specs.Tags.{tags}
+use Rattle.writer.specs.Call.{unwritable, unfit}
+use Rattle.writer.specs.Held.{most}
+use Rattle.writer.proofs.Accepted.{accepted, or-last, neither, kind-length}
+use Rattle.writer.proofs.Seven.{each, filtered, known}
+
+-- each of some values is fit
+abbrev pub Fine : MsgType → (ℕ → Value) → List ℕ → Type 0
+Fine m vs ts = (t : ℕ) → has ts t ≡ true → unfit m (t is vs t) ≡ false
+
+pub fine-later : (m : MsgType) (vs : ℕ → Value) (t : ℕ) (ts : List ℕ) → Fine m vs (t ∷ ts) → Fine m vs ts
+fine-later m vs t ts f u h = f u (or-last (eqb t u) (has ts u) h)
+
+pub fine-first : (m : MsgType) (vs : ℕ → Value) (t : ℕ) (ts : List ℕ) → Fine m vs (t ∷ ts) → unfit m (t is vs t) ≡ false
+fine-first m vs t ts f = f t (rw (eq-eqb t t refl))
+
+pub all-fine : (m : MsgType) (vs : ℕ → Value) (ts : List ℕ) → any (unfit m) (valued vs ts) ≡ false → Fine m vs ts
+all-fine m vs [] h u k = absurd (false≢true k)
+all-fine m vs (t ∷ ts) h u k = let w = neither (unfit m (t is vs t)) (any (unfit m) (valued vs ts)) h in go (eqb t u) refl k (w .0) (all-fine m vs ts (w .1) u)
+  where
+    go : (b : Bool) → eqb t u ≡ b → (b || has ts u) ≡ true → unfit m (t is vs t) ≡ false → (has ts u ≡ true → unfit m (u is vs u) ≡ false) → unfit m (u is vs u) ≡ false
+    go true e g x f = subst (λ (y : ℕ). unfit m (y is vs y) ≡ false) (eqb-true t u e) x
+    go false e g x f = f g
+
+-- WHAT A MESSAGE DOES NOT HAVE is absent
+pub not-own : (m : MsgType) (t : ℕ) (o : Option Bytes) → unwritable m t o ≡ false → listed (rowsOf m) t ≡ false → o ≡ none
+not-own m t none u l = refl
+not-own m t (some v) u l = absurd (false≢true (sym l ∙ accepted m t v u .own))
+
+row-filtered : (p : ℕ → Bool) (vs : ℕ → Value) (ts : List ℕ) → ((t : ℕ) → has ts t ≡ true → p t ≡ false → shown (vs t) ≡ none)
+    → row (valued vs ts) ≡ row (valued vs (filtered p ts))
+unfolding filtered
+row-filtered p vs [] f = refl
+row-filtered p vs (t ∷ ts) f = go (p t) refl (row-filtered p vs ts (λ u h. f u (or-last (eqb t u) (has ts u) h)))
+  where
+    go : (b : Bool) → p t ≡ b → row (valued vs ts) ≡ row (valued vs (filtered p ts)) → tagged t (shown (vs t)) ++ row (valued vs ts) ≡ row (valued vs (cond b (t ∷ filtered p ts) (filtered p ts)))
+    go true e r = ap (λ (l : Bytes). tagged t (shown (vs t)) ++ l) r
+    go false e r = ap (λ (o : Option Bytes). tagged t o ++ row (valued vs ts)) (f t (rw (eq-eqb t t refl)) e) ∙ r
+
+-- so the row of all values is the row of the message's
+pub all-tags : (m : MsgType) → administrative m ≡ true → (vs : ℕ → Value) → Fine m vs tags → row (valued vs tags) ≡ row (valued vs (order m))
+all-tags m a vs f =
+    row-filtered (listed (rowsOf m)) vs tags (λ t h l. not-own m t (shown (vs t)) (f t h) l) ∙ ap (λ (ts : List ℕ). row (valued vs ts)) (known m a .only)
+
+-- HOW LONG A ROW CAN BE
+unfoldable pub width : MsgType → ℕ → ℕ
+width m t = cond (listed (rowsOf m) t) (length (decimal t) + most (kindIn (rowsOf m) t) + 2) 0
+
+unfoldable pub widths : MsgType → List ℕ → ℕ
+widths m [] = 0
+widths m (t ∷ ts) = width m t + widths m ts
+
+pub length-tagged : (t : ℕ) (v : Bytes) → length (tagged t (some v)) ≡ length (decimal t) + length v + 2
+length-tagged t v = omega (arith, length-append (decimal t ++ fix "=" ++ v) (fix "|"), length-append (decimal t ++ fix "=") v, length-append (decimal t) (fix "="))
+
+field-short : (m : MsgType) (t : ℕ) (o : Option Bytes) → unwritable m t o ≡ false → length (tagged t o) ≤ width m t
+unfolding width
+field-short m t none u = omega arith
+field-short m t (some v) u =
+    let A = accepted m t v u in
+    rw (A .own) (omega (arith, length-tagged t v, kind-length (kindIn (rowsOf m) t) v (A .form) (A .right)))
+
+pub row-short : (m : MsgType) (vs : ℕ → Value) (ts : List ℕ) → Fine m vs ts → length (row (valued vs ts)) ≤ widths m ts
+unfolding widths
+row-short m vs [] f = omega arith
+row-short m vs (t ∷ ts) f =
+    omega (arith, length-append (tagged t (shown (vs t))) (row (valued vs ts)), field-short m t (shown (vs t)) (fine-first m vs t ts f), row-short m vs ts (fine-later m vs t ts f))
+
+widths-short : (m : MsgType) → administrative m ≡ true → leb (widths m tags) 485 ≡ true
+unfolding width widths tags rowsOf header fields groupsOf №453 №580 kindOf decimal
+widths-short =
+    each (λ m. leb (widths m tags) 485 ≡ true)
+    (record { heartbeat = refl; test-request = refl; resend-request = refl; reject = refl; sequence-reset = refl; logout = refl; logon = refl })
+
+pub widest : (m : MsgType) → administrative m ≡ true → widths m tags ≤ 485
+widest m a = leb-true (widths m tags) 485 (widths-short m a)
+
+-- the first k of them
+widths-first : (m : MsgType) (k : ℕ) (ts : List ℕ) → widths m (take k ts) ≤ widths m ts
+unfolding widths
+widths-first m zero ts = omega arith
+widths-first m (suc k) [] = omega arith
+widths-first m (suc k) (t ∷ ts) = omega (arith, widths-first m k ts)
+
+pub first-short : (m : MsgType) → administrative m ≡ true → (vs : ℕ → Value) (k : ℕ) → any (unfit m) (valued vs (take k tags)) ≡ false → length (row (valued vs (take k tags))) ≤ 485
+first-short m a vs k h = omega (arith, row-short m vs (take k tags) (all-fine m vs (take k tags) h), widths-first m k tags, widest m a)
+
+-- A WHOLE BODY, of at most 490 bytes
+pub type-byte : (m : MsgType) → administrative m ≡ true → (all (λ x. ltb x 256) (code35 m) && eqb (length (code35 m)) 1) ≡ true
+unfolding code35
+type-byte =
+    each (λ m. (all (λ x. ltb x 256) (code35 m) && eqb (length (code35 m)) 1) ≡ true)
+    (record { heartbeat = refl; test-request = refl; resend-request = refl; reject = refl; sequence-reset = refl; logout = refl; logon = refl })
+
+pub one-byte : (m : MsgType) → administrative m ≡ true → length (code35 m) ≡ 1
+one-byte m a = eqb-true (length (code35 m)) 1 (both (all (λ x. ltb x 256) (code35 m)) (eqb (length (code35 m)) 1) (type-byte m a) .1)
+
+module _ (m : MsgType) (a : administrative m ≡ true) (vs : ℕ → Value) where
+  pub body-length : length (row (message m vs)) ≡ 5 + length (row (valued vs (order m)))
+  unfolding decimal
+  body-length =
+      omega (arith, length-append (tagged 35 (some (code35 m))) (row (valued vs (order m))), length-tagged 35 (code35 m), one-byte m a)
+
+  pub body-longest : Fine m vs tags → length (row (message m vs)) ≤ 490
+  body-longest f = omega (arith, body-length, ap length (all-tags m a vs f), row-short m vs tags f, widest m a)

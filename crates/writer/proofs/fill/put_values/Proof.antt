@@ -1,0 +1,187 @@
+-- `put_values`: up to place k the values are fit and their fields stand one behind the other.
+use borrow.Author.Needs.{needs}
+use native.Mathlib.Omega.{arith}
+use Prim.Native.Nat.{_-_, _≤_, _<_}
+use denote.Ref.{now}
+use mathlib.Core.Path.{_≡_, refl, sym, ap, _∙_}
+use mathlib.Core.Bool.{true, false}
+use lib.ListN.{length, take}
+use Rattle.frame.specs.Bytes.{any}
+use Rattle.dictionary.specs.declared.MsgType.{MsgType}
+use Rattle.dictionary.specs.Dictionary.{administrative}
+use Rattle.writer.specs.Message.{row, valued}
+use Rattle.writer.specs.Tags.{tags}
+use Rattle.writer.specs.Call.{valueIn, unfit, refused8}
+use Rattle.writer.specs.Wrote.{Wrote}
+use Rattle.writer.specs.Held.{tagAt, Marked}
+use Rattle.writer.proofs.Writes.{nothing, reword}
+use Rattle.writer.proofs.Sizes.{first-short}
+use Rattle.writer.proofs.Filling.{slot-bounds, put-here, told, put-further, fit-further, unfit-here, all-put}
+use Rattle.writer.proofs.fill.put_values.Statement.{statement}
+use Rattle.writer.proofs.fill.put_values.Tie as tie
+
+abbrev Inv-loop : tie.InvT-loop
+Inv-loop buf₀ at text values table marks to₀ k₀ buf to k =
+    (k ≤ 21)
+    × ((length buf ≡ length buf₀)
+    × (Wrote buf₀ buf at to (row (valued (valueIn values text) (take k tags)))
+    × ((m : MsgType) → administrative m ≡ true → Marked m marks → any (unfit m) (valued (valueIn values text) (take k tags)) ≡ false)))
+
+abbrev μ-loop : tie.MeasureT-loop
+μ-loop buf₀ at text values table marks to₀ k₀ buf to k = 21 - k
+
+slots-requires : tie.Need-slots-requires Inv-loop μ-loop
+slots-requires c κs = search needs
+
+marks-of-requires : tie.Need-marks-of-requires Inv-loop μ-loop
+marks-of-requires c κs = search needs
+
+loop-holds : tie.Need-loop-holds Inv-loop μ-loop
+loop-holds c = (omega arith, (refl, (nothing, λ m a M. refl)))
+
+mul-slot : tie.Need-mul-slot Inv-loop μ-loop
+mul-slot c = search needs
+
+array-copy-out-slot : tie.Need-array-copy-out-slot Inv-loop μ-loop
+array-copy-out-slot c = search needs
+
+bit-requires : tie.Need-bit-requires Inv-loop μ-loop
+bit-requires c κs = search needs
+
+bit-requires-2 : tie.Need-bit-requires-2 Inv-loop μ-loop
+bit-requires-2 c κs = search needs
+
+element-copy-out-t24 : tie.Need-element-copy-out-t24 Inv-loop μ-loop
+element-copy-out-t24 c = search needs
+
+mul-t17 : tie.Need-mul-t17 Inv-loop μ-loop
+mul-t17 c = search needs
+
+element-copy-out-t27 : tie.Need-element-copy-out-t27 Inv-loop μ-loop
+element-copy-out-t27 c = search needs
+
+mul-t28 : tie.Need-mul-t28 Inv-loop μ-loop
+mul-t28 c = search needs
+
+element-copy-out-t31 : tie.Need-element-copy-out-t31 Inv-loop μ-loop
+element-copy-out-t31 c = search needs
+
+mul-t32 : tie.Need-mul-t32 Inv-loop μ-loop
+mul-t32 c = search needs
+
+element-copy-out-t35 : tie.Need-element-copy-out-t35 Inv-loop μ-loop
+element-copy-out-t35 c = search needs
+
+put-entry-requires : tie.Need-put-entry-requires Inv-loop μ-loop
+put-entry-requires c κs =
+    let s = c .before .before .before .before .before .before .before .before .before .before .before .before .before .before in
+    let l = c .before .before .before .before .before .before .before .before .before .loop in
+    let k : l .k < 21 = omega arith in
+    let vs = valueIn (s .args .t4) (now (s .args .text)) in
+    let M = c .before .before .before .before .before .before .before .before .before .before .marks-of .ensures in
+    let S = c .before .before .before .before .before .before .before .before .before .before .before .slots in
+    let t = slot-bounds (S .result) (S .ensures) (l .k) k in
+    let f = first-short (s .args .m) (s .pre .0) vs (l .k) (l .inv .1 .1 .1 (s .args .m) (s .pre .0) M) in
+    (t .0, t .1, omega (arith, f, l .inv .1 .1 .0 .next, l .inv .1 .0, s .pre .1))
+
+enum-known-next : tie.Need-enum-known-next Inv-loop μ-loop
+enum-known-next c = search needs
+
+enum-told : tie.Need-enum-told Inv-loop μ-loop
+enum-told c = search needs
+
+same-length : tie.Need-same-length Inv-loop μ-loop
+same-length c = search needs
+
+returns : tie.Need-returns Inv-loop μ-loop
+returns c =
+    let s = c .before .before .before .before .before .before .before .before .before .before .before .before .before .before .before .before .before .before .before in
+    let l = c .before .before .before .before .before .before .before .before .before .before .before .before .before .before .loop in
+    let k : l .k < 21 = omega arith in
+    let vs = valueIn (s .args .t4) (now (s .args .text)) in
+    let M = c .before .before .before .before .before .before .before .before .before .before .before .before .before .before .before .marks-of .ensures in
+    let S = c .before .before .before .before .before .before .before .before .before .before .before .before .before .before .before .before .slots in
+    let p = c .before .before .before .before .put-entry in
+    let one = c .before .before .before .before .before .before .before .before .before .before .before .bit in
+    let two = c .before .before .before .before .before .before .before .before .before .before .bit2 in
+    let here =
+    put-here (S .result) (S .ensures) (l .k) k (s .args .t4) (now (s .args .text)) (c .before .before .before .before .before .before .before .before .before .before .before .before .before .before .before .marks-of .result) (one .result) (two .result) (one .ensures) (two .ensures) (l .buf)
+    (p .last .0) (l .to) (p .result) (p .ensures) in
+    let r = told (c .enum-told .given .1) (tagAt (l .k)) (vs (tagAt (l .k))) (l .buf) (p .last .0) (l .to) (c .before .before .before .before .before .before .before .before .before .before .before .before .before .before .before .marks-of .result) here in
+    unfit-here (s .args .m) vs (l .k) k (r (s .args .m) (s .pre .0) M)
+
+add-k : tie.Need-add-k Inv-loop μ-loop
+add-k c = search needs
+
+loop-less : tie.Need-loop-less Inv-loop μ-loop
+loop-less c = search needs
+
+loop-again : tie.Need-loop-again Inv-loop μ-loop
+loop-again c =
+    let s = c .before .before .before .before .before .before .before .before .before .before .before .before .before .before .before .before .before .before .before .before in
+    let l = c .before .before .before .before .before .before .before .before .before .before .before .before .before .before .before .loop in
+    let k : l .k < 21 = omega arith in
+    let vs = valueIn (s .args .t4) (now (s .args .text)) in
+    let M = c .before .before .before .before .before .before .before .before .before .before .before .before .before .before .before .before .marks-of .ensures in
+    let S = c .before .before .before .before .before .before .before .before .before .before .before .before .before .before .before .before .before .slots in
+    let p = c .before .before .before .before .before .put-entry in
+    let one = c .before .before .before .before .before .before .before .before .before .before .before .before .bit in
+    let two = c .before .before .before .before .before .before .before .before .before .before .before .bit2 in
+    let here =
+    put-here (S .result) (S .ensures) (l .k) k (s .args .t4) (now (s .args .text)) (c .before .before .before .before .before .before .before .before .before .before .before .before .before .before .before .before .marks-of .result) (one .result) (two .result) (one .ensures) (two .ensures) (l .buf)
+    (p .last .0) (l .to) (p .result) (p .ensures) in
+    let at = told (c .before .next .given .1) (tagAt (l .k)) (vs (tagAt (l .k))) (l .buf) (p .last .0) (l .to) (c .before .before .before .before .before .before .before .before .before .before .before .before .before .before .before .before .marks-of .result) here in (
+      omega arith,
+      (
+        omega (arith, p .kept, l .inv .1 .0),
+        (
+          put-further vs (l .k) k (l .inv .1 .1 .0) (at (s .args .m) (s .pre .0) M .1),
+          λ m a N. fit-further m vs (l .k) k (l .inv .1 .1 .1 m a N) (at m a N .0),
+        ),
+      ),
+    )
+
+same-length-2 : tie.Need-same-length-2 Inv-loop μ-loop
+same-length-2 c = search needs
+
+returns-2 : tie.Need-returns-2 Inv-loop μ-loop
+unfolding refused8
+returns-2 c =
+    let s = c .before .before .before .before .before .before in
+    let l = c .before .loop in
+    let vs = valueIn (s .args .t4) (now (s .args .text)) in
+    let e = ap (valued vs) (all-put (l .k) (omega arith)) in (
+      ap (any (unfit (s .args .m))) (sym e) ∙ l .inv .1 .1 .1 (s .args .m) (s .pre .0) (c .before .before .marks-of .ensures),
+      reword (ap row e) (l .inv .1 .1 .0),
+    )
+
+pub put-values-spec : {M : Type 1} → statement M
+put-values-spec =
+    tie.close
+    (tie.spec
+    Inv-loop
+    μ-loop
+    slots-requires
+    marks-of-requires
+    loop-holds
+    mul-slot
+    array-copy-out-slot
+    bit-requires
+    bit-requires-2
+    element-copy-out-t24
+    mul-t17
+    element-copy-out-t27
+    mul-t28
+    element-copy-out-t31
+    mul-t32
+    element-copy-out-t35
+    put-entry-requires
+    enum-known-next
+    enum-told
+    same-length
+    returns
+    add-k
+    loop-less
+    loop-again
+    same-length-2
+    returns-2)

@@ -1,0 +1,35 @@
+-- `put_frame`: the sum is taken over what stands before the trailer.
+use borrow.Author.Needs.{needs}
+use native.Mathlib.Omega.{arith}
+use Prim.Native.Nat.{_%_}
+use mathlib.Core.Path.{ap, _∙_}
+use Rattle.frame.specs.Bytes.{Bytes, sum}
+use Rattle.frame.specs.Frame.{trailer}
+use Rattle.writer.specs.Message.{framed}
+use Rattle.writer.proofs.Writes.{chain, reword, part-of}
+use Rattle.writer.proofs.put.put_frame.Statement.{statement}
+use Rattle.writer.proofs.put.put_frame.Tie as tie
+
+put-front-requires : tie.Need-put-front-requires
+put-front-requires c κs = search needs
+
+checksum-requires : tie.Need-checksum-requires
+checksum-requires c κs = search needs
+
+put-trailer-requires : tie.Need-put-trailer-requires
+put-trailer-requires c κs = search needs
+
+same-length : tie.Need-same-length
+same-length c = search needs
+
+returns : tie.Need-returns
+unfolding framed
+returns c =
+    let f = c .before .before .before .before .before .before .before .before .put-front .ensures in
+    let e = ap (λ (l : Bytes). trailer (sum l % 256)) (part-of (f .0) (omega arith)) in
+    chain (f .0) (reword (ap trailer (c .before .before .before .before .checksum .ensures) ∙ e) (c .before .before .put-trailer .ensures))
+
+pub put-frame-spec : {M : Type 1} → statement M
+put-frame-spec =
+    tie.close
+    (tie.spec put-front-requires checksum-requires put-trailer-requires same-length returns)

@@ -1,0 +1,34 @@
+-- `put_number`: tag, digits and `|`.
+use borrow.Author.Needs.{needs}
+use native.Mathlib.Omega.{arith}
+use Rattle.writer.proofs.Writes.{chain, few-digits}
+use Rattle.writer.proofs.put.put_number.Statement.{statement}
+use Rattle.writer.proofs.put.put_number.Tie as tie
+
+put-tag-requires : tie.Need-put-tag-requires
+put-tag-requires c κs = search needs
+
+put-decimal-requires : tie.Need-put-decimal-requires
+put-decimal-requires c κs =
+    let s = c .before .before .before .before .before .before in
+    (omega arith, omega (arith, few-digits 8 (s .args .n) (omega arith)))
+
+put-byte-requires : tie.Need-put-byte-requires
+put-byte-requires c κs =
+    let s = c .before .before .before .before .before .before .before .before .before .before in
+    omega (arith, few-digits 8 (s .args .n) (omega arith))
+
+same-length : tie.Need-same-length
+same-length c = search needs
+
+returns : tie.Need-returns
+returns c =
+    let s = c .before .before .before .before .before .before .before .before .before .before .before .before .before in (
+      chain (chain (c .before .before .before .before .before .before .before .before .before .before .put-tag .ensures .0) (c .before .before .before .before .before .before .put-decimal .ensures)) (c .before .before .put-byte .ensures),
+      omega (arith, few-digits 8 (s .args .n) (omega arith)),
+    )
+
+pub put-number-spec : {M : Type 1} → statement M
+put-number-spec =
+    tie.close
+    (tie.spec put-tag-requires put-decimal-requires put-byte-requires same-length returns)

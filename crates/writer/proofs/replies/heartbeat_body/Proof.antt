@@ -1,0 +1,42 @@
+-- `heartbeat_body`: the head, and 112 if it is there.
+use borrow.Author.Needs.{needs}
+use native.Mathlib.Omega.{arith}
+use denote.Ref.{now}
+use mathlib.Core.List.{[], _∷_}
+use Rattle.frame.specs.Bytes.{fix}
+use Rattle.dictionary.specs.Dictionary.{fields, code35}
+use Rattle.writer.specs.Message.{_is_, order, own}
+use Rattle.writer.specs.Ranges.{headed}
+use Rattle.writer.specs.Reply.{optional}
+use Rattle.writer.proofs.Writes.{chain, nothing, more}
+use Rattle.writer.proofs.replies.heartbeat_body.Statement.{statement}
+use Rattle.writer.proofs.replies.heartbeat_body.Tie as tie
+
+slice-aggregate-put-head : tie.Need-slice-aggregate-put-head
+slice-aggregate-put-head c = search needs
+
+put-head-requires : tie.Need-put-head-requires
+put-head-requires c κs = search needs
+
+put-optional-requires : tie.Need-put-optional-requires
+put-optional-requires c κs = search needs
+
+same-length : tie.Need-same-length
+same-length c = search needs
+
+returns : tie.Need-returns
+unfolding order own fields code35
+returns c =
+    let p = c .before .before in
+    let h = p .before .before .before .before in
+    let s = h .before .before .before .before .before .before .before .before in
+    let a = s .args in (
+      more (headed (fix "0") (now (a .ours)) (now (a .peers)) (a .n) (now (a .time))) (112 is optional (a .there) (now (a .id)) ∷ []) (h .put-head .ensures .0)
+          (chain (p .put-optional .ensures .0) nothing),
+      omega (arith, s .pre .1, h .put-head .ensures .1, p .put-optional .ensures .1),
+    )
+
+pub heartbeat-body-spec : {M : Type 1} → statement M
+heartbeat-body-spec =
+    tie.close
+    (tie.spec slice-aggregate-put-head put-head-requires put-optional-requires same-length returns)

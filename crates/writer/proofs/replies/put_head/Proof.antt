@@ -1,0 +1,29 @@
+-- `put_head`: 52 behind them.
+use borrow.Author.Needs.{needs}
+use native.Mathlib.Omega.{arith}
+use denote.Ref.{now}
+use mathlib.Core.List.{[], _∷_}
+use Rattle.writer.specs.Message.{bytes, _is_}
+use Rattle.writer.specs.Ranges.{ids}
+use Rattle.writer.proofs.Writes.{chain, nothing, more}
+use Rattle.writer.proofs.replies.put_head.Statement.{statement}
+use Rattle.writer.proofs.replies.put_head.Tie as tie
+
+put-ids-requires : tie.Need-put-ids-requires
+put-ids-requires c κs = search needs
+
+put-text-requires : tie.Need-put-text-requires
+put-text-requires c κs = search needs
+
+same-length : tie.Need-same-length
+same-length c = search needs
+
+returns : tie.Need-returns
+returns c =
+    let s = c .before .before .before .before .before .before .before .before .before .before .before .before .before .args in (
+      more (ids (now (s .code)) (now (s .ours)) (now (s .peers)) (s .n)) (52 is bytes (now (s .time)) ∷ []) (c .before .before .before .before .before .before .put-ids .ensures .0) (chain (c .before .before .put-text .ensures .0) nothing),
+      omega arith,
+    )
+
+pub put-head-spec : {M : Type 1} → statement M
+put-head-spec = tie.close (tie.spec put-ids-requires put-text-requires same-length returns)

@@ -1,0 +1,43 @@
+-- `put_ids`: four fields one behind the other.
+use borrow.Author.Needs.{needs}
+use native.Mathlib.Omega.{arith}
+use Rattle.writer.proofs.Writes.{chain, nothing}
+use Rattle.writer.proofs.replies.put_ids.Statement.{statement}
+use Rattle.writer.proofs.replies.put_ids.Tie as tie
+
+put-text-requires : tie.Need-put-text-requires
+put-text-requires c κs = search needs
+
+put-text-requires-2 : tie.Need-put-text-requires-2
+put-text-requires-2 c κs = search needs
+
+put-text-requires-3 : tie.Need-put-text-requires-3
+put-text-requires-3 c κs = search needs
+
+put-number-requires : tie.Need-put-number-requires
+put-number-requires c κs = search needs
+
+same-length : tie.Need-same-length
+same-length c = search needs
+
+returns : tie.Need-returns
+returns c =
+    let t = c .before .before in
+    let r = t .before .before .before .before in
+    let q = r .before .before .before .before in
+    let p = q .before .before .before .before in
+    let s = p .before .before .before .before .before .before in (
+      chain (p .put-text .ensures .0) (chain (q .put-text2 .ensures .0) (chain (r .put-text3 .ensures .0) (chain (t .put-number .ensures .0) nothing))),
+      omega (arith, s .pre .0, s .pre .1, p .put-text .ensures .1, q .put-text2 .ensures .1, r .put-text3 .ensures .1, t .put-number .ensures .1),
+    )
+
+pub put-ids-spec : {M : Type 1} → statement M
+put-ids-spec =
+    tie.close
+    (tie.spec
+    put-text-requires
+    put-text-requires-2
+    put-text-requires-3
+    put-number-requires
+    same-length
+    returns)

@@ -1,0 +1,51 @@
+-- `resend_request_body`: the head, 7 and 16.
+use borrow.Author.Needs.{needs}
+use native.Mathlib.Omega.{arith}
+use denote.Ref.{now}
+use mathlib.Core.List.{[], _∷_}
+use Rattle.frame.specs.Bytes.{fix}
+use Rattle.dictionary.specs.Dictionary.{fields, code35}
+use Rattle.writer.specs.Message.{number, _is_, order, own}
+use Rattle.writer.specs.Ranges.{headed}
+use Rattle.writer.proofs.Writes.{chain, nothing, more}
+use Rattle.writer.proofs.replies.resend_request_body.Statement.{statement}
+use Rattle.writer.proofs.replies.resend_request_body.Tie as tie
+
+slice-aggregate-put-head : tie.Need-slice-aggregate-put-head
+slice-aggregate-put-head c = search needs
+
+put-head-requires : tie.Need-put-head-requires
+put-head-requires c κs = search needs
+
+put-number-requires : tie.Need-put-number-requires
+put-number-requires c κs = search needs
+
+put-number-requires-2 : tie.Need-put-number-requires-2
+put-number-requires-2 c κs = search needs
+
+same-length : tie.Need-same-length
+same-length c = search needs
+
+returns : tie.Need-returns
+unfolding order own fields code35
+returns c =
+    let q = c .before .before in
+    let p = q .before .before .before .before in
+    let h = p .before .before .before .before in
+    let s = h .before .before .before .before .before .before .before in
+    let a = s .args in (
+      more (headed (fix "2") (now (a .ours)) (now (a .peers)) (a .n) (now (a .time))) (7 is number (a .expected) ∷ 16 is number 0 ∷ []) (h .put-head .ensures .0)
+          (chain (p .put-number .ensures .0) (chain (q .put-number2 .ensures .0) nothing)),
+      omega (arith, s .pre .1, h .put-head .ensures .1, p .put-number .ensures .1, q .put-number2 .ensures .1),
+    )
+
+pub resend-request-body-spec : {M : Type 1} → statement M
+resend-request-body-spec =
+    tie.close
+    (tie.spec
+    slice-aggregate-put-head
+    put-head-requires
+    put-number-requires
+    put-number-requires-2
+    same-length
+    returns)

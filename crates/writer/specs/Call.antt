@@ -1,0 +1,95 @@
+-- The writer call: "the values of one of the seven administrative messages" in, refusal 8, refusal 9 or the message out.
+use Prim.Native.Nat.{ℕ, suc, _-_}
+use mathlib.Core.List.{List, [], _∷_, _++_}
+use mathlib.Core.Bool.{Bool, false, cond, not, _&&_, _||_}
+use mathlib.Core.Option.{Option, none, some}
+use lib.Dec.{eqb, leb, ltb}
+use lib.ListN.{length, take, drop, getD}
+use Rattle.frame.specs.Bytes.{Bytes, byte, any, has}
+use Rattle.kinds.specs.Kind.{formed, allowed}
+use Rattle.dictionary.specs.declared.MsgType.{MsgType}
+use Rattle.dictionary.specs.Dictionary.{rowsOf, listed, kindIn, typeOf, administrative}
+use Rattle.writer.specs.Message.{Value, absent, number, bytes, Field, _is_, shown, valued, written}
+use Rattle.writer.specs.Tags.{tags, numeric}
+use Rattle.writer.specs.declared.Values.{Values}
+use Rattle.writer.specs.declared.Written.{Written}
+use Rattle.writer.specs.declared.Written.the-variants.{Message, Unfit, Short}
+
+-- THE VALUES. Each tag has its place in the arrays of `Values`; bytes lie in the text beside them, from a start to an end. A place that the text
+-- does not have holds no bytes, and "an empty value is one that the dictionary would reject".
+abbrev pub placeIn : List ℕ → ℕ → ℕ
+placeIn [] t = 0
+placeIn (u ∷ us) t = let later = suc (placeIn us t) in cond (eqb u t) 0 later
+
+abbrev pub part : Bytes → ℕ → ℕ → Bytes
+part text start end = cond (leb start end && leb end (length text)) (take (end - start) (drop start text)) []
+
+abbrev pub valueAt : Values → Bytes → ℕ → ℕ → Value
+valueAt vs text t k =
+    cond (getD (vs .given) k false)
+    (cond (numeric t) (number (getD (vs .numbers) k 0)) (bytes (part text (getD (vs .starts) k 0) (getD (vs .ends) k 0))))
+    absent
+
+-- the value for a tag
+unfoldable pub valueIn : Values → Bytes → ℕ → Value
+valueIn vs text t = valueAt vs text t (placeIn tags t)
+
+-- REFUSAL 8: "a value to write that the dictionary would reject, a required one absent, another type"
+-- "a value .. that the dictionary would reject": not for this message, empty, with a `|` in it, of bad form or a bad value
+unfoldable pub rejected : MsgType → ℕ → Bytes → Bool
+rejected m t v =
+    not (listed (rowsOf m) t) || eqb (length v) 0 || has v (byte "|") || not (formed (kindIn (rowsOf m) t) v) || not (allowed (kindIn (rowsOf m) t) v)
+
+-- "a required one absent"
+unfoldable pub required : MsgType → ℕ → Bool
+required m t = any (λ r. eqb (r .tag) t && r .required) (rowsOf m)
+
+-- a value is unfit if it is absent and required, or there and rejected
+abbrev pub unwritable : MsgType → ℕ → Option Bytes → Bool
+unwritable m t none = required m t
+unwritable m t (some v) = rejected m t v
+
+abbrev pub unfit : MsgType → Field → Bool
+unfit m (t is v) = unwritable m t (shown v)
+
+-- one of the values of a call is
+unfoldable pub refused8 : MsgType → (ℕ → Value) → Bool
+refused8 m vs = any (unfit m) (valued vs tags)
+
+-- "another type": none of the seven administrative messages
+abbrev pub ifAdministrative : Option MsgType → Option MsgType
+ifAdministrative none = none
+ifAdministrative (some m) = cond (administrative m) (some m) none
+
+unfoldable pub admin : Bytes → Option MsgType
+admin type = ifAdministrative (typeOf type)
+
+-- THE CALL, with all that it leaves. "Writer: 8, 9."
+pub record Outcome : Type 0 where
+  pub answer : Written
+  pub buffer : Bytes
+
+-- "under every refusal, the buffer keeps its old bytes"
+abbrev pub refusing : Written → Bytes → Outcome
+refusing refusal buf = record { answer = refusal; buffer = buf }
+
+-- the message at the front; behind it "the buffer keeps its old bytes"
+abbrev pub writing : Bytes → Bytes → Outcome
+writing w buf = record { answer = Message (length w); buffer = w ++ drop (length w) buf }
+
+-- refusal 9: "writer's buffer shorter than the message"
+abbrev pub fitted : Bytes → Bytes → Outcome
+fitted w buf = cond (ltb (length buf) (length w)) (refusing Short buf) (writing w buf)
+
+abbrev pub writeAs : Option MsgType → (ℕ → Value) → Bytes → Outcome
+writeAs none vs buf = refusing Unfit buf
+writeAs (some m) vs buf = cond (refused8 m vs) (refusing Unfit buf) (fitted (written m vs) buf)
+
+unfoldable pub write : Bytes → Values → Bytes → Bytes → Outcome
+write type vs text buf = writeAs (admin type) (valueIn vs text) buf
+
+-- this paper's number of the refusal, if it is one, and the values of each case: of a message its length
+abbrev pub numbers : Written → Option ℕ × List ℕ
+numbers (Message len) = (none, len ∷ [])
+numbers Unfit = (some 8, [])
+numbers Short = (some 9, [])

@@ -1,0 +1,10 @@
+pub mod Message
+pub mod Reply
+pub mod Tags
+pub mod Call
+pub mod Promise
+pub mod Whole
+pub mod Wrote
+pub mod Ranges
+pub mod Held
+pub mod Desk

@@ -1,0 +1,68 @@
+-- Administrative messages as lists of fields, and the bytes of a message.
+use Prim.Native.Nat.{ℕ}
+use mathlib.Core.List.{List, [], _∷_, _++_, map}
+use mathlib.Core.Bool.{cond}
+use mathlib.Core.Option.{Option, none, some}
+use lib.Dec.{eqb}
+use lib.ListN.{length}
+use Rattle.frame.specs.Bytes.{Bytes, fix, same, decimal}
+use Rattle.frame.specs.Frame.{fixt, front, trailer, sumOf}
+use Rattle.dictionary.specs.declared.MsgType.{MsgType}
+use Rattle.dictionary.specs.Dictionary.{code35, fields}
+
+infix 68 _is_
+-- "numbers as numbers, others as bytes"; a value may be absent
+pub data Value : Type 0 where
+  absent : Value
+  number : ℕ → Value
+  bytes : Bytes → Value
+
+pub data Field : Type 0 where
+  _is_ : ℕ → Value → Field
+
+-- the bytes that a value is written as, if it is there
+abbrev pub shown : Value → Option Bytes
+shown absent = none
+shown (number n) = some (decimal n)
+shown (bytes v) = some v
+
+-- "`tag=value|`"; an absent value leaves no field
+abbrev pub tagged : ℕ → Option Bytes → Bytes
+tagged t none = []
+tagged t (some v) = decimal t ++ fix "=" ++ v ++ fix "|"
+
+abbrev pub field : Field → Bytes
+field (t is v) = tagged t (shown v)
+
+-- "A body is a row of fields"
+abbrev pub row : List Field → Bytes
+row [] = []
+row (f ∷ fs) = field f ++ row fs
+
+-- the frame around a body: "the start mark; the body length ..; `|`; a body ..; then `10=`, three digits, `|`"
+unfoldable pub framed : Bytes → Bytes
+framed body = front fixt (decimal (length body)) body ++ trailer (sumOf fixt (decimal (length body)) body)
+
+-- "then the message's fields as listed (type 4: 123, 36)"
+unfoldable pub own : MsgType → List ℕ
+own m = cond (same (code35 m) (fix "4")) (123 ∷ 36 ∷ []) (map (λ r. r .tag) (fields m))
+
+-- "Reply order: 35, 49, 56, 34, 43, 52, 122, then the message's fields"
+unfoldable pub order : MsgType → List ℕ
+order m = 49 ∷ 56 ∷ 34 ∷ 43 ∷ 52 ∷ 122 ∷ own m
+
+abbrev pub valued : (ℕ → Value) → List ℕ → List Field
+valued vs ts = map (λ t. t is vs t) ts
+
+-- the fields of a message of type m, with a value or none for each tag
+abbrev pub message : MsgType → (ℕ → Value) → List Field
+message m vs = 35 is bytes (code35 m) ∷ valued vs (order m)
+
+-- its bytes
+unfoldable pub written : MsgType → (ℕ → Value) → Bytes
+written m vs = framed (row (message m vs))
+
+-- values given as a list of fields in any order: the first for a tag stands
+abbrev pub given : List Field → ℕ → Value
+given [] t = absent
+given ((u is v) ∷ fs) t = let later = given fs t in cond (eqb u t) v later
