@@ -1,5 +1,7 @@
 // The desk: worked cases from its input, one a line, each written back with what the library says of it.
 // `verdict BODY` asks for the verdict on a body, `read BYTES` for one reading; `|` is the byte 1; a line that begins with # is a heading.
+mod letters;
+
 use dictionary::Verdict;
 use frame::Reading;
 use print::print_bytes;
@@ -133,4 +135,5 @@ fn main() {
     let n = io::read_full(0, &mut buf);
     unbar(&mut buf);
     answer_first(&buf, n);
+    letters::letters();
 }

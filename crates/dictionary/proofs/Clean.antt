@@ -9,14 +9,14 @@ use mathlib.Core.Option.{Option, none, some}
 use mathlib.Core.Logic.{_⊎_, inl, inr}
 use lib.Dec.{eqb, leb}
 use lib.ListN.{length, drop}
-use Rattle.frame.specs.Bytes.{Bytes, fix, any, has, starts, within, decimal}
+use Rattle.frame.specs.Bytes.{Bytes, fix, any, has, starts, within, value, decimal}
 use Rattle.fields.specs.Field.{Part, field, malformed, partOf, parts, firstOfParts, firstField, isBody}
 use Rattle.frame.proofs.Decimals.{decimal-numeral, decimal-worth}
 use Rattle.fields.proofs.Items.{field-part}
 use Rattle.fields.proofs.Firsts.{tagged, part-split}
-use Rattle.kinds.specs.Kind.{formed, allowed}
+use Rattle.kinds.specs.Kind.{number_to_, isNumber, formed, allowed}
 use Rattle.dictionary.specs.Dictionary.{Row, header, fields, kindIn, rowsOf, inDictionary}
-use Rattle.dictionary.specs.Verdict.{Open, Place, outside, inside, Past, _when_, firstOf, missing, closing, left, rule9, rule10, said, skipped, taken, after, verdictBy, walk, nothingYet, msgType, verdict}
+use Rattle.dictionary.specs.Verdict.{Open, Place, outside, inside, Past, _when_, firstOf, missing, closing, left, rule9, rule10, said, skipped, taken, after, verdictBy, walk, nothingYet, msgType, judgedAs, verdict}
 use Rattle.dictionary.specs.declared.MsgType.{MsgType}
 use Rattle.dictionary.specs.declared.Says.{Says}
 use Rattle.dictionary.specs.declared.Says.the-variants.{Nothing, Reason}
@@ -166,6 +166,16 @@ clean-walk m body h t = go (isBody body) (rw t at h)
     go true e = e
     go false e = let z : _≡_ {A = ℕ} 0 1 = cc in absurd (omega arith)
 
+-- ITS TYPE IS ONE OF THE NINE
+pub clean-type : (body : Bytes) → verdict body ≡ Clean → (m : MsgType) × (msgType body ≡ some m)
+unfolding verdict
+clean-type body h = go (isBody body) (msgType body) h
+  where
+    go : (b : Bool) (o : Option MsgType) → cond b (judgedAs o body) NoBody ≡ Clean → (m : MsgType) × (o ≡ some m)
+    go true none e = let z : _≡_ {A = ℕ} 0 1 = cc in absurd (omega arith)
+    go true (some m) e = (m, refl)
+    go false o e = let z : _≡_ {A = ℕ} 0 1 = cc in absurd (omega arith)
+
 -- THE FIRST FIELD OF A TAG OF THE DICTIONARY IS OF ITS KIND
 pub clean-kind : (m : MsgType) (t : ℕ) (body v : Bytes) → verdict body ≡ Clean → msgType body ≡ some m → within 1 99_999 t ≡ true → inDictionary t ≡ true
     → firstField t body ≡ some v → OfKind m t v
@@ -181,3 +191,8 @@ clean-required m t body h y n r = go (walk-required m t (within-low t n) (within
     go : (_≡_ {A = Bool} false true) ⊎ Found m t (within-low t n) (within-high t n) (parts body) → (v : Bytes) × (firstOfParts (tagged t) (parts body) ≡ some v)
     go (inl x) = absurd (false≢true x)
     go (inr f) = f
+
+-- a number that a move reads is one, and in its range
+pub number-kind : (m : MsgType) (t : ℕ) (v : Bytes) (a b : ℕ) → kindIn (rowsOf m) t ≡ number a to b → OfKind m t v → (isNumber v ≡ true) × (within a b (value v) ≡ true)
+unfolding formed allowed
+number-kind m t v a b e K = (rw e at (K .form), rw e at (K .value))

@@ -14,9 +14,8 @@ use Rattle.fields.specs.First.{First, valueAt, Inside}
 use Rattle.fields.specs.declared.Place.{Place}
 use Rattle.fields.specs.declared.Place.the-variants.{At, Absent}
 use Rattle.kinds.proofs.Values.{same-long, same-true}
-use Rattle.dictionary.specs.Dictionary.{code35, typeOf}
+use Rattle.dictionary.specs.Dictionary.{code35, typeOf, typeIs}
 use Rattle.dictionary.specs.Verdict.{typeBy, judgedAs, walk, nothingYet, verdict}
-use Rattle.dictionary.specs.Held.{typeIs}
 use Rattle.dictionary.specs.declared.MsgType.{MsgType}
 use Rattle.dictionary.specs.declared.MsgType.the-variants.{TradeCaptureReportRequest}
 use Rattle.dictionary.specs.declared.Verdict.{Verdict}

@@ -9,6 +9,8 @@ use Rattle.frame.specs.Bytes.{Bytes, byte, fix, any, has, same}
 use Rattle.fields.specs.Field.{cut}
 use Rattle.kinds.specs.Kind.{Kind, text, number_to_, among, kindOf}
 use Rattle.dictionary.specs.declared.MsgType.{MsgType}
+use Rattle.dictionary.specs.declared.walk.Named.{Named}
+use Rattle.dictionary.specs.declared.walk.Named.the-variants.{Of, Other}
 use Rattle.dictionary.specs.declared.MsgType.the-variants.{Heartbeat, TestRequest, ResendRequest, Reject, SequenceReset, Logout, Logon, OrderCancelRequest, TradeCaptureReportRequest}
 
 pub record Row : Type 0 where
@@ -103,6 +105,11 @@ typeAmong (m ∷ ms) v = cond (same v (code35 m)) (some m) (typeAmong ms v)
 
 unfoldable pub typeOf : Bytes → Option MsgType
 typeOf v = typeAmong theNine v
+
+-- what the code's answer stands for
+abbrev pub typeIs : Named → Option MsgType
+typeIs (Of m) = some m
+typeIs Other = none
 
 -- AD and F are application messages, the others administrative
 unfoldable pub administrative : MsgType → Bool

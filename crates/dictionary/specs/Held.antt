@@ -4,7 +4,6 @@ use mathlib.Core.Path.{_≡_}
 use mathlib.Core.Logic.{_⊎_}
 use mathlib.Core.List.{List, [], _∷_, _++_, map}
 use mathlib.Core.Bool.{Bool, true, false, cond, not, _&&_, _||_}
-use mathlib.Core.Option.{Option, none, some}
 use lib.Dec.{eqb, ltb}
 use lib.ListN.{length, take, drop, getD}
 use Rattle.frame.specs.Bytes.{Bytes, any, all, has, same, value}
@@ -19,8 +18,6 @@ use Rattle.dictionary.specs.declared.Says.{Says}
 use Rattle.dictionary.specs.declared.Says.the-variants.{Nothing}
 use Rattle.dictionary.specs.declared.Verdict.{Verdict}
 use Rattle.dictionary.specs.declared.rules.State.{State}
-use Rattle.dictionary.specs.declared.walk.Named.{Named}
-use Rattle.dictionary.specs.declared.walk.Named.the-variants.{Of, Other}
 use Rattle.dictionary.specs.declared.table.Entry.{Entry}
 use Rattle.dictionary.specs.declared.table.Line.{Line}
 use Rattle.dictionary.specs.declared.table.Needed.{Needed}
@@ -114,7 +111,8 @@ right e =
 
 -- the entry that a line of the table is, and the computed test of the whole table
 abbrev pub entryOf : Line → Entry
-entryOf l = record { tag = l .0; kind = l .1; marks = l .2; member = l .3 }
+entryOf l =
+    record { tag = l .0; kind = l .1; marks = l .2; member = record { group = l .3; first = bitOf (l .2) 12; marks = l .2 / (2 ^ 16) } }
 
 pub record Table (t : List Line) : Type 0 where
   pub order : map (λ (l : Line). l .0) t ≡ tags
@@ -285,8 +283,3 @@ begunOf st = record { over = st .over; group = st .group; count = st .count; beg
 -- THE WALK. The end of the body.
 pub record Finished (m : MsgType) (seen met : List Bool) (st : State) (r : Verdict) : Type 0 where
   pub is : (w : Past) → Stands w seen met st → r ≡ walk m w []
-
--- the type that the code's enum stands for
-abbrev pub typeIs : Named → Option MsgType
-typeIs (Of m) = some m
-typeIs Other = none

@@ -51,8 +51,8 @@ missing [] met = Nothing
 missing (r ∷ rs) met = cond (r .required && not (has met (r .tag))) (reason 1 tag r .tag) (missing rs met)
 
 -- "1. it ends a group (its tag is no member, or it has no `=` or a malformed tag): a required member missing from the last instance, if one began,
--- reason 1 with that tag, first in group order; then a wrong count, 16 with the count tag. .. a new instance runs the first of these two checks
--- on the one before"
+-- reason 1 with that tag, first in group order; then a wrong count, 16 with the count tag. The end of the body ends a group too, and a new instance
+-- runs the first of these two checks on the one before"
 unfoldable pub incomplete : Open → Says
 incomplete g = missing (g .group .members) (g .last) when not (eqb (g .begun) 0)
 

@@ -5,10 +5,8 @@ use super::table::Entry;
 use super::table::Rows;
 use super::table::missing;
 ghost use mathlib.Core.Path.{_≡_};
-ghost use mathlib.Core.Bool.{false};
-ghost use Prim.Native.Nat.{_<_, _+_};
-ghost use Rattle.fields.specs.Field.{field};
-ghost use Rattle.dictionary.specs.Dictionary.{administrative, inDictionary};
+ghost use Prim.Native.Nat.{_<_};
+ghost use Rattle.dictionary.specs.Dictionary.{administrative};
 ghost use Rattle.dictionary.specs.Verdict.{rule4, rule6};
 ghost use Rattle.dictionary.specs.Held.{Index, index, bitOf, Right, Looked, insideOf, Incomplete, Closing, Rule1, Rule5, Rule7, Rule8, Rules9and10, OfMalformed, OfUnknown, OfKnown, Counted, Over, Noted, leftOf, begunOf};
 
@@ -104,18 +102,17 @@ pub fn rule_1(st: State, met: &[bool; 128], group: u32, first: bool) -> Says
     Says::Nothing
 }
 
+// Rule 4: empty value.
 fn rule_4(tag: u32, v: &[u8]) -> Says
     ensures { λ r. ⌜ r ≡ rule4 tag (now (v .entry)) ⌝ }
 {
     if v.len() == 0 {
-        return Says::Reason {
-            reason: 4,
-            tag: tag,
-        };
+        return Says::Reason { reason: 4, tag };
     }
     Says::Nothing
 }
 
+// Rule 5: a tag of the frame, or one outside groups seen before.
 fn rule_5(m: MsgType, e: Entry, seen: bool) -> Says
     requires { ⌜ Right e ⌝ }
     ensures { λ r. ⌜ Rule5 m (e .tag) seen r ⌝ }
@@ -138,6 +135,7 @@ fn rule_5(m: MsgType, e: Entry, seen: bool) -> Says
     Says::Nothing
 }
 
+// Rule 6: not for this message.
 fn rule_6(m: MsgType, e: Entry) -> Says
     requires { ⌜ Right e ⌝ }
     ensures { λ r. ⌜ r ≡ rule6 m (e .tag) ⌝ }
@@ -154,6 +152,7 @@ fn rule_6(m: MsgType, e: Entry) -> Says
     }
 }
 
+// Rule 7: a header tag after a non-header tag.
 fn rule_7(e: Entry, over: bool) -> Says
     requires { ⌜ Right e ⌝ }
     ensures { λ r. ⌜ Rule7 (e .tag) over r ⌝ }
@@ -180,6 +179,7 @@ pub fn is_inside(st: State, e: Entry) -> bool
     st.group == e.member.group
 }
 
+// Rule 8: a member outside its group, a first instance that doesn't begin with the first member, or another member twice in one.
 fn rule_8(m: MsgType, st: State, e: Entry, met: &[bool; 128], p: usize) -> Says
     requires { ⌜ Looked e p ⌝ }
     ensures { λ r. ⌜ Rule8 m (now (met .entry)) st (e .tag) r ⌝ }
@@ -249,10 +249,7 @@ pub fn of_unknown(m: MsgType, st: State, met: &[bool; 128], tag: u32) -> Says
     if is_administrative(m) {
         return Says::Nothing;
     }
-    Says::Reason {
-        reason: 3,
-        tag: tag,
-    }
+    Says::Reason { reason: 3, tag }
 }
 
 // What is said of a tag of the dictionary: rules 1 and 4 to 10.
@@ -324,14 +321,14 @@ pub fn noted(st: State, e: Entry, v: &[u8]) -> State
     let over = over_with(st.over, e);
     if bit(e.marks, 11) {
         return State {
-            over: over,
+            over,
             group: e.tag,
             count: count_of(v),
             begun: 0,
         };
     }
     State {
-        over: over,
+        over,
         group: 0,
         count: 0,
         begun: 0,

@@ -4,7 +4,6 @@ use super::Says;
 use kinds::Choice;
 use kinds::Kind;
 ghost use mathlib.Core.Path.{_≡_};
-ghost use Prim.Native.Nat.{_<_, _≤_};
 ghost use Rattle.dictionary.specs.Held.{entryOf, Table, Placed, Required, Missing, Spanned};
 
 // A tag's line of the dictionary: its kind, with the list of its values; the messages that have it outside groups; and the group that has it as a
@@ -23,7 +22,8 @@ pub struct Member {
     pub marks: u32,
 }
 
-// The marks of an entry: bits 0 to 8 for the nine messages, 9 for the header, 10 for a tag of the frame, 11 for the count of a group.
+// The marks of a line: bits 0 to 8 for the nine messages, 9 for the header, 10 for a tag of the frame, 11 for the count of a group, 12 for the
+// first member of one, and bits 16 to 24 for the nine messages again, where the tag is a member of a group.
 const IN_0: u32 = 1;
 
 const IN_1: u32 = 2;
@@ -48,6 +48,12 @@ const FRAME: u32 = 1024;
 
 const COUNT: u32 = 2048;
 
+const FIRST: u32 = 4096;
+
+const MEMBER_F: u32 = 65536 * IN_F;
+
+const MEMBER_AD: u32 = 65536 * IN_AD;
+
 const STRING: Kind = Kind::Text { most: 32 };
 
 const NUMBER: Kind = Kind::Number {
@@ -64,103 +70,73 @@ const ONE_TO_8: Kind = Kind::Number { least: 1, most: 8 };
 
 const ONE_OR_2: Kind = Kind::Number { least: 1, most: 2 };
 
-const NO_GROUP: Member = Member {
-    group: 0,
-    first: false,
-    marks: 0,
-};
+// A line of the table: tag, kind, marks, and the count tag of the group that has the tag as a member (0: none).
+pub struct Line(pub u32, pub Kind, pub u32, pub u32);
 
-const FIRST_453: Member = Member {
-    group: 453,
-    first: true,
-    marks: IN_F + IN_AD,
-};
-
-const OTHER_453: Member = Member {
-    group: 453,
-    first: false,
-    marks: IN_F + IN_AD,
-};
-
-const FIRST_580: Member = Member {
-    group: 580,
-    first: true,
-    marks: IN_AD,
-};
-
-const OTHER_580: Member = Member {
-    group: 580,
-    first: false,
-    marks: IN_AD,
-};
-
-// A line of the table: an entry's fields in their order.
-pub struct Line(pub u32, pub Kind, pub u32, pub Member);
-
+// The entry that a line is.
 pub fn entry_of(line: Line) -> Entry
     ensures { λ r. ⌜ r ≡ entryOf line ⌝ }
 {
     let kind = line.1;
-    let member = line.3;
+    let marks = line.2;
     Entry {
         tag: line.0,
-        kind: kind,
-        marks: line.2,
-        member: member,
+        kind,
+        marks,
+        member: Member {
+            group: line.3,
+            first: (marks >> 12) % 2 == 1,
+            marks: marks >> 16,
+        },
     }
 }
 
 // In the order of the tags; a line's place is also the place of its tag's mark.
 const TABLE: [Line; 44] = [
-    Line(7, COUNTED, IN_2, NO_GROUP),
-    Line(8, STRING, FRAME, NO_GROUP),
-    Line(9, STRING, FRAME, NO_GROUP),
-    Line(10, STRING, FRAME, NO_GROUP),
-    Line(11, STRING, IN_F, NO_GROUP),
-    Line(16, NUMBER, IN_2, NO_GROUP),
-    Line(22, Kind::OneOf(Choice::Eight), IN_F + IN_AD, NO_GROUP),
-    Line(34, COUNTED, HEADER, NO_GROUP),
-    Line(35, STRING, HEADER, NO_GROUP),
-    Line(36, COUNTED, IN_4, NO_GROUP),
-    Line(41, STRING, IN_F, NO_GROUP),
-    Line(43, Kind::Flag, HEADER, NO_GROUP),
-    Line(45, COUNTED, IN_3, NO_GROUP),
-    Line(48, STRING, IN_F + IN_AD, NO_GROUP),
-    Line(49, STRING, HEADER, NO_GROUP),
-    Line(52, Kind::Time, HEADER, NO_GROUP),
-    Line(54, Kind::OneOf(Choice::OneOrTwo), IN_F, NO_GROUP),
-    Line(56, STRING, HEADER, NO_GROUP),
-    Line(58, Kind::Text { most: 256 }, IN_3 + IN_5 + IN_AD, NO_GROUP),
-    Line(60, Kind::Time, IN_F, OTHER_580),
-    Line(75, Kind::Day, 0, FIRST_580),
-    Line(97, Kind::Flag, HEADER, NO_GROUP),
-    Line(98, Kind::OneOf(Choice::Zero), IN_A, NO_GROUP),
-    Line(108, Kind::Number { least: 1, most: 60 }, IN_A, NO_GROUP),
-    Line(112, Kind::Text { most: 64 }, IN_0 + IN_1, NO_GROUP),
-    Line(122, Kind::Time, HEADER, NO_GROUP),
-    Line(123, Kind::Flag, IN_4, NO_GROUP),
-    Line(141, Kind::Flag, IN_A, NO_GROUP),
-    Line(263, Kind::OneOf(Choice::Zero), IN_AD, NO_GROUP),
-    Line(371, NUMBER, IN_3, NO_GROUP),
-    Line(372, STRING, IN_3, NO_GROUP),
-    Line(373, NUMBER, IN_3, NO_GROUP),
-    Line(447, Kind::OneOf(Choice::D), 0, OTHER_453),
-    Line(448, STRING, 0, FIRST_453),
-    Line(452, Kind::OneOf(Choice::Roles), 0, OTHER_453),
-    Line(453, ONE_TO_8, IN_F + IN_AD + COUNT, NO_GROUP),
-    Line(568, STRING, IN_AD, NO_GROUP),
-    Line(569, Kind::OneOf(Choice::Zero), IN_AD, NO_GROUP),
-    Line(
-        580,
-        Kind::Number { least: 1, most: 2 },
-        IN_AD + COUNT,
-        NO_GROUP,
-    ),
-    Line(828, Kind::OneOf(Choice::ZeroOr54), IN_AD, NO_GROUP),
-    Line(1041, STRING, IN_AD, NO_GROUP),
-    Line(1128, Kind::OneOf(Choice::Nine), HEADER, NO_GROUP),
-    Line(1137, Kind::OneOf(Choice::Nine), IN_A, NO_GROUP),
-    Line(1409, NUMBER, IN_5, NO_GROUP),
+    Line(7, COUNTED, IN_2, 0),
+    Line(8, STRING, FRAME, 0),
+    Line(9, STRING, FRAME, 0),
+    Line(10, STRING, FRAME, 0),
+    Line(11, STRING, IN_F, 0),
+    Line(16, NUMBER, IN_2, 0),
+    Line(22, Kind::OneOf(Choice::Eight), IN_F + IN_AD, 0),
+    Line(34, COUNTED, HEADER, 0),
+    Line(35, STRING, HEADER, 0),
+    Line(36, COUNTED, IN_4, 0),
+    Line(41, STRING, IN_F, 0),
+    Line(43, Kind::Flag, HEADER, 0),
+    Line(45, COUNTED, IN_3, 0),
+    Line(48, STRING, IN_F + IN_AD, 0),
+    Line(49, STRING, HEADER, 0),
+    Line(52, Kind::Time, HEADER, 0),
+    Line(54, Kind::OneOf(Choice::OneOrTwo), IN_F, 0),
+    Line(56, STRING, HEADER, 0),
+    Line(58, Kind::Text { most: 256 }, IN_3 + IN_5 + IN_AD, 0),
+    Line(60, Kind::Time, IN_F + MEMBER_AD, 580),
+    Line(75, Kind::Day, FIRST + MEMBER_AD, 580),
+    Line(97, Kind::Flag, HEADER, 0),
+    Line(98, Kind::OneOf(Choice::Zero), IN_A, 0),
+    Line(108, Kind::Number { least: 1, most: 60 }, IN_A, 0),
+    Line(112, Kind::Text { most: 64 }, IN_0 + IN_1, 0),
+    Line(122, Kind::Time, HEADER, 0),
+    Line(123, Kind::Flag, IN_4, 0),
+    Line(141, Kind::Flag, IN_A, 0),
+    Line(263, Kind::OneOf(Choice::Zero), IN_AD, 0),
+    Line(371, NUMBER, IN_3, 0),
+    Line(372, STRING, IN_3, 0),
+    Line(373, NUMBER, IN_3, 0),
+    Line(447, Kind::OneOf(Choice::D), MEMBER_F + MEMBER_AD, 453),
+    Line(448, STRING, FIRST + MEMBER_F + MEMBER_AD, 453),
+    Line(452, Kind::OneOf(Choice::Roles), MEMBER_F + MEMBER_AD, 453),
+    Line(453, ONE_TO_8, IN_F + IN_AD + COUNT, 0),
+    Line(568, STRING, IN_AD, 0),
+    Line(569, Kind::OneOf(Choice::Zero), IN_AD, 0),
+    Line(580, ONE_OR_2, IN_AD + COUNT, 0),
+    Line(828, Kind::OneOf(Choice::ZeroOr54), IN_AD, 0),
+    Line(1041, STRING, IN_AD, 0),
+    Line(1128, Kind::OneOf(Choice::Nine), HEADER, 0),
+    Line(1137, Kind::OneOf(Choice::Nine), IN_A, 0),
+    Line(1409, NUMBER, IN_5, 0),
 ];
 
 // The one function that names the table: whoever looks into it takes it into a local, once.

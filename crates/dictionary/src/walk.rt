@@ -26,9 +26,9 @@ ghost use Prim.Native.Nat.{_≤_};
 ghost use lib.ListN.{length};
 ghost use Rattle.fields.specs.Field.{parts};
 ghost use mathlib.Core.List.{[], _∷_};
-ghost use Rattle.dictionary.specs.Dictionary.{typeOf};
+ghost use Rattle.dictionary.specs.Dictionary.{typeOf, typeIs};
 ghost use Rattle.dictionary.specs.Verdict.{verdictBy, walk, nothingYet, verdict};
-ghost use Rattle.dictionary.specs.Held.{Finished, typeIs};
+ghost use Rattle.dictionary.specs.Held.{Finished};
 
 // The verdict by what was said, where nothing more is to come.
 fn finding(said: Says) -> Verdict
@@ -55,7 +55,8 @@ fn finish(m: MsgType, st: State, seen: &[bool; 128], met: &[bool; 128]) -> Verdi
     finding(missing(seen, Rows::Own(m)))
 }
 
-// The fields from the left; the first finding stands.
+// The fields from the left; the first finding stands. One mark is set at each field outside groups (seen); the members met in the last instance of
+// the open group have marks of their own, at the same places (met).
 fn walk(m: MsgType, body: &[u8]) -> Verdict
     requires { ⌜ length (now body) ≤ 2048 ⌝ }
     ensures { λ r. ⌜ r ≡ walk m nothingYet (parts (now (body .entry))) ⌝ }

@@ -40,7 +40,7 @@ pub record Marked (m : MsgType) (r : Marks) : Type 0 where
   pub own : (k : ℕ) → k < 21 → bitOf (r .own) k ≡ listed (rowsOf m) (tagAt k)
   pub needed : (k : ℕ) → k < 21 → bitOf (r .needed) k ≡ required m (tagAt k)
 
--- the rows of the seven, in which each tag has one kind
+-- the rows of the seven, in which each tag has one kind (a Test Request has no tag that a Heartbeat has not)
 unfoldable pub sevenRows : List Row
 sevenRows = header ++ fields Heartbeat ++ fields ResendRequest ++ fields Reject ++ fields SequenceReset ++ fields Logout ++ fields Logon
 
