@@ -1,0 +1,10 @@
+pub mod Words
+pub mod Session
+pub mod Seen
+pub mod Moves
+pub mod Calls
+pub mod Held
+pub mod Plan
+pub mod Reads
+pub mod Fit
+pub mod Desk

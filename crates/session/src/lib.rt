@@ -1,0 +1,298 @@
+// The session: its record, and what it does with a frame, at a tick, when it is new and when it reconnects.
+mod changes;
+mod gates;
+mod moved;
+mod reads;
+mod replies;
+mod rules;
+
+use calendar::utc;
+use changes::in_range;
+use changes::is_comp_id;
+use changes::turned;
+use frame::body_of;
+use gates::is_active;
+use gates::is_spent;
+use gates::logon_gate;
+use gates::step_gate;
+use moved::answer_of;
+use moved::moved;
+use replies::put_reply;
+use rules::Move;
+use rules::active;
+use rules::waiting;
+ghost use mathlib.Core.Path.{_≡_};
+ghost use mathlib.Core.List.{[]};
+ghost use Prim.Native.Nat.{_≤_, _<_};
+ghost use lib.ListN.{length};
+ghost use Rattle.frame.specs.Bytes.{Bytes};
+ghost use Rattle.calendar.specs.Time.{limit};
+ghost use Rattle.writer.specs.Wrote.{Wrote};
+ghost use Rattle.session.specs.Session.{turned, fresh};
+ghost use Rattle.session.specs.Calls.{making, refusing, movesOn, due, step, tick, new, reconnect};
+ghost use Rattle.session.specs.Held.{sessionOf, Leaves, answeredBy, recordOf, answeredNew, padded};
+ghost use Rattle.session.specs.Plan.{deedsOf, replied, Carried, Ready};
+ghost use Rattle.session.specs.Fit.{Byted, AllFit};
+
+// Waiting for a logon, active, or closed.
+pub enum Status {
+    Waiting,
+    Active,
+    Closed,
+}
+
+// The record of a session. Each CompID is the first bytes of an array, as many as its length says.
+pub struct Record {
+    pub ours: [u8; 11],
+    pub oursLen: usize,
+    pub peer: [u8; 11],
+    pub peerLen: usize,
+    pub status: Status,
+    // The number that the peer's next message should have.
+    pub expected: u64,
+    // The number that our next message will have.
+    pub next: u64,
+    // The heartbeat's seconds.
+    pub heartbeat: u64,
+    // When the last message was sent, in microseconds since 1970.
+    pub sent: u64,
+}
+
+// Why a call changed nothing, or closed the session.
+pub enum Refusal {
+    SessionClosed,
+    NotLogon,
+    BadLogon,
+    NumbersSpent,
+    BufferShort,
+    TimePast,
+    NotOneFrame,
+    BadRecord,
+}
+
+// What a call answers.
+pub enum Answer {
+    Done,
+    // The frame is to be given to the application.
+    Delivered,
+    // No heartbeat is due.
+    NothingDue,
+    Refused(Refusal),
+}
+
+// What a call leaves: its answer, the record, and how many bytes of the buffer are the reply.
+pub struct Answered {
+    pub answer: Answer,
+    pub after: Record,
+    pub len: usize,
+}
+
+// Whether a refusal stands before the moves.
+pub enum Gate {
+    Open,
+    Shut(Refusal),
+}
+
+// A refusal: the session is Closed under 3, 4 and 5, and unchanged under the others.
+fn refused(r: Record, k: Refusal) -> Answered
+    ensures { λ a. ⌜ ((buf : Bytes) → a ≡ answeredBy r (refusing k (sessionOf r) buf)) ⌝ }
+{
+    let answer = Answer::Refused(k);
+    let closed = turned(r, Status::Closed);
+    match k {
+        Refusal::SessionClosed => unchanged(r, answer),
+        Refusal::NotLogon => unchanged(closed, answer),
+        Refusal::BadLogon => unchanged(closed, answer),
+        Refusal::NumbersSpent => unchanged(closed, answer),
+        Refusal::BufferShort => unchanged(r, answer),
+        Refusal::TimePast => unchanged(r, answer),
+        Refusal::NotOneFrame => unchanged(r, answer),
+        Refusal::BadRecord => unchanged(r, answer),
+    }
+}
+
+fn unchanged(r: Record, answer: Answer) -> Answered
+    ensures { λ a. ⌜ a ≡ record { answer = answer; after = r; len = 0 } ⌝ }
+{
+    Answered {
+        answer,
+        after: r,
+        len: 0,
+    }
+}
+
+// The reply to a move, from the record as it was.
+fn reply(r: Record, m: Move, body: &[u8], time: u64, buf: &mut [u8]) -> usize
+    requires { ⌜ Ready r ⌝ }
+    requires { ⌜ (512 ≤ length (now buf)) × (time < limit) × Carried (now body) m ⌝ }
+    ensures bytes { λ n. ⌜ Wrote (now (buf .entry)) (now (buf .exit)) 0 n (replied r time (now (body .entry)) m) ⌝ }
+    ensures room { λ n. ⌜ n ≤ 512 ⌝ }
+{
+    let stamp = utc(time);
+    let ours = r.ours;
+    let o = r.oursLen;
+    let peer = r.peer;
+    let p = r.peerLen;
+    put_reply(
+        m,
+        buf,
+        &ours[..o],
+        &peer[..p],
+        r.next,
+        r.expected,
+        &stamp,
+        body,
+    )
+}
+
+// A move, made: the reply is put, and the record changed.
+fn play(r: Record, m: Move, body: &[u8], time: u64, buf: &mut [u8]) -> Answered
+    requires { ⌜ Ready r ⌝ }
+    requires { ⌜ (512 ≤ length (now buf)) × (time < limit) × AllFit time (sessionOf r) (deedsOf (sessionOf r) (now body) m) ⌝ }
+    ensures { λ a. ⌜ Leaves r (making time (sessionOf r) (deedsOf (sessionOf r) (now (body .entry)) m) (now (buf .entry))) a (now (buf .exit)) ⌝ }
+{
+    let len = reply(r, m, body, time, buf);
+    let after = moved(r, m, time);
+    let answer = answer_of(m);
+    Answered { answer, after, len }
+}
+
+// A step that no refusal before the moves stopped.
+fn moving(r: Record, body: &[u8], time: u64, buf: &mut [u8]) -> Answered
+    requires { ⌜ Ready r ⌝ }
+    requires { ⌜ (512 ≤ length (now buf)) × (time < limit) ⌝ }
+    ensures { λ a. ⌜ Leaves r (movesOn (sessionOf r) (now (body .entry)) time (now (buf .entry))) a (now (buf .exit)) ⌝ }
+{
+    let st = r.status;
+    match st {
+        Status::Waiting => {
+            let gate = logon_gate(r, body);
+            match gate {
+                Gate::Shut(k) => refused(r, k),
+                Gate::Open => {
+                    let m = waiting(r, body);
+                    play(r, m, body, time, buf)
+                }
+            }
+        }
+        Status::Active => {
+            let m = active(r, body);
+            play(r, m, body, time, buf)
+        }
+        Status::Closed => unchanged(r, Answer::Done),
+    }
+}
+
+// A step: what the session does with a frame at a time. The reply stands at the front of the buffer.
+pub fn step(r: Record, frame: &[u8], time: u64, buf: &mut [u8]) -> Answered
+    ensures { λ a. ⌜ Leaves r (step (sessionOf r) (now (frame .entry)) time (now (buf .entry))) a (now (buf .exit)) ⌝ }
+{
+    let body = body_of(frame);
+    let gate = step_gate(r, 0 < body.len(), time, buf.len());
+    match gate {
+        Gate::Shut(k) => refused(r, k),
+        Gate::Open => moving(r, body, time, buf),
+    }
+}
+
+// Whether the interval is past. A clock that went back is never past it.
+fn is_due(r: Record, time: u64) -> bool
+    requires { ⌜ r .heartbeat ≤ 60 ⌝ }
+    ensures { λ b. ⌜ b ≡ due (sessionOf r) time ⌝ }
+{
+    if time < r.sent {
+        return false;
+    }
+    r.heartbeat * 1_000_000 <= time - r.sent
+}
+
+// A reconnect sets Waiting and keeps the numbers.
+pub fn reconnect(r: Record) -> Answered
+    ensures { λ a. ⌜ a ≡ answeredBy r (reconnect (sessionOf r)) ⌝ }
+{
+    if !in_range(r) {
+        return refused(r, Refusal::BadRecord);
+    }
+    unchanged(turned(r, Status::Waiting), Answer::Done)
+}
+
+// A tick: a Heartbeat if one is due.
+pub fn tick(r: Record, time: u64, buf: &mut [u8]) -> Answered
+    ensures { λ a. ⌜ Leaves r (tick (sessionOf r) time (now (buf .entry))) a (now (buf .exit)) ⌝ }
+{
+    if !in_range(r) {
+        return refused(r, Refusal::BadRecord);
+    }
+    if 253_402_300_800_000_000 <= time {
+        return refused(r, Refusal::TimePast);
+    }
+    if buf.len() < 512 {
+        return refused(r, Refusal::BufferShort);
+    }
+    let st = r.status;
+    if !is_active(st) {
+        return unchanged(r, Answer::NothingDue);
+    }
+    if is_spent(r) {
+        return refused(r, Refusal::NumbersSpent);
+    }
+    if !is_due(r, time) {
+        return unchanged(r, Answer::NothingDue);
+    }
+    play(r, Move::Beat, b"", time, buf)
+}
+
+// A CompID in eleven bytes, with zeros behind it.
+fn in_eleven(c: &[u8]) -> [u8; 11]
+    requires { ⌜ length (now c) ≤ 11 ⌝ }
+    ensures { λ r. ⌜ r ≡ padded (now (c .entry)) ⌝ }
+{
+    let mut a = [0u8; 11];
+    let mut i = 0;
+    while i < c.len() {
+        a[i] = c[i];
+        i += 1;
+    }
+    a
+}
+
+// A new session between two CompIDs.
+pub fn new(ours: &[u8], peer: &[u8]) -> Answered
+    ensures { λ a. ⌜ a ≡ answeredNew (new (now (ours .entry)) (now (peer .entry))) ⌝ }
+{
+    if !is_comp_id(ours) {
+        return unchanged(blank(), Answer::Refused(Refusal::BadRecord));
+    }
+    if !is_comp_id(peer) {
+        return unchanged(blank(), Answer::Refused(Refusal::BadRecord));
+    }
+    let r = Record {
+        ours: in_eleven(ours),
+        oursLen: ours.len(),
+        peer: in_eleven(peer),
+        peerLen: peer.len(),
+        status: Status::Waiting,
+        expected: 1,
+        next: 1,
+        heartbeat: 30,
+        sent: 0,
+    };
+    unchanged(r, Answer::Done)
+}
+
+// As new, but Closed and both CompIDs empty.
+fn blank() -> Record
+    ensures { λ r. ⌜ r ≡ recordOf (turned Status.Closed (fresh [] [])) ⌝ }
+{
+    Record {
+        ours: [0; 11],
+        oursLen: 0,
+        peer: [0; 11],
+        peerLen: 0,
+        status: Status::Closed,
+        expected: 1,
+        next: 1,
+        heartbeat: 30,
+        sent: 0,
+    }
+}
