@@ -9,6 +9,7 @@ use mathlib.Core.Option.{Option, none, some}
 use lib.ListN.{length, take, drop}
 use lib.Seq.{length-take-le}
 use Rattle.frame.specs.Bytes.{Bytes, fix, decimal}
+use Rattle.frame.specs.Stream.{joined}
 use Rattle.fields.specs.Field.{firstField}
 use Rattle.dictionary.specs.Dictionary.{code35, fields}
 use Rattle.writer.specs.Message.{Value, absent, bytes, own, order, written}
@@ -20,7 +21,7 @@ use Rattle.session.specs.Words.{_otherwise_}
 use Rattle.session.specs.Session.{Session, turned, after}
 use Rattle.session.specs.Seen.{repeated, numberIn}
 use Rattle.session.specs.Moves.{Logon, letter, #, readable, reject, logon}
-use Rattle.session.specs.Calls.{joined, over, afterAll, messages, answerAll, making, refusing}
+use Rattle.session.specs.Calls.{over, afterAll, messages, answerAll, making, refusing}
 use Rattle.session.specs.Held.{held, sessionOf, with, answeredBy, Leaves}
 use Rattle.session.specs.Plan.{deedsOf, replyOf, replied, logonOf, answersAs, Carried, Sending, Ready}
 use Rattle.session.specs.Fit.{FitId, FitLogon, AllFit}

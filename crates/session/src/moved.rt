@@ -9,7 +9,7 @@ ghost use Prim.Native.Nat.{ℕ, _≤_, _<_};
 ghost use lib.ListN.{length};
 ghost use Rattle.frame.specs.Bytes.{Bytes};
 ghost use Rattle.calendar.specs.Time.{limit};
-ghost use Rattle.session.specs.Calls.{afterAll, answerAll, messages, joined};
+ghost use Rattle.session.specs.Calls.{afterAll, answerAll, messages};
 ghost use Rattle.session.specs.Held.{sessionOf, with};
 ghost use Rattle.session.specs.Plan.{deedsOf, raised, answersAs, Ready};
 
