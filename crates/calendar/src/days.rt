@@ -1,7 +1,7 @@
 // The date of a day, by divisions: no walk over years or months.
+use kinds::is_leap;
 ghost use mathlib.Core.Path.{_≡_};
 ghost use Prim.Native.Nat.{_*_, _<_, _≤_};
-ghost use Rattle.kinds.specs.Kind.{leap};
 ghost use Rattle.calendar.specs.Time.{dateOf, inYear, yearDays};
 ghost use Rattle.calendar.specs.Walk.{InYear, Split, Evened};
 
@@ -104,16 +104,4 @@ fn even(d: u64, leap: bool) -> u64
         return d;
     }
     d + 1
-}
-
-fn is_leap(y: u64) -> bool
-    ensures { λ r. ⌜ r ≡ leap y ⌝ }
-{
-    if y % 400 == 0 {
-        return true;
-    }
-    if y % 100 == 0 {
-        return false;
-    }
-    y % 4 == 0
 }

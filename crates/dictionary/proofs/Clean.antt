@@ -1,19 +1,17 @@
 -- What a clean verdict says: the first field of a tag of the dictionary is of its kind, and each required tag is there.
 use Prim.Native.Nat.{ℕ, _≤_}
 use native.Mathlib.Omega.{arith}
-use borrow.Author.Tests.{eqb-true, eq-eqb, leb-true}
+use borrow.Author.Tests.{eqb-true, leb-true}
 use mathlib.Core.Path.{_≡_, refl, ap, sym, _∙_}
-use mathlib.Core.List.{List, [], _∷_, _++_, append-assoc}
+use mathlib.Core.List.{List, [], _∷_, _++_}
 use mathlib.Core.Bool.{Bool, true, false, cond, not, _&&_, _||_, false≢true}
 use mathlib.Core.Option.{Option, none, some}
 use mathlib.Core.Logic.{_⊎_, inl, inr}
 use lib.Dec.{eqb, leb}
 use lib.ListN.{length, drop}
-use Rattle.frame.specs.Bytes.{Bytes, fix, any, has, starts, within, value, decimal}
+use Rattle.frame.specs.Bytes.{Bytes, any, has, starts, within, value}
 use Rattle.fields.specs.Field.{Part, field, malformed, partOf, parts, firstOfParts, firstField, isBody}
-use Rattle.frame.proofs.Decimals.{decimal-numeral, decimal-worth}
-use Rattle.fields.proofs.Items.{field-part}
-use Rattle.fields.proofs.Firsts.{tagged, part-split}
+use Rattle.fields.proofs.Firsts.{tagged, starts-append, tag-part, part-split}
 use Rattle.kinds.specs.Kind.{number_to_, isNumber, formed, allowed}
 use Rattle.dictionary.specs.Dictionary.{Row, header, fields, kindIn, rowsOf, inDictionary}
 use Rattle.dictionary.specs.Verdict.{Open, Place, outside, inside, Past, _when_, firstOf, missing, closing, left, rule9, rule10, said, skipped, taken, after, verdictBy, walk, nothingYet, msgType, judgedAs, verdict}
@@ -25,22 +23,7 @@ use Rattle.dictionary.specs.declared.Verdict.the-variants.{Clean, NoBody
 use Rattle.dictionary.proofs.Lists.{and-left, and-right}
 use Rattle.dictionary.proofs.Turns.{Silent, silent, silent-at}
 
--- a part that begins with a tag and `=` is a field of that tag, and the other way round
-starts-append : (k l : Bytes) → starts k (k ++ l) ≡ true
-starts-append [] l = refl
-starts-append (x ∷ k) l = rw (eq-eqb x x refl) (starts-append k l)
-
-starts-is : (k l : Bytes) → starts k l ≡ true → l ≡ k ++ drop (length k) l
-starts-is [] l h = refl
-starts-is (x ∷ k) [] h = absurd (false≢true h)
-starts-is (x ∷ k) (y ∷ l) h = rw (eqb-true x y (and-left (eqb x y) (starts k l) h)) (ap (λ (r : Bytes). y ∷ r) (starts-is k l (and-right (eqb x y) (starts k l) h)))
-
-tag-part : (t : ℕ) (p : Bytes) → 1 ≤ t → t ≤ 99_999 → starts (tagged t) p ≡ true → partOf p ≡ field t (drop (length (tagged t)) p)
-tag-part t p low high h =
-    let N = decimal-numeral 4 t low (omega arith) in
-    let e : p ≡ decimal t ++ (61 ∷ drop (length (tagged t)) p) = starts-is (tagged t) p h ∙ append-assoc (decimal t) (fix "=") (drop (length (tagged t)) p) in
-    ap partOf e ∙ field-part (decimal t) (N .whole) (drop (length (tagged t)) p) N ∙ ap (λ (n : ℕ). field n (drop (length (tagged t)) p)) (decimal-worth t)
-
+-- a field of a tag is a part that begins with the tag and `=`
 part-starts : (t : ℕ) (p v : Bytes) → partOf p ≡ field t v → starts (tagged t) p ≡ true
 part-starts t p v e = ap (starts (tagged t)) (part-split p v t e) ∙ starts-append (tagged t) v
 

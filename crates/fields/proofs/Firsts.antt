@@ -23,7 +23,7 @@ use Rattle.fields.proofs.Items.{field-part}
 use Rattle.fields.proofs.Rows.{Step, parts-step, parts-end, partAt, part-row, part-within, part-end}
 
 -- WHAT A PART BEGINS WITH
-starts-append : (k l : Bytes) → starts k (k ++ l) ≡ true
+pub starts-append : (k l : Bytes) → starts k (k ++ l) ≡ true
 starts-append [] l = refl
 starts-append (x ∷ k) l = rw (eq-eqb x x refl) (starts-append k l)
 
@@ -36,7 +36,7 @@ abbrev pub tagged : ℕ → Bytes
 tagged t = decimal t ++ fix "="
 
 -- a part that begins with a tag and `=` is a field of that tag
-tag-part : (t : ℕ) (p : Bytes) → 1 ≤ t → t ≤ 99_999 → starts (tagged t) p ≡ true → partOf p ≡ field t (drop (length (tagged t)) p)
+pub tag-part : (t : ℕ) (p : Bytes) → 1 ≤ t → t ≤ 99_999 → starts (tagged t) p ≡ true → partOf p ≡ field t (drop (length (tagged t)) p)
 tag-part t p low high h =
     let N = decimal-numeral 4 t low (omega arith) in
     let e : p ≡ decimal t ++ (61 ∷ drop (length (tagged t)) p) = starts-is (tagged t) p h ∙ append-assoc (decimal t) (fix "=") (drop (length (tagged t)) p) in

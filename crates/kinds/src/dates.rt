@@ -177,16 +177,22 @@ fn days_in(y: u32, m: u32) -> u32
 fn february(y: u32) -> u32
     ensures { λ r. ⌜ r ≡ cond (leap y) 29 28 ⌝ }
 {
-    if y % 400 == 0 {
-        return 29;
-    }
-    if y % 100 == 0 {
-        return 28;
-    }
-    if y % 4 == 0 {
+    if is_leap(y as u64) {
         return 29;
     }
     28
+}
+
+pub fn is_leap(y: u64) -> bool
+    ensures { λ r. ⌜ r ≡ leap y ⌝ }
+{
+    if y % 400 == 0 {
+        return true;
+    }
+    if y % 100 == 0 {
+        return false;
+    }
+    y % 4 == 0
 }
 
 // A time of day; second 60 stands in any minute.

@@ -1,6 +1,7 @@
 // The kinds of values: form and value of one field's bytes.
 mod dates;
 
+pub use dates::is_leap;
 use dates::judge_day;
 use dates::judge_time;
 use frame::number;
