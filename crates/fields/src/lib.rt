@@ -1,5 +1,5 @@
 // The fields of a body, one at a time.
-use frame::number;
+use frame::digits;
 ghost use mathlib.Core.Path.{_≡_};
 ghost use Prim.Native.Nat.{_≤_};
 ghost use lib.ListN.{length};
@@ -57,9 +57,9 @@ pub fn item_at(body: &[u8], at: usize) -> Item
     if body.len() <= at {
         return Item::End;
     }
-    let digits = number(body, at, 5);
-    let tag = digits.value as u32;
-    let mark = at + digits.count;
+    let read = digits(body, at, 5);
+    let tag = read.value as u32;
+    let mark = at + read.count;
     let end = bar(body, mark);
     let next = end + 1;
     let whole = Item::Malformed {

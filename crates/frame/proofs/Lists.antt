@@ -22,15 +22,9 @@ pub sum-append : (xs ys : Bytes) → sum (xs ++ ys) ≡ sum xs + sum ys
 sum-append [] ys = sym (zero-add (sum ys))
 sum-append (x ∷ xs) ys = ap (λ (n : ℕ). x + n) (sum-append xs ys) ∙ sym (add-assoc x (sum xs) (sum ys))
 
-pub sum-more : (s : Bytes) (a n : ℕ) → a + n < length s → sum (take (n + 1) (drop a s)) ≡ sum (take n (drop a s)) + getD s (a + n) 0
-sum-more s a n h =
-    ap sum (take-more s a n h) ∙ sum-append (take n (drop a s)) (getD s (a + n) 0 ∷ []) ∙ ap (λ (k : ℕ). sum (take n (drop a s)) + k) (add-zero (getD s (a + n) 0))
-
-pub sum-to : (s : Bytes) (a i : ℕ) → a ≤ i → i < length s → sum (take (i + 1 - a) (drop a s)) ≡ sum (take (i - a) (drop a s)) + getD s i 0
-sum-to s a i h l =
-    let e₁ : i + 1 - a ≡ i - a + 1 = omega arith in
-    let e₂ : a + (i - a) ≡ i = omega arith in
-    rw e₁ (rw e₂ at (sum-more s a (i - a) (omega arith)))
+pub sum-more : (s : Bytes) (i : ℕ) → i < length s → sum (take (i + 1) s) ≡ sum (take i s) + getD s i 0
+sum-more s i h =
+    ap sum (rw zero-add at (take-more s 0 i (omega arith))) ∙ sum-append (take i s) (getD s i 0 ∷ []) ∙ ap (λ (k : ℕ). sum (take i s) + k) (add-zero (getD s i 0))
 
 -- one more byte of a sum that is kept modulo 256
 pub sum-step : (x b t r y : ℕ) → t ≡ x % 256 → r ≡ (t + b) % 2 ^ 8 → y ≡ x + b → r ≡ y % 256

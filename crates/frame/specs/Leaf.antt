@@ -25,6 +25,12 @@ pub record Number (s : Bytes) (p most v c : ℕ) : Type 0 where
   pub small : v < 1_000_000_000_000
   pub stop : c < most → p + c < length s → Digit (getD s (p + c) 0) → ⊥
 
+-- the same for every place and limit: a place behind the end and a limit above 12 have none
+pub record Digits (s : Bytes) (p most v c : ℕ) : Type 0 where
+  pub inside : p ≤ length s → most ≤ 12 → Number s p most v c
+  pub behind : length s < p → (v ≡ 0) × (c ≡ 0)
+  pub above : 12 < most → (v ≡ 0) × (c ≡ 0)
+
 -- the first place from a on, before e, at which the byte x stands; or e
 pub record FirstByte (s : Bytes) (a e x r : ℕ) : Type 0 where
   pub low : a ≤ r

@@ -4,7 +4,7 @@ ghost use mathlib.Core.Bool.{Bool, true, false};
 ghost use Prim.Native.Nat.{ℕ, _+_, _-_, _%_, _≤_, _<_};
 ghost use lib.ListN.{length, take, drop, getD};
 ghost use Rattle.frame.specs.Bytes.{sum};
-ghost use Rattle.frame.specs.Leaf.{Matched, Number, FirstByte, Calm, Free, NextStart, Around, Searched};
+ghost use Rattle.frame.specs.Leaf.{Matched, Number, Digits, FirstByte, Calm, Free, NextStart, Around, Searched};
 
 // How many bytes of lit stand in s from at on.
 pub fn matched(s: &[u8], at: usize, lit: &[u8]) -> usize
@@ -54,14 +54,27 @@ pub fn number(s: &[u8], at: usize, most: usize) -> Num
     Num { value: v, count: c }
 }
 
-// The sum of the bytes of s from a to e, modulo 256. It is kept modulo 256 all the way, so that the compiler adds sixteen bytes at once.
-pub fn checksum(s: &[u8], a: usize, e: usize) -> u8
-    requires { ⌜ (a ≤ e) × (e ≤ length (now s)) ⌝ }
-    ensures { λ r. ⌜ r ≡ sum (take (e - a) (drop a (now (s .entry)))) % 256 ⌝ }
+// The same for any place and any limit: no digits behind the end, and none above a limit of 12.
+pub fn digits(s: &[u8], at: usize, most: usize) -> Num
+    ensures { λ r. ⌜ Digits (now (s .entry)) at most (r .value) (r .count) ⌝ }
+{
+    let none = Num { value: 0, count: 0 };
+    if s.len() < at {
+        return none;
+    }
+    if 12 < most {
+        return none;
+    }
+    number(s, at, most)
+}
+
+// The sum of bytes, modulo 256. It is kept modulo 256 all the way, so that the compiler adds sixteen bytes at once.
+pub fn checksum(s: &[u8]) -> u8
+    ensures { λ r. ⌜ r ≡ sum (now (s .entry)) % 256 ⌝ }
 {
     let mut t: u8 = 0;
-    let mut i = a;
-    while i < e {
+    let mut i = 0;
+    while i < s.len() {
         t = std::num::wrapping_add_u8(t, s[i]);
         i += 1;
     }

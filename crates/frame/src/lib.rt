@@ -5,8 +5,9 @@ mod parts;
 
 pub use leaf::Num;
 pub use leaf::checksum;
+pub use leaf::digits;
 use leaf::next_start;
-pub use leaf::number;
+use leaf::number;
 pub use line::drop_front;
 pub use line::put_piece;
 use parts::Part;

@@ -117,7 +117,7 @@ fn step_tail(s: &[u8], p: usize, a: usize, mark: &[u8]) -> Step
     requires { ⌜ Seen (ruleOf (now mark)) (now s) p (Part.Tail a) ⌝ }
     ensures { λ r. ⌜ Stepped (ruleOf (now (mark .entry))) (now (s .entry)) p (Part.Tail a) r ⌝ }
 {
-    let v = checksum(s, p, a);
+    let v = checksum(&s[p..a]);
     let t: [u8; 7] = [49, 48, 61, 48 + v / 100, 48 + v / 10 % 10, 48 + v % 10, 1];
     let m = matched(s, a, &t);
     if m == 7 {

@@ -4,7 +4,7 @@ mod dates;
 pub use dates::is_leap;
 use dates::judge_day;
 use dates::judge_time;
-use frame::number;
+use frame::digits;
 ghost use mathlib.Core.Path.{_≡_};
 ghost use mathlib.Core.List.{[], _∷_};
 ghost use Rattle.frame.specs.Bytes.{same};
@@ -63,7 +63,7 @@ pub fn read_number(v: &[u8]) -> Number
     if n == 0 {
         return Number::Bad;
     }
-    let d = number(v, 0, 9);
+    let d = digits(v, 0, 9);
     let value = d.value as u32;
     if d.count != n {
         return Number::Bad;

@@ -125,6 +125,6 @@ pub fn put_frame(buf: &mut [u8], at: usize, body: &[u8]) -> usize
     ensures { λ r. ⌜ Wrote (now (buf .entry)) (now (buf .exit)) at r (framed (now (body .entry))) ⌝ }
 {
     let a = put_front(buf, at, body);
-    let sum = checksum(buf, at, a);
+    let sum = checksum(&buf[at..a]);
     put_trailer(buf, a, sum)
 }

@@ -13,6 +13,15 @@ use Rattle.writer.proofs.put.put_frame.Tie as tie
 put-front-requires : tie.Need-put-front-requires
 put-front-requires c κs = search needs
 
+sub-checksum : tie.Need-sub-checksum
+sub-checksum c = search needs
+
+part-checksum-start : tie.Need-part-checksum-start
+part-checksum-start c = search needs
+
+part-checksum-end : tie.Need-part-checksum-end
+part-checksum-end c = search needs
+
 checksum-requires : tie.Need-checksum-requires
 checksum-requires c κs = search needs
 
@@ -25,11 +34,19 @@ same-length c = search needs
 returns : tie.Need-returns
 unfolding framed
 returns c =
-    let f = c .before .before .before .before .before .before .before .before .put-front .ensures in
+    let f = c .before .before .before .before .before .before .before .before .before .put-front .ensures in
     let e = ap (λ (l : Bytes). trailer (sum l % 256)) (part-of (f .0) (omega arith)) in
     chain (f .0) (reword (ap trailer (c .before .before .before .before .checksum .ensures) ∙ e) (c .before .before .put-trailer .ensures))
 
 pub put-frame-spec : {M : Type 1} → statement M
 put-frame-spec =
     tie.close
-    (tie.spec put-front-requires checksum-requires put-trailer-requires same-length returns)
+    (tie.spec
+    put-front-requires
+    sub-checksum
+    part-checksum-start
+    part-checksum-end
+    checksum-requires
+    put-trailer-requires
+    same-length
+    returns)
