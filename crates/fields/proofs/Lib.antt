@@ -1,3 +1,4 @@
+pub mod Bars
 pub mod Cutting
 pub mod Bodies
 pub mod Places

@@ -8,7 +8,7 @@ use mathlib.Core.Path.{_≡_, refl, sym, ap, ap₂, _∙_, subst}
 use mathlib.Core.Bool.{cond}
 use mathlib.Core.List.{List, [], _∷_, _++_}
 use lib.Dec.{leb}
-use lib.ListN.{length, take, drop, set, getD, length-drop, drop-of-length-le}
+use lib.ListN.{length, take, drop, set, getD, length-drop, drop-of-length-le, take-append-drop}
 use lib.Seq.{paste, paste-zero, paste-suc, length-take-le, take-all, getD-append-add, getD-drop, getD-take, ext-getD}
 use borrow.Author.Tests.{le-leb, lt-leb}
 use Rattle.frame.specs.Bytes.{Bytes}
@@ -90,3 +90,10 @@ drop-some d held n h e l =
     ap₂ (λ (x : Bytes) (i : ℕ). line x i)
     (ap₂ (λ (x : Bytes) (i : ℕ). x ++ drop i d) front (zero-add k ∙ ap (λ (i : ℕ). i - n) (sym p)))
     (ap (λ (i : ℕ). i - n) (sym p))
+
+pub drop-zero : (d : Bytes) (held n h : ℕ) → h ≡ cond (leb held (length d)) held (length d) → n < h → n ≡ 0 → line d h ≡ dropped (line d held) n
+drop-zero d held n h e l z =
+    let k : h - n ≡ h = omega arith in
+    let p : paste d 0 (drop n d) (h - n) ≡ d =
+    ap₂ (λ (m j : ℕ). paste d 0 (drop m d) j) z k ∙ ap (λ (j : ℕ). take h d ++ drop j d) (zero-add h) ∙ take-append-drop h d in
+    sym (ap₂ (λ (b : Bytes) (j : ℕ). line b j) p k) ∙ drop-some d held n h e l

@@ -62,6 +62,9 @@ pub fn drop_front(buf: &mut [u8], held: usize, n: usize) -> usize
     if h <= n {
         return 0;
     }
+    if n == 0 {
+        return h;
+    }
     let k = h - n;
     move_down(buf, n, k);
     k

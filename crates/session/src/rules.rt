@@ -88,7 +88,7 @@ fn rejected(v: Verdict, counted: bool) -> Move
     }
 }
 
-// The tag of the CompID that is not as it should be, or 0.
+// Rule 2: the tag of the CompID that is missing or not as it should be, or 0.
 pub fn strange_tag(r: Record, body: &[u8]) -> u64
     requires { ⌜ Ready r ⌝ }
     ensures { λ t. ⌜ t ≡ strangeTag (sessionOf r) (now (body .entry)) ⌝ }
@@ -196,7 +196,7 @@ fn too_low(r: Record, body: &[u8]) -> Move
     Move::Ignore
 }
 
-// A Resend Request in turn.
+// Rule 6, type 2: "Serving 7=b, 16=e".
 fn serve(r: Record, body: &[u8]) -> Move
     requires { ⌜ Ready r ⌝ }
     ensures { λ m. ⌜ deedsOf (sessionOf r) (now (body .entry)) m ≡ counted (sessionOf r) (now (body .entry)) (unserved (sessionOf r) (now (body .entry)) otherwise served (sessionOf r) (now (body .entry))) ⌝ }
@@ -214,7 +214,7 @@ fn serve(r: Record, body: &[u8]) -> Move
     Move::Fill { begin, new }
 }
 
-// A gap fill in turn.
+// Rule 6, type 4: a gap fill.
 fn filled(r: Record, n: u64, body: &[u8]) -> Move
     requires { ⌜ n ≡ N (sessionOf r) (now body) ⌝ }
     ensures { λ m. ⌜ deedsOf (sessionOf r) (now (body .entry)) m ≡ filled (sessionOf r) (now (body .entry)) ⌝ }
@@ -280,7 +280,7 @@ fn is_bare_reset(body: &[u8]) -> bool
     !holds(body, 123, b"Y")
 }
 
-// While Active: the first rule that fits.
+// While Active: the first rule that fits. Rule 1, 34 unreadable, stands here; a number that can be read is not 0.
 pub fn active(r: Record, body: &[u8]) -> Move
     requires { ⌜ Ready r ⌝ }
     ensures { λ m. ⌜ deedsOf (sessionOf r) (now (body .entry)) m ≡ active (sessionOf r) (now (body .entry)) ⌝ }

@@ -7,7 +7,7 @@ use mathlib.Core.Path.{ap, _∙_}
 use lib.ListN.{length}
 use Rattle.frame.specs.Bytes.{Bytes}
 use Rattle.frame.specs.Line.{line}
-use Rattle.frame.proofs.Lines.{drop-none, drop-some, lesser-bounds}
+use Rattle.frame.proofs.Lines.{drop-none, drop-some, drop-zero, lesser-bounds}
 use Rattle.frame.proofs.line.drop_front.Statement.{statement}
 use Rattle.frame.proofs.line.drop_front.Tie as tie
 
@@ -17,23 +17,26 @@ lesser-requires c κs = search needs
 returns : tie.Need-returns
 returns c = drop-none _ _ _ _ (c .before .lesser .ensures) (c .if1 .taken)
 
+returns-2 : tie.Need-returns-2
+returns-2 c = drop-zero _ _ _ _ (c .before .before .lesser .ensures) (omega arith) (c .if2 .taken)
+
 sub-k : tie.Need-sub-k
 sub-k c = search needs
 
 move-down-requires : tie.Need-move-down-requires
 move-down-requires c κs =
-    let a = c .before .before .before .before .args in
-    omega (arith, lesser-bounds (a .held) (length (now (a .buf))) _ (c .before .before .lesser .ensures))
+    let a = c .before .before .before .before .before .args in
+    omega (arith, lesser-bounds (a .held) (length (now (a .buf))) _ (c .before .before .before .lesser .ensures))
 
 same-length : tie.Need-same-length
 same-length c = search needs
 
-returns-2 : tie.Need-returns-2
-returns-2 c =
-    let a = c .before .before .before .before .before .before .before .args in
-    let h = c .before .before .before .before .before .lesser .result in
-    ap (λ (d : Bytes). line d (h - a .n)) (c .before .before .move-down .ensures) ∙ drop-some (now (a .buf)) (a .held) (a .n) h (c .before .before .before .before .before .lesser .ensures) (omega arith)
+returns-3 : tie.Need-returns-3
+returns-3 c =
+    let a = c .before .before .before .before .before .before .before .before .args in
+    let h = c .before .before .before .before .before .before .lesser .result in
+    ap (λ (d : Bytes). line d (h - a .n)) (c .before .before .move-down .ensures) ∙ drop-some (now (a .buf)) (a .held) (a .n) h (c .before .before .before .before .before .before .lesser .ensures) (omega arith)
 
 pub drop-front-spec : {M : Type 1} → statement M
 drop-front-spec =
-    tie.close (tie.spec lesser-requires returns sub-k move-down-requires same-length returns-2)
+    tie.close (tie.spec lesser-requires returns returns-2 sub-k move-down-requires same-length returns-3)
