@@ -2,7 +2,7 @@
 use Prim.Native.Nat.{ℕ, suc, _+_, _-_, _≤_, _<_}
 use native.Mathlib.Numerals.{add-one}
 use native.Mathlib.Omega.{arith}
-use borrow.Author.Tests.{eqb-true, ltb-true}
+use borrow.Author.Tests.{ltb-true}
 use mathlib.Core.Path.{_≡_, refl, ap, sym, _∙_}
 use mathlib.Core.List.{List, [], _∷_}
 use mathlib.Core.Bool.{Bool, true, false, cond, not, _&&_}
@@ -16,10 +16,9 @@ use Rattle.dictionary.specs.Verdict.{missing}
 use Rattle.dictionary.specs.Held.{tags, tagAt, needed, rowsFor, membersOf, membersSpan, spanOf, tagsIn, tagsFor, Required, Marked}
 use Rattle.dictionary.specs.declared.Says.{Says}
 use Rattle.dictionary.specs.declared.Says.the-variants.{Nothing, Reason}
-use Rattle.dictionary.specs.declared.table.Needed.{Needed}
 use Rattle.dictionary.specs.declared.table.Rows.{Rows}
 use Rattle.dictionary.specs.declared.table.Rows.the-variants.{Header, Own, Members}
-use Rattle.dictionary.proofs.Lists.{and-left, and-right, all-at, all-nine}
+use Rattle.dictionary.proofs.Lists.{all-at, all-nine}
 
 -- the first of some tags that was not met
 abbrev pub lacking : List ℕ → List ℕ → Says
@@ -37,7 +36,7 @@ missing-lacking (r ∷ rs) met = go (r .required) (has met (r .tag)) refl (missi
     go false s e ih = ih
 
 -- each list's part of the constant
-pub part-is : (l : List Needed) → Required l → (rows : Rows) → tagsFor l (spanOf rows) ≡ needed (rowsFor rows)
+pub part-is : (l : List ℕ) → Required l → (rows : Rows) → tagsFor l (spanOf rows) ≡ needed (rowsFor rows)
 part-is l R Header = R .head
 part-is l R (Own m) = same-true _ _ (all-nine (λ k. same (tagsFor l (spanOf (Own k))) (needed (rowsFor (Own k)))) (R .own) m)
 part-is l R (Members g) = go (eqb g 453)
@@ -47,38 +46,31 @@ part-is l R (Members g) = go (eqb g 453)
     go false = R .dates
 
 -- one tag further, or a tag that was not met
-module _ (l : List Needed) (R : Required l) (d : Needed) (k e : ℕ) (h : k < e) (w : e ≤ 28) where
-  rest : tagsIn l k e ≡ getD l k d .0 ∷ tagsIn l (k + 1) e
+module _ (l : List ℕ) (R : Required l) (d k e : ℕ) (h : k < e) (w : e ≤ 28) where
+  rest : tagsIn l k e ≡ tagAt (getD l k d) ∷ tagsIn l (k + 1) e
   rest =
       let f : e - k ≡ suc (e - (k + 1)) = omega arith in
       rw (drop-cons l k d (omega (arith, R .long)), f, add-one)
 
-  place-small : getD l k d .1 < 44
-  place-small = ltb-true _ 44 (and-left _ _ (all-at (λ (n : Needed). ltb (n .1) 44 && eqb (tagAt (n .1)) (n .0)) d l (R .places) k (omega (arith, R .long))))
-
-  pub place-fits : getD l k d .1 < 128
-  place-fits = omega (arith, place-small)
-
-  place-tag : tagAt (getD l k d .1) ≡ getD l k d .0
-  place-tag = eqb-true _ _ (and-right (ltb (getD l k d .1) 44) _ (all-at (λ (n : Needed). ltb (n .1) 44 && eqb (tagAt (n .1)) (n .0)) d l (R .places) k (omega (arith, R .long))))
+  pub place-small : getD l k d < 44
+  place-small = ltb-true _ 44 (all-at (λ p. ltb p 44) d l (R .places) k (omega (arith, R .long)))
 
   module _ (marks : List Bool) (met : List ℕ) (M : Marked marks met) where
-    mark-is : getD marks (getD l k d .1) false ≡ has met (getD l k d .0)
-    mark-is = M .at (getD l k d .1) place-small ∙ ap (has met) place-tag
+    mark-is : getD marks (getD l k d) false ≡ has met (tagAt (getD l k d))
+    mark-is = M .at (getD l k d) place-small
 
-    pub needed-met : getD marks (getD l k d .1) false ≡ true
-        → lacking (tagsIn l k e) met ≡ lacking (tagsIn l (k + 1) e) met
+    pub needed-met : getD marks (getD l k d) false ≡ true → lacking (tagsIn l k e) met ≡ lacking (tagsIn l (k + 1) e) met
     needed-met f = rw (rest, sym mark-is ∙ f)
 
-    pub needed-not : getD marks (getD l k d .1) false ≡ false → lacking (tagsIn l k e) met ≡ Reason 1 (getD l k d .0)
+    pub needed-not : getD marks (getD l k d) false ≡ false → lacking (tagsIn l k e) met ≡ Reason 1 (tagAt (getD l k d))
     needed-not f = rw (rest, sym mark-is ∙ f)
 
 -- at the end of the part, and before it
-pub none-left : (l : List Needed) (k e : ℕ) (met : List ℕ) → e ≤ k → lacking (tagsIn l k e) met ≡ Nothing
+pub none-left : (l : List ℕ) (k e : ℕ) (met : List ℕ) → e ≤ k → lacking (tagsIn l k e) met ≡ Nothing
 none-left l k e met h =
     let f : e - k ≡ 0 = omega arith in
     rw f
 
-pub all-missing : (l : List Needed) → Required l → (rows : Rows) (a e : ℕ) (met : List ℕ) → a ≡ spanOf rows .from → e ≡ spanOf rows .to
+pub all-missing : (l : List ℕ) → Required l → (rows : Rows) (a e : ℕ) (met : List ℕ) → a ≡ spanOf rows .from → e ≡ spanOf rows .to
     → missing (rowsFor rows) met ≡ lacking (tagsIn l a e) met
 all-missing l R rows a e met p q = missing-lacking (rowsFor rows) met ∙ ap (λ (x : List ℕ). lacking x met) (sym (part-is l R rows)) ∙ rw (p, q)

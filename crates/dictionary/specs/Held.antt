@@ -20,7 +20,6 @@ use Rattle.dictionary.specs.declared.Verdict.{Verdict}
 use Rattle.dictionary.specs.declared.rules.State.{State}
 use Rattle.dictionary.specs.declared.table.Entry.{Entry}
 use Rattle.dictionary.specs.declared.table.Line.{Line}
-use Rattle.dictionary.specs.declared.table.Needed.{Needed}
 use Rattle.dictionary.specs.declared.table.Span.{Span}
 use Rattle.dictionary.specs.declared.table.Rows.{Rows}
 use Rattle.dictionary.specs.declared.table.Rows.the-variants.{Header, Own, Members}
@@ -178,18 +177,18 @@ pub record Spanned (rows : Rows) (r : Span) : Type 0 where
   pub within : r .to ≤ 28
 
 -- the tags in the part of the constant that belongs to some rows are their required ones
-abbrev pub tagsIn : List Needed → ℕ → ℕ → List ℕ
-tagsIn l a e = map (λ (n : Needed). n .0) (take (e - a) (drop a l))
+abbrev pub tagsIn : List ℕ → ℕ → ℕ → List ℕ
+tagsIn l a e = map tagAt (take (e - a) (drop a l))
 
-abbrev pub tagsFor : List Needed → Span → List ℕ
+abbrev pub tagsFor : List ℕ → Span → List ℕ
 tagsFor l s = tagsIn l (s .from) (s .to)
 
-pub record Required (l : List Needed) : Type 0 where
+pub record Required (l : List ℕ) : Type 0 where
   pub head : tagsFor l (spanOf Header) ≡ needed (rowsFor Header)
   pub own : all (λ m. same (tagsFor l (spanOf (Own m))) (needed (fields m))) theNine ≡ true
   pub parties : tagsFor l (membersSpan true) ≡ needed (membersOf true)
   pub dates : tagsFor l (membersSpan false) ≡ needed (membersOf false)
-  pub places : all (λ (n : Needed). ltb (n .1) 44 && eqb (tagAt (n .1)) (n .0)) l ≡ true
+  pub places : all (λ p. ltb p 44) l ≡ true
   pub long : length l ≡ 28
 
 -- WHAT THE WALK REMEMBERS. A mark stands at the place of each tag that was met, and at no other.

@@ -4,7 +4,8 @@ use super::Says;
 use kinds::Choice;
 use kinds::Kind;
 ghost use mathlib.Core.Path.{_≡_};
-ghost use Rattle.dictionary.specs.Held.{entryOf, Table, Placed, Required, Missing, Spanned};
+ghost use Prim.Native.Nat.{_<_};
+ghost use Rattle.dictionary.specs.Held.{tagAt, entryOf, Table, Placed, Required, Missing, Spanned};
 
 // A tag's line of the dictionary: its kind, with the list of its values; the messages that have it outside groups; and the group that has it as a
 // member.
@@ -162,51 +163,59 @@ pub fn place_of(tag: u32) -> usize
     i
 }
 
-// A required tag, and the place of its mark.
-pub struct Needed(pub u32, pub usize);
+// The tag of a line.
+fn tag_at(p: usize) -> u32
+    requires { ⌜ p < 44 ⌝ }
+    ensures { λ r. ⌜ r ≡ tagAt p ⌝ }
+{
+    let t = table();
+    let line = t[p];
+    line.0
+}
 
-const REQUIRED: [Needed; 28] = [
-    // header
-    Needed(35, 8),
-    Needed(49, 14),
-    Needed(56, 17),
-    Needed(34, 7),
-    Needed(52, 15),
-    // TestRequest
-    Needed(112, 24),
-    // ResendRequest
-    Needed(7, 0),
-    Needed(16, 5),
-    // Reject
-    Needed(45, 12),
-    // SequenceReset
-    Needed(36, 9),
-    // Logon
-    Needed(98, 22),
-    Needed(108, 23),
-    Needed(1137, 42),
-    // OrderCancelRequest
-    Needed(11, 4),
-    Needed(41, 10),
-    Needed(54, 16),
-    Needed(48, 13),
-    Needed(22, 6),
-    Needed(60, 19),
-    // TradeCaptureReportRequest
-    Needed(568, 36),
-    Needed(569, 37),
-    Needed(22, 6),
-    Needed(48, 13),
-    Needed(580, 38),
-    // group 453
-    Needed(448, 33),
-    Needed(447, 32),
-    Needed(452, 34),
-    // group 580
-    Needed(75, 20),
+// The required tags of each list in its order, by their places: as bytes, so that the constant costs two stores.
+const REQUIRED: [u8; 28] = [
+    // header: 35, 49, 56, 34, 52
+    8,
+    14,
+    17,
+    7,
+    15,
+    // TestRequest: 112
+    24,
+    // ResendRequest: 7, 16
+    0,
+    5,
+    // Reject: 45
+    12,
+    // SequenceReset: 36
+    9,
+    // Logon: 98, 108, 1137
+    22,
+    23,
+    42,
+    // OrderCancelRequest: 11, 41, 54, 48, 22, 60
+    4,
+    10,
+    16,
+    13,
+    6,
+    19,
+    // TradeCaptureReportRequest: 568, 569, 22, 48, 580
+    36,
+    37,
+    6,
+    13,
+    38,
+    // group 453: 448, 447, 452
+    33,
+    32,
+    34,
+    // group 580: 75
+    20,
 ];
 
-pub fn required() -> [Needed; 28]
+pub fn required() -> [u8; 28]
     ensures { λ r. ⌜ Required r ⌝ }
 {
     REQUIRED
@@ -264,12 +273,11 @@ pub fn missing(marks: &[bool; 128], rows: Rows) -> Says
     let to = s.to;
     let mut k = s.from;
     while k < to {
-        let n = t[k];
-        let place = n.1;
+        let place = t[k] as usize;
         if !marks[place] {
             return Says::Reason {
                 reason: 1,
-                tag: n.0,
+                tag: tag_at(place),
             };
         }
         k += 1;

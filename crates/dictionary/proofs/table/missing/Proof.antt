@@ -3,11 +3,12 @@ use borrow.Author.Needs.{needs}
 use native.Mathlib.Omega.{arith}
 use borrow.Author.Tests.{not-true, not-false}
 use Prim.Native.Nat.{ℕ, _≤_, _-_}
-use mathlib.Core.Path.{_≡_, refl, sym, _∙_}
+use mathlib.Core.Path.{_≡_, refl, sym, ap, _∙_}
 use mathlib.Core.List.{List}
 use denote.Ref.{now}
 use Rattle.dictionary.specs.Held.{Marked, tagsIn}
-use Rattle.dictionary.proofs.Needs.{lacking, place-fits, needed-met, needed-not, none-left, all-missing}
+use Rattle.dictionary.specs.declared.Says.the-variants.{Reason}
+use Rattle.dictionary.proofs.Needs.{lacking, place-small, needed-met, needed-not, none-left, all-missing}
 use Rattle.dictionary.proofs.table.missing.Statement.{statement}
 use Rattle.dictionary.proofs.table.missing.Tie as tie
 
@@ -26,16 +27,21 @@ span-of-requires c κs = search needs
 loop-holds : tie.Need-loop-holds Inv-loop μ-loop
 loop-holds c = (search needs, (search needs, λ met M. refl))
 
-mul-n : tie.Need-mul-n Inv-loop μ-loop
-mul-n c = search needs
+array-read-place : tie.Need-array-read-place Inv-loop μ-loop
+array-read-place c = search needs
 
-array-copy-out-n : tie.Need-array-copy-out-n Inv-loop μ-loop
-array-copy-out-n c = search needs
+cast-place : tie.Need-cast-place Inv-loop μ-loop
+cast-place c = search needs
 
 element-copy-out-if1 : tie.Need-element-copy-out-if1 Inv-loop μ-loop
 element-copy-out-if1 c =
-    let l = c .before .before in
-    place-fits _ (l .before .before .required .ensures) _ _ _ (c .before .loop-test .taken) (l .loop .inv .1 .0)
+    let l = c .before in
+    omega (arith, place-small _ (l .before .before .required .ensures) 0 _ _ (c .loop-test .taken) (l .loop .inv .1 .0))
+
+tag-at-requires : tie.Need-tag-at-requires Inv-loop μ-loop
+tag-at-requires c κs =
+    let l = c .before .before .before in
+    place-small _ (l .before .before .required .ensures) _ _ _ (c .before .before .loop-test .taken) (l .loop .inv .1 .0)
 
 returns : tie.Need-returns Inv-loop μ-loop
 returns c = record {
@@ -43,7 +49,8 @@ returns c = record {
       let l = c .before .before .before .before in
       let R = l .before .before .required .ensures in
       let S = l .before .span-of .ensures in
-      sym (all-missing _ R (l .before .before .before .args .rows) _ _ met (S .first) (S .last) ∙ l .loop .inv .1 .1 met M ∙ needed-not _ R _ _ _ (c .before .before .before .loop-test .taken) (l .loop .inv .1 .0) (now (l .before .before .before .args .marks)) met M (not-true _ (c .if1 .taken)));
+      ap (Reason 1) (c .tag-at .ensures)
+      ∙ sym (all-missing _ R (l .before .before .before .args .rows) _ _ met (S .first) (S .last) ∙ l .loop .inv .1 .1 met M ∙ needed-not _ R _ _ _ (c .before .before .before .loop-test .taken) (l .loop .inv .1 .0) (now (l .before .before .before .args .marks)) met M (not-true _ (c .before .if1 .taken)));
 }
 
 add-k : tie.Need-add-k Inv-loop μ-loop
@@ -54,9 +61,9 @@ loop-less c = search needs
 
 loop-again : tie.Need-loop-again Inv-loop μ-loop
 loop-again c =
-    let l = c .before .before .before .before in
+    let l = c .before .before .before in
     let R = l .before .before .required .ensures in
-    (omega arith, (omega arith, λ met M. l .loop .inv .1 .1 met M ∙ needed-met _ R _ _ _ (c .before .before .before .loop-test .taken) (l .loop .inv .1 .0) (now (l .before .before .before .args .marks)) met M (not-false _ (c .if1 .left))))
+    (omega arith, (omega arith, λ met M. l .loop .inv .1 .1 met M ∙ needed-met _ R _ _ _ (c .before .before .loop-test .taken) (l .loop .inv .1 .0) (now (l .before .before .before .args .marks)) met M (not-false _ (c .if1 .left))))
 
 returns-2 : tie.Need-returns-2 Inv-loop μ-loop
 returns-2 c = record {
@@ -76,9 +83,10 @@ missing-spec =
     required-requires
     span-of-requires
     loop-holds
-    mul-n
-    array-copy-out-n
+    array-read-place
+    cast-place
     element-copy-out-if1
+    tag-at-requires
     returns
     add-k
     loop-less
