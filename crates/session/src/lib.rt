@@ -121,8 +121,8 @@ fn unchanged(r: Record, answer: Answer) -> Answered
     }
 }
 
-// The reply to a move, from the record as it was.
-fn reply(r: Record, m: Move, body: &[u8], time: u64, buf: &mut [u8]) -> usize
+// The reply to a move that writes, from the record as it was.
+fn stamped(r: Record, m: Move, body: &[u8], time: u64, buf: &mut [u8]) -> usize
     requires { ⌜ Ready r ⌝ }
     requires { ⌜ (512 ≤ length (now buf)) × (time < limit) × Carried (now body) m ⌝ }
     ensures bytes { λ n. ⌜ Wrote (now (buf .entry)) (now (buf .exit)) 0 n (replied r time (now (body .entry)) m) ⌝ }
@@ -143,6 +143,21 @@ fn reply(r: Record, m: Move, body: &[u8], time: u64, buf: &mut [u8]) -> usize
         &stamp,
         body,
     )
+}
+
+// The reply to a move. One that writes nothing needs no time in words.
+fn reply(r: Record, m: Move, body: &[u8], time: u64, buf: &mut [u8]) -> usize
+    requires { ⌜ Ready r ⌝ }
+    requires { ⌜ (512 ≤ length (now buf)) × (time < limit) × Carried (now body) m ⌝ }
+    ensures bytes { λ n. ⌜ Wrote (now (buf .entry)) (now (buf .exit)) 0 n (replied r time (now (body .entry)) m) ⌝ }
+    ensures room { λ n. ⌜ n ≤ 512 ⌝ }
+{
+    match m {
+        Move::Quiet { expected: _ } => 0,
+        Move::Ignore => 0,
+        Move::Deliver => 0,
+        _ => stamped(r, m, body, time, buf),
+    }
 }
 
 // A move, made: the reply is put, and the record changed.

@@ -1,50 +1,47 @@
+-- `reply`: nothing is put for the three moves that write nothing.
 use borrow.Author.Needs.{needs}
-use Rattle.session.proofs.Playing.{sending, stamped}
-use Rattle.calendar.proofs.Texts.{utc-before}
-use lib.Seq.{length-take-le}
-use lib.ListN.{length}
-use mathlib.Core.Path.{_≡_, sym, _∙_}
 use native.Mathlib.Omega.{arith}
+use Rattle.writer.proofs.Writes.{nothing}
 use Rattle.session.proofs.reply.Statement.{statement}
 use Rattle.session.proofs.reply.Tie as tie
 
-utc-requires : tie.Need-utc-requires
-utc-requires c κs = search needs
+enum-told : tie.Need-enum-told
+enum-told c = search needs
 
-array-share-prefix-ours : tie.Need-array-share-prefix-ours
-array-share-prefix-ours c = let e : length (c .before .before .before .before .before .before .args .r .ours) ≡ 11 = search needs in omega arith
+enum-told-2 : tie.Need-enum-told-2
+enum-told-2 c = search needs
 
-slice-aggregate-put-reply : tie.Need-slice-aggregate-put-reply
-slice-aggregate-put-reply c = let e : length (c .before .before .before .before .before .before .before .args .r .ours) ≡ 11 = search needs in sym (length-take-le _ _ (omega arith))
+enum-told-3 : tie.Need-enum-told-3
+enum-told-3 c = search needs
 
-array-share-prefix-peer : tie.Need-array-share-prefix-peer
-array-share-prefix-peer c = let e : length (c .before .before .before .before .before .before .before .args .r .peer) ≡ 11 = search needs in omega arith
+stamped-requires : tie.Need-stamped-requires
+stamped-requires c κs = search needs
 
-slice-aggregate-put-reply-2 : tie.Need-slice-aggregate-put-reply-2
-slice-aggregate-put-reply-2 c = let e : length (c .before .before .before .before .before .before .before .before .args .r .peer) ≡ 11 = search needs in sym (length-take-le _ _ (omega arith))
+returns : tie.Need-returns
+returns c = (rw (c .enum-told .given .1) nothing, omega arith)
 
-slice-aggregate-put-reply-3 : tie.Need-slice-aggregate-put-reply-3
-slice-aggregate-put-reply-3 c = search needs
+returns-2 : tie.Need-returns-2
+returns-2 c = (rw (c .enum-told2 .given .1) nothing, omega arith)
 
-put-reply-requires : tie.Need-put-reply-requires
-put-reply-requires c κs = let e : length (c .before .before .before .before .before .before .before .before .before .args .r .ours) ≡ 11 = search needs in let f : length (c .before .before .before .before .before .before .before .before .before .args .r .peer) ≡ 11 = search needs in let g : length (c .before .before .before .before .before .before .utc .result) ≡ 24 = search needs in (sending (c .before .before .before .before .before .before .before .before .before .args .r) (c .before .before .before .before .before .before .before .before .before .pre .0) e f _ _ g (c .before .before .before .before .before .before .before .before .before .pre .1 .0), c .before .before .before .before .before .before .before .before .before .pre .1 .2)
+returns-3 : tie.Need-returns-3
+returns-3 c = (rw (c .enum-told3 .given .1) nothing, omega arith)
 
 same-length : tie.Need-same-length
 same-length c = search needs
 
-returns : tie.Need-returns
-returns c = (stamped (c .before .before .before .before .before .before .before .before .before .before .before .before .args .r) (c .before .before .before .before .before .before .before .before .before .before .before .before .args .time) (c .before .before .before .before .before .before .before .before .before .before .before .before .args .body .now) (c .before .before .before .before .before .before .before .before .before .before .before .before .args .m) (c .before .before .before .before .before .before .before .before .before .utc .ensures ∙ utc-before _ (c .before .before .before .before .before .before .before .before .before .before .before .before .pre .1 .1)) (c .before .before .put-reply .ensures .0), omega arith)
+returns-4 : tie.Need-returns-4
+returns-4 c = search needs
 
 pub reply-spec : {M : Type 1} → statement M
 reply-spec =
     tie.close
     (tie.spec
-    utc-requires
-    array-share-prefix-ours
-    slice-aggregate-put-reply
-    array-share-prefix-peer
-    slice-aggregate-put-reply-2
-    slice-aggregate-put-reply-3
-    put-reply-requires
+    enum-told
+    enum-told-2
+    enum-told-3
+    stamped-requires
+    returns
+    returns-2
+    returns-3
     same-length
-    returns)
+    returns-4)
