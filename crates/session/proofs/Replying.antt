@@ -1,13 +1,14 @@
 -- What the code puts for a move is its reply: the values that it takes from the body are those that the reply repeats.
 -- Assumes nothing.
-use Prim.Native.Nat.{ℕ, _-_, _≤_}
+use Prim.Native.Nat.{ℕ, _+_, _-_, _≤_}
 use native.Mathlib.Omega.{arith}
 use mathlib.Core.Path.{_≡_, refl, sym, ap, _∙_, subst}
-use mathlib.Core.Bool.{Bool, true, false, cond, false≢true}
+use mathlib.Core.Bool.{Bool, true, false, cond, _&&_, false≢true}
 use mathlib.Core.List.{List, [], _∷_, _++_}
 use mathlib.Core.Option.{Option, none, some}
 use lib.ListN.{length, take, drop}
 use Rattle.frame.specs.Bytes.{Bytes, same}
+use Rattle.frame.proofs.Numerals.{and-true}
 use Rattle.fields.specs.Field.{firstField}
 use Rattle.fields.specs.First.{First, valueAt}
 use Rattle.fields.specs.declared.Place.{Place}
@@ -21,7 +22,21 @@ use Rattle.dictionary.specs.Dictionary.{typeIs}
 use Rattle.dictionary.specs.declared.walk.Named.{Named}
 use Rattle.dictionary.specs.declared.walk.Named.the-variants.{Of, Other}
 use Rattle.writer.specs.Message.{Value, absent, bytes}
+use Rattle.writer.specs.Wrote.{Wrote}
+use Rattle.writer.specs.Replied.{sendable, Replied}
+use Rattle.writer.proofs.Replied.{is-sendable}
 use Rattle.session.specs.Seen.{repeated, codeOf}
+use Rattle.session.specs.Plan.{Sending}
+
+-- WHERE A REPLY IS SENT its values fit, so it is put
+module _ {ours peers : Bytes} {n e : ℕ} {stamp buf : Bytes} (S : Sending ours peers n e stamp buf) where
+  pub sendable-sent : (k at room len : ℕ) → k ≤ 999_999_999 → at + room ≤ len → sendable ours peers k stamp at room len ≡ true
+  sendable-sent k at room len h l =
+      is-sendable (record { ranged = record { ours-short = S .ours-short; peers-short = S .peers-short; small = omega arith }; timed = S .stamped; fits = l })
+
+  pub was-put : (k : ℕ) {at to room : ℕ} {d d′ xs : Bytes} {own : Bool} → Replied (sendable ours peers k stamp at room (length d) && own) d d′ at to room xs
+      → own ≡ true → k ≤ 999_999_999 → at + room ≤ length d → Wrote d d′ at to xs × (to ≤ at + room)
+  was-put k {at} {to} {room} {d} {own = own} R o h l = R .written (and-true (sendable ours peers k stamp at room (length d)) own (sendable-sent k at room (length d) h l) o)
 
 -- THE FIRST FIELD by its place
 at-place : (t : ℕ) (body : Bytes) {r p : Place} → First t body r → r ≡ p → (within : valueAt body r ≡ firstField t body) → firstField t body ≡ valueAt body p

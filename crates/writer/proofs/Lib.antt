@@ -13,6 +13,7 @@ pub mod Fitness
 pub mod Entries
 pub mod Filling
 pub mod Calls
+pub mod Replied
 pub mod Sent
 pub mod Promises
 pub mod ReplyPromises

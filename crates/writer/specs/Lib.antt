@@ -6,5 +6,6 @@ pub mod Promise
 pub mod Whole
 pub mod Wrote
 pub mod Ranges
+pub mod Replied
 pub mod Held
 pub mod Desk

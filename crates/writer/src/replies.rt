@@ -1,7 +1,10 @@
 // The replies of a session, each put behind a place of the reply buffer. `there`, `reset` and `typed` say whether an optional value is.
+// A reply whose values do not fit is not put: its place is answered.
 use crate::put::put_frame;
 use crate::put::put_number;
 use crate::put::put_text;
+ghost use mathlib.Core.Path.{_≡_};
+ghost use mathlib.Core.Bool.{_&&_};
 ghost use Prim.Native.Nat.{_+_, _≤_, _<_};
 ghost use lib.ListN.{length, take};
 ghost use Rattle.frame.specs.Bytes.{fix};
@@ -10,6 +13,53 @@ ghost use Rattle.writer.specs.Message.{bytes, _is_, field, row, framed, 
 ghost use Rattle.writer.specs.Reply.{optional, unlessZero, ofHeartbeat, ofLogon, ofResendRequest, ofReject, ofGapFill, ofLogout, heartbeat, logon, resendRequest, reject, gapFill, logout};
 ghost use Rattle.writer.specs.Wrote.{Wrote};
 ghost use Rattle.writer.specs.Ranges.{Ranged, ids, headed};
+ghost use Rattle.writer.specs.Replied.{nineDigits, sendable, echoable, rejectable, Replied};
+
+// Whether every reply takes these values, and a buffer of `len` bytes has so much room behind the place.
+fn sendable(
+    ours: &[u8],
+    peers: &[u8],
+    n: u64,
+    time: &[u8],
+    at: usize,
+    room: usize,
+    len: usize,
+) -> bool
+    ensures { λ r. ⌜ r ≡ sendable (now (ours .entry)) (now (peers .entry)) n (now (time .entry)) at room len ⌝ }
+{
+    if 11 < ours.len() {
+        return false;
+    }
+    if 11 < peers.len() {
+        return false;
+    }
+    if 999_999_999 < n {
+        return false;
+    }
+    if 24 < time.len() {
+        return false;
+    }
+    if len < room {
+        return false;
+    }
+    at <= len - room
+}
+
+// Whether a Reject takes these values.
+fn rejectable(refused: u64, tag: u64, kind: &[u8], why: u64) -> bool
+    ensures { λ r. ⌜ r ≡ rejectable refused tag (now (kind .entry)) why ⌝ }
+{
+    if 999_999_999 < refused {
+        return false;
+    }
+    if 999_999_999 < tag {
+        return false;
+    }
+    if 2 < kind.len() {
+        return false;
+    }
+    why <= 999_999_999
+}
 
 // A field, or nothing.
 fn put_optional(buf: &mut [u8], at: usize, tag: u64, there: bool, v: &[u8]) -> usize
@@ -97,11 +147,14 @@ pub fn heartbeat(
     there: bool,
     id: &[u8],
 ) -> usize
-    requires { ⌜ Ranged (now ours) (now peers) n ⌝ }
-    requires { ⌜ (length (now time) ≤ 24) × (length (now id) ≤ 64) × (at + 187 ≤ length (now buf)) ⌝ }
-    ensures bytes { λ r. ⌜ Wrote (now (buf .entry)) (now (buf .exit)) at r (heartbeat (now (ours .entry)) (now (peers .entry)) n (now (time .entry)) (optional there (now (id .entry)))) ⌝ }
-    ensures room { λ r. ⌜ r ≤ at + 187 ⌝ }
+    ensures { λ r. ⌜ Replied (sendable (now (ours .entry)) (now (peers .entry)) n (now (time .entry)) at 187 (length (now (buf .entry))) && echoable (now (id .entry))) (now (buf .entry)) (now (buf .exit)) at r 187 (heartbeat (now (ours .entry)) (now (peers .entry)) n (now (time .entry)) (optional there (now (id .entry)))) ⌝ }
 {
+    if !sendable(ours, peers, n, time, at, 187, buf.len()) {
+        return at;
+    }
+    if 64 < id.len() {
+        return at;
+    }
     let mut body = [0u8; 256];
     let k = heartbeat_body(&mut body, ours, peers, n, time, there, id);
     put_reply(buf, at, &body, k)
@@ -139,11 +192,14 @@ pub fn logon(
     seconds: u64,
     reset: bool,
 ) -> usize
-    requires { ⌜ Ranged (now ours) (now peers) n ⌝ }
-    requires { ⌜ (length (now time) ≤ 24) × (seconds < 1_000_000_000) × (at + 156 ≤ length (now buf)) ⌝ }
-    ensures bytes { λ r. ⌜ Wrote (now (buf .entry)) (now (buf .exit)) at r (logon (now (ours .entry)) (now (peers .entry)) n (now (time .entry)) seconds (optional reset (fix "Y"))) ⌝ }
-    ensures room { λ r. ⌜ r ≤ at + 156 ⌝ }
+    ensures { λ r. ⌜ Replied (sendable (now (ours .entry)) (now (peers .entry)) n (now (time .entry)) at 156 (length (now (buf .entry))) && nineDigits seconds) (now (buf .entry)) (now (buf .exit)) at r 156 (logon (now (ours .entry)) (now (peers .entry)) n (now (time .entry)) seconds (optional reset (fix "Y"))) ⌝ }
 {
+    if !sendable(ours, peers, n, time, at, 156, buf.len()) {
+        return at;
+    }
+    if 999_999_999 < seconds {
+        return at;
+    }
     let mut body = [0u8; 256];
     let k = logon_body(&mut body, ours, peers, n, time, seconds, reset);
     put_reply(buf, at, &body, k)
@@ -177,11 +233,14 @@ pub fn resend_request(
     time: &[u8],
     expected: u64,
 ) -> usize
-    requires { ⌜ Ranged (now ours) (now peers) n ⌝ }
-    requires { ⌜ (length (now time) ≤ 24) × (expected < 1_000_000_000) × (at + 148 ≤ length (now buf)) ⌝ }
-    ensures bytes { λ r. ⌜ Wrote (now (buf .entry)) (now (buf .exit)) at r (resendRequest (now (ours .entry)) (now (peers .entry)) n (now (time .entry)) expected) ⌝ }
-    ensures room { λ r. ⌜ r ≤ at + 148 ⌝ }
+    ensures { λ r. ⌜ Replied (sendable (now (ours .entry)) (now (peers .entry)) n (now (time .entry)) at 148 (length (now (buf .entry))) && nineDigits expected) (now (buf .entry)) (now (buf .exit)) at r 148 (resendRequest (now (ours .entry)) (now (peers .entry)) n (now (time .entry)) expected) ⌝ }
 {
+    if !sendable(ours, peers, n, time, at, 148, buf.len()) {
+        return at;
+    }
+    if 999_999_999 < expected {
+        return at;
+    }
     let mut body = [0u8; 256];
     let k = resend_request_body(&mut body, ours, peers, n, time, expected);
     put_reply(buf, at, &body, k)
@@ -225,11 +284,14 @@ pub fn reject(
     kind: &[u8],
     why: u64,
 ) -> usize
-    requires { ⌜ Ranged (now ours) (now peers) n ⌝ }
-    requires { ⌜ (length (now time) ≤ 24) × (refused < 1_000_000_000) × (tag < 1_000_000_000) × (length (now kind) ≤ 2) × (why < 1_000_000_000) × (at + 173 ≤ length (now buf)) ⌝ }
-    ensures bytes { λ r. ⌜ Wrote (now (buf .entry)) (now (buf .exit)) at r (reject (now (ours .entry)) (now (peers .entry)) n (now (time .entry)) refused tag (optional typed (now (kind .entry))) why) ⌝ }
-    ensures room { λ r. ⌜ r ≤ at + 173 ⌝ }
+    ensures { λ r. ⌜ Replied (sendable (now (ours .entry)) (now (peers .entry)) n (now (time .entry)) at 173 (length (now (buf .entry))) && rejectable refused tag (now (kind .entry)) why) (now (buf .entry)) (now (buf .exit)) at r 173 (reject (now (ours .entry)) (now (peers .entry)) n (now (time .entry)) refused tag (optional typed (now (kind .entry))) why) ⌝ }
 {
+    if !sendable(ours, peers, n, time, at, 173, buf.len()) {
+        return at;
+    }
+    if !rejectable(refused, tag, kind, why) {
+        return at;
+    }
     let mut body = [0u8; 256];
     let k = reject_body(
         &mut body,
@@ -277,11 +339,14 @@ pub fn gap_fill(
     time: &[u8],
     next: u64,
 ) -> usize
-    requires { ⌜ Ranged (now ours) (now peers) n ⌝ }
-    requires { ⌜ (length (now time) ≤ 24) × (next < 1_000_000_000) × (at + 179 ≤ length (now buf)) ⌝ }
-    ensures bytes { λ r. ⌜ Wrote (now (buf .entry)) (now (buf .exit)) at r (gapFill (now (ours .entry)) (now (peers .entry)) n (now (time .entry)) next) ⌝ }
-    ensures room { λ r. ⌜ r ≤ at + 179 ⌝ }
+    ensures { λ r. ⌜ Replied (sendable (now (ours .entry)) (now (peers .entry)) n (now (time .entry)) at 179 (length (now (buf .entry))) && nineDigits next) (now (buf .entry)) (now (buf .exit)) at r 179 (gapFill (now (ours .entry)) (now (peers .entry)) n (now (time .entry)) next) ⌝ }
 {
+    if !sendable(ours, peers, n, time, at, 179, buf.len()) {
+        return at;
+    }
+    if 999_999_999 < next {
+        return at;
+    }
     let mut body = [0u8; 256];
     let k = gap_fill_body(&mut body, ours, peers, n, time, next);
     put_reply(buf, at, &body, k)
@@ -314,11 +379,14 @@ pub fn logout(
     time: &[u8],
     status: u64,
 ) -> usize
-    requires { ⌜ Ranged (now ours) (now peers) n ⌝ }
-    requires { ⌜ (length (now time) ≤ 24) × (status < 1_000_000_000) × (at + 132 ≤ length (now buf)) ⌝ }
-    ensures bytes { λ r. ⌜ Wrote (now (buf .entry)) (now (buf .exit)) at r (logout (now (ours .entry)) (now (peers .entry)) n (now (time .entry)) status) ⌝ }
-    ensures room { λ r. ⌜ r ≤ at + 132 ⌝ }
+    ensures { λ r. ⌜ Replied (sendable (now (ours .entry)) (now (peers .entry)) n (now (time .entry)) at 132 (length (now (buf .entry))) && nineDigits status) (now (buf .entry)) (now (buf .exit)) at r 132 (logout (now (ours .entry)) (now (peers .entry)) n (now (time .entry)) status) ⌝ }
 {
+    if !sendable(ours, peers, n, time, at, 132, buf.len()) {
+        return at;
+    }
+    if 999_999_999 < status {
+        return at;
+    }
     let mut body = [0u8; 256];
     let k = logout_body(&mut body, ours, peers, n, time, status);
     put_reply(buf, at, &body, k)

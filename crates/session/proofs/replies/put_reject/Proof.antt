@@ -1,6 +1,8 @@
+-- `put_reject`: the Reject with the 34 and the type that stand in the body.
 use borrow.Author.Needs.{needs}
-use Rattle.session.proofs.Replying.{type-absent, type-named, type-other, type-short}
+use Rattle.session.proofs.Replying.{was-put, type-absent, type-named, type-other, type-short}
 use Rattle.session.proofs.Readings.{place-inside}
+use Rattle.writer.proofs.Replied.{is-rejectable}
 use native.Mathlib.Omega.{arith}
 use Rattle.session.proofs.replies.put_reject.Statement.{statement}
 use Rattle.session.proofs.replies.put_reject.Tie as tie
@@ -27,7 +29,10 @@ same-length : tie.Need-same-length
 same-length c = search needs
 
 returns : tie.Need-returns
-returns c = (rw (type-absent (c .before .before .before .before .before .before .before .first-field .ensures) (c .before .before .before .before .before .enum-told .given .1), ← (c .before .before .before .before .before .before .before .before .number-in .ensures .is)) (c .before .before .reject .ensures .0), omega arith)
+returns c =
+    let N = c .before .before .before .before .before .before .before .before .number-in .ensures in
+    let w = was-put (c .before .before .before .before .before .before .before .before .before .before .before .before .before .before .pre .0) _ (c .before .before .reject .ensures) (is-rejectable (record { numbered = omega arith; tagged = omega arith; typed = omega arith; reasoned = omega arith })) (omega arith) (omega arith) in
+    (rw (type-absent (c .before .before .before .before .before .before .before .first-field .ensures) (c .before .before .before .before .before .enum-told .given .1), ← (N .is)) (w .0), omega arith)
 
 sub-v : tie.Need-sub-v
 sub-v c = omega (arith, place-inside (c .before .before .before .first-field .ensures) (c .before .start .given .1))
@@ -45,7 +50,7 @@ enum-told-2 : tie.Need-enum-told-2
 enum-told-2 c = search needs
 
 reject-requires-2 : tie.Need-reject-requires-2
-reject-requires-2 c κs = let h = type-short _ (c .before .before .before .type-of .ensures) (c .before .enum-told2 .given .1) in search needs
+reject-requires-2 c κs = search needs
 
 enum-told-3 : tie.Need-enum-told-3
 enum-told-3 c = search needs
@@ -60,13 +65,21 @@ same-length-2 : tie.Need-same-length-2
 same-length-2 c = search needs
 
 returns-2 : tie.Need-returns-2
-returns-2 c = (rw (type-named (c .before .before .before .before .before .before .before .before .before .before .before .first-field .ensures) (c .before .before .before .before .before .before .before .before .before .start .given .1) (c .before .before .before .before .before .before .type-of .ensures) (c .before .before .before .before .enum-told2 .given .1), ← (c .before .before .before .before .before .before .before .before .before .before .before .before .number-in .ensures .is)) (c .before .before .reject2 .ensures .0), omega arith)
+returns-2 c =
+    let N = c .before .before .before .before .before .before .before .before .before .before .before .before .number-in .ensures in
+    let T = c .before .before .before .before .before .before .type-of .ensures in
+    let m = c .before .before .before .before .enum-told2 .given .1 in
+    let w = was-put (c .before .before .before .before .before .before .before .before .before .before .before .before .before .before .before .before .before .before .pre .0) _ (c .before .before .reject2 .ensures) (is-rejectable (record { numbered = omega arith; tagged = omega arith; typed = type-short _ T m; reasoned = omega arith })) (omega arith) (omega arith) in
+    (rw (type-named (c .before .before .before .before .before .before .before .before .before .before .before .first-field .ensures) (c .before .before .before .before .before .before .before .before .before .start .given .1) T m, ← (N .is)) (w .0), omega arith)
 
 same-length-3 : tie.Need-same-length-3
 same-length-3 c = search needs
 
 returns-3 : tie.Need-returns-3
-returns-3 c = (rw (type-other (c .before .before .before .before .before .before .before .before .before .before .before .before .first-field .ensures) (c .before .before .before .before .before .before .before .before .before .before .start .given .1) (c .before .before .before .before .before .before .before .type-of .ensures) (c .before .before .before .before .before .enum-told3 .given .1), ← (c .before .before .before .before .before .before .before .before .before .before .before .before .before .number-in .ensures .is)) (c .before .before .reject3 .ensures .0), omega arith)
+returns-3 c =
+    let N = c .before .before .before .before .before .before .before .before .before .before .before .before .before .number-in .ensures in
+    let w = was-put (c .before .before .before .before .before .before .before .before .before .before .before .before .before .before .before .before .before .before .before .pre .0) _ (c .before .before .reject3 .ensures) (is-rejectable (record { numbered = omega arith; tagged = omega arith; typed = omega arith; reasoned = omega arith })) (omega arith) (omega arith) in
+    (rw (type-other (c .before .before .before .before .before .before .before .before .before .before .before .before .first-field .ensures) (c .before .before .before .before .before .before .before .before .before .before .start .given .1) (c .before .before .before .before .before .before .before .type-of .ensures) (c .before .before .before .before .before .enum-told3 .given .1), ← (N .is)) (w .0), omega arith)
 
 pub put-reject-spec : {M : Type 1} → statement M
 put-reject-spec =

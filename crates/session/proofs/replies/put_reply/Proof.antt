@@ -1,7 +1,11 @@
+-- `put_reply`: the messages of each move, one behind the other.
 use borrow.Author.Needs.{needs}
 use Rattle.session.specs.Plan.{Carried}
 use Rattle.writer.proofs.Writes.{chain, nothing}
-use mathlib.Core.Path.{subst}
+use mathlib.Core.Path.{refl, subst}
+use borrow.Author.Tests.{le-leb}
+use Rattle.session.proofs.Replying.{was-put}
+use native.Mathlib.Nat.{le-of-suc-le-suc}
 use native.Mathlib.Omega.{arith}
 use Rattle.session.proofs.replies.put_reply.Statement.{statement}
 use Rattle.session.proofs.replies.put_reply.Tie as tie
@@ -55,7 +59,7 @@ enum-known-m-3 : tie.Need-enum-known-m-3
 enum-known-m-3 c = search needs
 
 gap-fill-requires : tie.Need-gap-fill-requires
-gap-fill-requires c κs = let h = subst (Carried _) (c .before .before .m3 .given .1) (c .before .before .before .before .before .before .before .before .before .pre .1) in search needs
+gap-fill-requires c κs = search needs
 
 resend-request-requires-2 : tie.Need-resend-request-requires-2
 resend-request-requires-2 c κs = search needs
@@ -64,7 +68,7 @@ enum-known-m-4 : tie.Need-enum-known-m-4
 enum-known-m-4 c = search needs
 
 gap-fill-requires-2 : tie.Need-gap-fill-requires-2
-gap-fill-requires-2 c κs = let h = subst (Carried _) (c .before .before .m4 .given .1) (c .before .before .before .before .before .before .before .before .before .pre .1) in search needs
+gap-fill-requires-2 c κs = search needs
 
 enum-told-7 : tie.Need-enum-told-7
 enum-told-7 c = search needs
@@ -118,13 +122,17 @@ same-length : tie.Need-same-length
 same-length c = search needs
 
 returns-4 : tie.Need-returns-4
-returns-4 c = (rw (c .before .before .before .before .enum-told4 .given .1) (c .before .before .logout .ensures .0), omega arith)
+returns-4 c =
+    let w = was-put (c .before .before .before .before .before .before .before .before .before .before .before .pre .0) _ (c .before .before .logout .ensures) refl (omega arith) (omega arith) in
+    (rw (c .before .before .before .before .enum-told4 .given .1) (w .0), omega arith)
 
 same-length-2 : tie.Need-same-length-2
 same-length-2 c = search needs
 
 returns-5 : tie.Need-returns-5
-returns-5 c = (rw (c .before .before .before .before .enum-told5 .given .1) (c .before .before .logout2 .ensures .0), omega arith)
+returns-5 c =
+    let w = was-put (c .before .before .before .before .before .before .before .before .before .before .before .pre .0) _ (c .before .before .logout2 .ensures) refl (omega arith) (omega arith) in
+    (rw (c .before .before .before .before .enum-told5 .given .1) (w .0), omega arith)
 
 same-length-3 : tie.Need-same-length-3
 same-length-3 c = search needs
@@ -136,25 +144,36 @@ same-length-4 : tie.Need-same-length-4
 same-length-4 c = search needs
 
 returns-7 : tie.Need-returns-7
-returns-7 c = (rw (c .before .before .before .before .before .before .before .before .before .m2 .given .1) (chain (c .before .before .before .before .before .before .put-reject2 .ensures .0) (c .before .before .logout3 .ensures .0)), omega arith)
+returns-7 c =
+    let w = was-put (c .before .before .before .before .before .before .before .before .before .before .before .before .before .before .before .before .pre .0) _ (c .before .before .logout3 .ensures) refl (omega arith) (omega arith) in
+    (rw (c .before .before .before .before .before .before .before .before .before .m2 .given .1) (chain (c .before .before .before .before .before .before .put-reject2 .ensures .0) (w .0)), omega arith)
 
 same-length-5 : tie.Need-same-length-5
 same-length-5 c = search needs
 
 returns-8 : tie.Need-returns-8
-returns-8 c = (rw (c .before .before .before .before .enum-told6 .given .1) (c .before .before .resend-request .ensures .0), omega arith)
+returns-8 c =
+    let w = was-put (c .before .before .before .before .before .before .before .before .before .before .before .pre .0) _ (c .before .before .resend-request .ensures) (le-leb (c .before .before .before .before .before .before .before .before .before .before .before .args .e) 999_999_999 (omega arith)) (omega arith) (omega arith) in
+    (rw (c .before .before .before .before .enum-told6 .given .1) (w .0), omega arith)
 
 same-length-6 : tie.Need-same-length-6
 same-length-6 c = search needs
 
 returns-9 : tie.Need-returns-9
-returns-9 c = (rw (c .before .before .before .before .before .before .before .before .before .m3 .given .1) (chain (c .before .before .before .before .before .before .gap-fill .ensures .0) (c .before .before .resend-request2 .ensures .0)), omega arith)
+returns-9 c =
+    let h = subst (Carried _) (c .before .before .before .before .before .before .before .before .before .m3 .given .1) (c .before .before .before .before .before .before .before .before .before .before .before .before .before .before .before .before .pre .1) in
+    let v = was-put (c .before .before .before .before .before .before .before .before .before .before .before .before .before .before .before .before .pre .0) _ (c .before .before .before .before .before .before .gap-fill .ensures) (le-leb _ _ (le-of-suc-le-suc (h .1))) (omega arith) (omega arith) in
+    let w = was-put (c .before .before .before .before .before .before .before .before .before .before .before .before .before .before .before .before .pre .0) _ (c .before .before .resend-request2 .ensures) (le-leb (c .before .before .before .before .before .before .before .before .before .before .before .before .before .before .before .before .args .e) 999_999_999 (omega arith)) (omega arith) (omega arith) in
+    (rw (c .before .before .before .before .before .before .before .before .before .m3 .given .1) (chain (v .0) (w .0)), omega arith)
 
 same-length-7 : tie.Need-same-length-7
 same-length-7 c = search needs
 
 returns-10 : tie.Need-returns-10
-returns-10 c = (rw (c .before .before .before .before .before .m4 .given .1) (c .before .before .gap-fill2 .ensures .0), omega arith)
+returns-10 c =
+    let h = subst (Carried _) (c .before .before .before .before .before .m4 .given .1) (c .before .before .before .before .before .before .before .before .before .before .before .before .pre .1) in
+    let w = was-put (c .before .before .before .before .before .before .before .before .before .before .before .before .pre .0) _ (c .before .before .gap-fill2 .ensures) (le-leb _ _ (le-of-suc-le-suc (h .1))) (omega arith) (omega arith) in
+    (rw (c .before .before .before .before .before .m4 .given .1) (w .0), omega arith)
 
 same-length-8 : tie.Need-same-length-8
 same-length-8 c = search needs
@@ -178,13 +197,17 @@ same-length-11 : tie.Need-same-length-11
 same-length-11 c = search needs
 
 returns-14 : tie.Need-returns-14
-returns-14 c = (rw (c .before .before .before .before .before .before .before .before .enum-told10 .given .1) (chain (c .before .before .before .before .before .before .put-logon3 .ensures .0) (c .before .before .resend-request3 .ensures .0)), omega arith)
+returns-14 c =
+    let w = was-put (c .before .before .before .before .before .before .before .before .before .before .before .before .before .before .before .pre .0) _ (c .before .before .resend-request3 .ensures) (le-leb (c .before .before .before .before .before .before .before .before .before .before .before .before .before .before .before .args .e) 999_999_999 (omega arith)) (omega arith) (omega arith) in
+    (rw (c .before .before .before .before .before .before .before .before .enum-told10 .given .1) (chain (c .before .before .before .before .before .before .put-logon3 .ensures .0) (w .0)), omega arith)
 
 same-length-12 : tie.Need-same-length-12
 same-length-12 c = search needs
 
 returns-15 : tie.Need-returns-15
-returns-15 c = (rw (c .before .before .before .before .before .enum-told11 .given .1) (c .before .before .heartbeat .ensures .0), omega arith)
+returns-15 c =
+    let w = was-put (c .before .before .before .before .before .before .before .before .before .before .before .before .pre .0) _ (c .before .before .heartbeat .ensures) refl (omega arith) (omega arith) in
+    (rw (c .before .before .before .before .before .enum-told11 .given .1) (w .0), omega arith)
 
 pub put-reply-spec : {M : Type 1} → statement M
 put-reply-spec =

@@ -1,43 +1,58 @@
--- `gap_fill`: the frame around its body.
+-- `gap_fill`: nothing where its values do not fit, else the frame around its body.
 use borrow.Author.Needs.{needs}
+use borrow.Author.Tests.{lt-leb, le-leb}
 use native.Mathlib.Omega.{arith}
 use denote.Ref.{now}
 use Rattle.dictionary.specs.declared.MsgType.the-variants.{SequenceReset}
 use Rattle.writer.specs.Message.{message, written}
 use Rattle.writer.specs.Reply.{gapFill, ofGapFill}
 use Rattle.writer.proofs.Calls.{reply-put}
+use Rattle.writer.proofs.Replied.{passed, unsendable, unfit-own, put}
 use Rattle.writer.proofs.replies.gap_fill.Statement.{statement}
 use Rattle.writer.proofs.replies.gap_fill.Tie as tie
+
+sendable-requires : tie.Need-sendable-requires
+sendable-requires c κs = search needs
+
+returns : tie.Need-returns
+returns c = unsendable (c .before .sendable .ensures) _ (c .if1 .taken)
+
+returns-2 : tie.Need-returns-2
+returns-2 c = unfit-own (c .before .before .sendable .ensures) (c .before .if1 .left) (lt-leb _ _ (c .if2 .taken))
 
 slice-aggregate-gap-fill-body : tie.Need-slice-aggregate-gap-fill-body
 slice-aggregate-gap-fill-body c = search needs
 
 gap-fill-body-requires : tie.Need-gap-fill-body-requires
-gap-fill-body-requires c κs = search needs
+gap-fill-body-requires c κs = let P = passed (c .before .before .before .sendable .ensures) (c .before .before .if1 .left) in search needs
 
 slice-aggregate-put-reply : tie.Need-slice-aggregate-put-reply
 slice-aggregate-put-reply c = search needs
 
 put-reply-requires : tie.Need-put-reply-requires
-put-reply-requires c κs = search needs
+put-reply-requires c κs = let P = passed (c .before .before .before .before .before .before .before .sendable .ensures) (c .before .before .before .before .before .before .if1 .left) in search needs
 
 same-length : tie.Need-same-length
 same-length c = search needs
 
-returns : tie.Need-returns
+returns-3 : tie.Need-returns-3
 unfolding gapFill written
-returns c =
-    let k = c .before .before .before .before .before .before .gap-fill-body in
-    let s = c .before .before .before .before .before .before .before .before .before .before .before .before .args in
-    (reply-put (message SequenceReset (ofGapFill (now (s .ours)) (now (s .peers)) (s .n) (now (s .time)) (s .next))) (k .ensures .0) (omega arith) (c .before .before .put-reply .ensures .0), omega arith)
+returns-3 c =
+    let s = c .before .before .before .before .before .before .before .before .before .before .before .before .before .before .before .args in
+    put (c .before .before .before .before .before .before .before .before .before .before .sendable .ensures) (c .before .before .before .before .before .before .before .before .before .if1 .left) (le-leb _ _ (c .before .before .before .before .before .before .before .before .if2 .left))
+    (reply-put (message SequenceReset (ofGapFill (now (s .ours)) (now (s .peers)) (s .n) (now (s .time)) (s .next))) (c .before .before .before .before .before .before .gap-fill-body .ensures .0) (omega arith) (c .before .before .put-reply .ensures .0))
+    (omega arith)
 
 pub gap-fill-spec : {M : Type 1} → statement M
 gap-fill-spec =
     tie.close
     (tie.spec
+    sendable-requires
+    returns
+    returns-2
     slice-aggregate-gap-fill-body
     gap-fill-body-requires
     slice-aggregate-put-reply
     put-reply-requires
     same-length
-    returns)
+    returns-3)
