@@ -360,14 +360,38 @@ struct values {
     bool other;                             /* a tag was given for which the call has no place */
 };
 
-static const uint64_t place_tags[FIXGW_PLACES] = {
-    7, 16, 34, 36, 45, 108, 371, 373, 1409, 43, 49, 52, 56, 58, 98, 112, 122, 123, 141, 372, 1137
+/* The tag of each place, and whether its value is a number. */
+static const struct {
+    uint64_t tag;
+    bool is_number;
+} places[FIXGW_PLACES] = {
+    [FIXGW_PLACE_SENDER_COMP_ID] = { FIXGW_TAG_SENDER_COMP_ID, false },
+    [FIXGW_PLACE_TARGET_COMP_ID] = { FIXGW_TAG_TARGET_COMP_ID, false },
+    [FIXGW_PLACE_MSG_SEQ_NUM] = { FIXGW_TAG_MSG_SEQ_NUM, true },
+    [FIXGW_PLACE_POSS_DUP_FLAG] = { FIXGW_TAG_POSS_DUP_FLAG, false },
+    [FIXGW_PLACE_SENDING_TIME] = { FIXGW_TAG_SENDING_TIME, false },
+    [FIXGW_PLACE_ORIG_SENDING_TIME] = { FIXGW_TAG_ORIG_SENDING_TIME, false },
+    [FIXGW_PLACE_TEST_REQ_ID] = { FIXGW_TAG_TEST_REQ_ID, false },
+    [FIXGW_PLACE_BEGIN_SEQ_NO] = { FIXGW_TAG_BEGIN_SEQ_NO, true },
+    [FIXGW_PLACE_END_SEQ_NO] = { FIXGW_TAG_END_SEQ_NO, true },
+    [FIXGW_PLACE_REF_SEQ_NUM] = { FIXGW_TAG_REF_SEQ_NUM, true },
+    [FIXGW_PLACE_REF_TAG_ID] = { FIXGW_TAG_REF_TAG_ID, true },
+    [FIXGW_PLACE_REF_MSG_TYPE] = { FIXGW_TAG_REF_MSG_TYPE, false },
+    [FIXGW_PLACE_SESSION_REJECT_REASON] = { FIXGW_TAG_SESSION_REJECT_REASON, true },
+    [FIXGW_PLACE_SESSION_STATUS] = { FIXGW_TAG_SESSION_STATUS, true },
+    [FIXGW_PLACE_TEXT] = { FIXGW_TAG_TEXT, false },
+    [FIXGW_PLACE_GAP_FILL_FLAG] = { FIXGW_TAG_GAP_FILL_FLAG, false },
+    [FIXGW_PLACE_NEW_SEQ_NO] = { FIXGW_TAG_NEW_SEQ_NO, true },
+    [FIXGW_PLACE_ENCRYPT_METHOD] = { FIXGW_TAG_ENCRYPT_METHOD, false },
+    [FIXGW_PLACE_HEART_BT_INT] = { FIXGW_TAG_HEART_BT_INT, true },
+    [FIXGW_PLACE_DEFAULT_APPL_VER_ID] = { FIXGW_TAG_DEFAULT_APPL_VER_ID, false },
+    [FIXGW_PLACE_RESET_SEQ_NUM_FLAG] = { FIXGW_TAG_RESET_SEQ_NUM_FLAG, false },
 };
 
 static size_t place_of(uint64_t tag)
 {
     size_t place = 0;
-    while (place < FIXGW_PLACES && place_tags[place] != tag)
+    while (place < FIXGW_PLACES && places[place].tag != tag)
         place++;
     return place;
 }
@@ -379,7 +403,7 @@ static bool give(struct values *values, uint64_t tag, bool is_number, uint64_t a
         values->other = true;
         return true;
     }
-    if (is_number != (place < FIXGW_PLACE_POSS_DUP_FLAG) || values->words[3 * place])
+    if (is_number != places[place].is_number || values->words[3 * place])
         return false;
     values->words[3 * place] = 1;
     values->words[3 * place + 1] = a;

@@ -181,30 +181,30 @@ uint32_t fixgw_field(const uint8_t *body, size_t len, uint64_t at, uint64_t out[
 
 /* ---- Writing one message ----------------------------------------------------------------------------------------- */
 
-/* The places of the writer's values: first the numbers, then the byte strings. Three words each, at 3 * place:
-   {given, a, b}. `given` is 0 for an absent tag. A number is a; a byte string is text[a .. b). */
+/* The places of the writer's values, in the order in which a message has them. Three words each, at 3 * place:
+   {given, a, b}. `given` is 0 for an absent tag. A number is a; any other value is the byte string text[a .. b). */
 enum fixgw_place {
-    FIXGW_PLACE_BEGIN_SEQ_NO = 0,           /* 7 */
-    FIXGW_PLACE_END_SEQ_NO,                 /* 16 */
-    FIXGW_PLACE_MSG_SEQ_NUM,                /* 34 */
-    FIXGW_PLACE_NEW_SEQ_NO,                 /* 36 */
-    FIXGW_PLACE_REF_SEQ_NUM,                /* 45 */
-    FIXGW_PLACE_HEART_BT_INT,               /* 108 */
-    FIXGW_PLACE_REF_TAG_ID,                 /* 371 */
-    FIXGW_PLACE_SESSION_REJECT_REASON,      /* 373 */
-    FIXGW_PLACE_SESSION_STATUS,             /* 1409 */
-    FIXGW_PLACE_POSS_DUP_FLAG,              /* 43, the first byte string */
-    FIXGW_PLACE_SENDER_COMP_ID,             /* 49 */
-    FIXGW_PLACE_SENDING_TIME,               /* 52 */
+    FIXGW_PLACE_SENDER_COMP_ID = 0,         /* 49 */
     FIXGW_PLACE_TARGET_COMP_ID,             /* 56 */
-    FIXGW_PLACE_TEXT,                       /* 58 */
-    FIXGW_PLACE_ENCRYPT_METHOD,             /* 98 */
-    FIXGW_PLACE_TEST_REQ_ID,                /* 112 */
+    FIXGW_PLACE_MSG_SEQ_NUM,                /* 34, a number */
+    FIXGW_PLACE_POSS_DUP_FLAG,              /* 43 */
+    FIXGW_PLACE_SENDING_TIME,               /* 52 */
     FIXGW_PLACE_ORIG_SENDING_TIME,          /* 122 */
-    FIXGW_PLACE_GAP_FILL_FLAG,              /* 123 */
-    FIXGW_PLACE_RESET_SEQ_NUM_FLAG,         /* 141 */
+    FIXGW_PLACE_TEST_REQ_ID,                /* 112 */
+    FIXGW_PLACE_BEGIN_SEQ_NO,               /* 7, a number */
+    FIXGW_PLACE_END_SEQ_NO,                 /* 16, a number */
+    FIXGW_PLACE_REF_SEQ_NUM,                /* 45, a number */
+    FIXGW_PLACE_REF_TAG_ID,                 /* 371, a number */
     FIXGW_PLACE_REF_MSG_TYPE,               /* 372 */
+    FIXGW_PLACE_SESSION_REJECT_REASON,      /* 373, a number */
+    FIXGW_PLACE_SESSION_STATUS,             /* 1409, a number */
+    FIXGW_PLACE_TEXT,                       /* 58 */
+    FIXGW_PLACE_GAP_FILL_FLAG,              /* 123 */
+    FIXGW_PLACE_NEW_SEQ_NO,                 /* 36, a number */
+    FIXGW_PLACE_ENCRYPT_METHOD,             /* 98 */
+    FIXGW_PLACE_HEART_BT_INT,               /* 108, a number */
     FIXGW_PLACE_DEFAULT_APPL_VER_ID,        /* 1137 */
+    FIXGW_PLACE_RESET_SEQ_NUM_FLAG,         /* 141 */
     FIXGW_PLACES,
     FIXGW_VALUES = 3 * FIXGW_PLACES
 };

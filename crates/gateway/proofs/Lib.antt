@@ -1,1 +1,4 @@
 pub mod Readings
+pub mod Records
+pub mod Filling
+pub mod OneOutcome

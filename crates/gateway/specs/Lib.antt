@@ -1,1 +1,3 @@
 pub mod Border
+pub mod Calls
+pub mod Held
