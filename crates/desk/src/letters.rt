@@ -3,7 +3,8 @@ use print::print_bytes;
 use print::print_count;
 use writer::Values;
 use writer::Written;
-ghost use Prim.Native.Nat.{_<_};
+ghost use Prim.Native.Nat.{_<_, _≤_};
+ghost use lib.ListN.{length};
 
 // The text that the bytes of the letters lie in: GW, MM, a time, Y, an identifier, a type, a text, 0, 9.
 const TEXT: [u8; 40] = *b"GWMM20240102-09:30:00.000000YTEST1Dwhy09";
@@ -52,32 +53,41 @@ fn print_front(buf: &[u8], len: usize) {
     print_bytes(&buf[..len]);
 }
 
-fn letter(name: &[u8], code: &[u8], values: Values, room: usize) {
-    io::write_all(1, name);
-    io::write_all(1, b" ");
-    let mut buf = [0u8; 300];
-    write_in(code, values, &mut buf, room);
-    io::write_all(1, b"\n");
+fn written_in(code: &[u8], values: Values, buf: &mut [u8], room: usize) -> Written
+    requires { ⌜ room ≤ length (now buf) ⌝ }
+{
+    let text = TEXT;
+    writer::write(code, values, &text, &mut buf[..room])
 }
 
-fn write_in(code: &[u8], values: Values, buf: &mut [u8], room: usize) {
-    if buf.len() < room {
-        return;
-    }
-    let text = TEXT;
-    match writer::write(code, values, &text, &mut buf[..room]) {
+fn print_written(written: Written, buf: &[u8]) {
+    match written {
         Written::Message { len } => print_front(buf, len),
         Written::Unfit => print_count(b"refusal ", 8),
         Written::Short => print_count(b"refusal ", 9),
     }
 }
 
-pub fn letters() {
-    io::write_all(
-        1,
-        b"# Letters: one of each administrative message, and what is refused\n",
-    );
-    letter(b"Heartbeat", b"0", header(), 300);
+fn letter(name: &[u8], code: &[u8], values: Values, room: usize)
+    requires { ⌜ room ≤ 300 ⌝ }
+{
+    io::write_all(1, name);
+    io::write_all(1, b" ");
+    let mut buf = [0u8; 300];
+    let written = written_in(code, values, &mut buf, room);
+    print_written(written, &buf);
+    io::write_all(1, b"\n");
+}
+
+// One with the values of the header alone.
+fn bare(name: &[u8], code: &[u8], room: usize)
+    requires { ⌜ room ≤ 300 ⌝ }
+{
+    letter(name, code, header(), room);
+}
+
+fn asking() {
+    bare(b"Heartbeat", b"0", 300);
     letter(b"Test Request", b"1", bytes(header(), 6, 29, 34), 300);
     letter(
         b"Resend Request",
@@ -85,6 +95,9 @@ pub fn letters() {
         number(number(header(), 7, 5), 8, 0),
         300,
     );
+}
+
+fn mending() {
     let reject = number(number(number(header(), 9, 7), 10, 36), 12, 5);
     letter(
         b"Reject",
@@ -99,17 +112,26 @@ pub fn letters() {
         number(bytes(fill, 15, 28, 29), 16, 9),
         300,
     );
+}
+
+fn parting() {
     letter(b"Logout", b"5", number(header(), 13, 0), 300);
     let logon = number(bytes(bytes(header(), 17, 38, 39), 19, 39, 40), 18, 30);
     letter(b"Logon", b"A", logon, 300);
-    letter(b"a type that is not written", b"F", header(), 300);
-    letter(b"a required value absent", b"1", header(), 300);
+}
+
+fn refused() {
+    bare(b"a type that is not written", b"F", 300);
+    bare(b"a required value absent", b"1", 300);
     letter(
         b"a value that the message does not have",
         b"0",
         number(header(), 8, 0),
         300,
     );
+}
+
+fn out_of_place() {
     letter(
         b"a number out of its range",
         b"2",
@@ -122,6 +144,22 @@ pub fn letters() {
         bytes(header(), 6, 39, 41),
         300,
     );
-    letter(b"a buffer one byte short", b"0", header(), 72);
-    letter(b"a buffer that just holds it", b"0", header(), 73);
+}
+
+fn in_little_room() {
+    bare(b"a buffer one byte short", b"0", 72);
+    bare(b"a buffer that just holds it", b"0", 73);
+}
+
+pub fn letters() {
+    io::write_all(
+        1,
+        b"# Letters: one of each administrative message, and what is refused\n",
+    );
+    asking();
+    mending();
+    parting();
+    refused();
+    out_of_place();
+    in_little_room();
 }

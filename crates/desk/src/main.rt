@@ -1,13 +1,14 @@
 // The desk: worked cases from its input, one a line, each written back with what the library says of it.
-// `verdict BODY` asks for the verdict on a body, `read BYTES` for one reading; `|` is the byte 1; a line that begins with # is a heading.
+// `verdict BODY` asks for the verdict on a body, `read BYTES` for one reading; the lines of a played session are in played.rt.
+// `|` is the byte 1; a line that begins with # is a heading.
 mod letters;
+mod played;
 
 use dictionary::Verdict;
 use frame::Reading;
 use print::print_bytes;
 use print::print_count;
-ghost use mathlib.Core.Path.{_≡_};
-ghost use mathlib.Core.Bool.{true};
+use session::Record;
 ghost use Prim.Native.Nat.{_≤_};
 ghost use lib.ListN.{length};
 
@@ -38,16 +39,23 @@ fn print_case(s: &[u8]) {
     io::write_all(1, b" bytes");
 }
 
+fn print_pair(first: &[u8], m: usize, second: &[u8], n: usize) {
+    print_count(first, m);
+    print_count(second, n);
+    io::write_all(1, b"\n");
+}
+
 fn judge(body: &[u8]) {
     match dictionary::verdict_on(body) {
         Verdict::Clean => {
             io::write_all(1, b" clean\n");
         }
-        Verdict::Finding { reason, tag } => {
-            print_count(b" reason ", reason as usize);
-            print_count(b", tag ", tag as usize);
-            io::write_all(1, b"\n");
-        }
+        Verdict::Finding { reason, tag } => print_pair(
+            b" reason ",
+            reason as usize,
+            b", tag ",
+            tag as usize,
+        ),
         Verdict::NoBody => {
             io::write_all(1, b" refusal 10\n");
         }
@@ -56,11 +64,7 @@ fn judge(body: &[u8]) {
 
 fn read(bytes: &[u8]) {
     match frame::reading_of(bytes) {
-        Reading::Frame { skip, len } => {
-            print_count(b" skip ", skip);
-            print_count(b", frame of ", len);
-            io::write_all(1, b"\n");
-        }
+        Reading::Frame { skip, len } => print_pair(b" skip ", skip, b", frame of ", len),
         Reading::NoFrame { drop } => {
             print_count(b" refusal 1, drop ", drop);
             io::write_all(1, b"\n");
@@ -69,9 +73,7 @@ fn read(bytes: &[u8]) {
 }
 
 // The line begins with these bytes.
-fn begins(line: &[u8], word: &[u8]) -> bool
-    ensures { λ r. ⌜ (r ≡ true → length (now (word .entry)) ≤ length (now (line .entry))) ⌝ }
-{
+fn begins(line: &[u8], word: &[u8]) -> bool {
     if line.len() < word.len() {
         return false;
     }
@@ -85,27 +87,14 @@ fn begins(line: &[u8], word: &[u8]) -> bool
     true
 }
 
-fn answer(line: &[u8]) {
-    print_case(line);
-    if begins(line, b"verdict ") {
-        judge(&line[8..]);
-        return;
-    }
-    if begins(line, b"read ") {
-        read(&line[5..]);
-        return;
-    }
-    io::write_all(1, b"\n");
-}
-
-// The end of the line that begins at a place.
-fn line_end(s: &[u8], at: usize) -> usize
+// Where a byte stands next, from a place on; or the end.
+fn find(s: &[u8], at: usize, byte: u8) -> usize
     requires { ⌜ at ≤ length (now s) ⌝ }
     ensures { λ r. ⌜ (at ≤ r) × (r ≤ length (now (s .entry))) ⌝ }
 {
     let mut i = at;
     while i < s.len() {
-        if s[i] == b'\n' {
+        if s[i] == byte {
             return i;
         }
         i += 1;
@@ -113,11 +102,36 @@ fn line_end(s: &[u8], at: usize) -> usize
     i
 }
 
+// What stands behind the first space.
+fn behind<'a>(s: &'a [u8]) -> &'a [u8] {
+    let k = find(s, 0, b' ');
+    if k == s.len() {
+        return &s[k..];
+    }
+    &s[k + 1..]
+}
+
+// Answers one line; a played session goes on with the record that this returns.
+fn answer(r: Record, line: &[u8]) -> Record {
+    print_case(line);
+    if begins(line, b"verdict ") {
+        judge(behind(line));
+        return r;
+    }
+    if begins(line, b"read ") {
+        read(behind(line));
+        return r;
+    }
+    io::write_all(1, b"\n");
+    played::play(r, line)
+}
+
 fn answer_all(s: &[u8]) {
+    let mut r = played::nobody();
     let mut at = 0;
     while at < s.len() {
-        let end = line_end(s, at);
-        answer(&s[at..end]);
+        let end = find(s, at, b'\n');
+        r = answer(r, &s[at..end]);
         at = end + 1;
     }
 }

@@ -10,4 +10,3 @@ pub mod Turns
 pub mod Types
 pub mod Clean
 pub mod Promise
-pub mod Desk

@@ -1,4 +1,4 @@
--- The desk examples W1 to W5 hold.
+-- The desk examples W1 to W5, for the one table of all twelve.
 use Prim.Native.Nat.{ℕ, _+_, _-_, _%_, _≤_, _<_}
 use native.Mathlib.Nat.{add-zero}
 use native.Mathlib.Omega.{arith}
@@ -13,7 +13,7 @@ use lib.Seq.{take-at, drop-at, take-length, getD-take, getD-append-add}
 use borrow.Author.Tests.{ltb-true}
 use Rattle.frame.specs.Bytes.{Bytes, fix, sum, numeral}
 use Rattle.frame.specs.Frame.{Rule, fixt, Good, GoodAt, front, trailer, sumOf}
-use Rattle.frame.specs.Desk.{Desk}
+use Rattle.frame.specs.Reading.{frame, refusal, Reads}
 use Rattle.frame.proofs.Lists.{at-byte}
 use Rattle.frame.proofs.Numerals.{numeral-means}
 use Rattle.frame.proofs.Good.{good-at-length, good-at-mark}
@@ -61,13 +61,16 @@ w1-good =
     (record { sized = refl; begins = (lit≤ tt, refl); ends = refl; bytes = small (fix "35=0|") refl })
     (λ q a. omega (arith, a .0))
 
+pub W1 : Reads fixt (fix "8=FIXT.1.1|9=5|35=0|10=241|") (frame 0 27)
+W1 = record { here = record { inside = lit≤ tt; good = w1-good }; left = λ q m l. absurd (omega arith) }
+
 -- a good frame as long as the bytes it stands in is all of them
 all-of : (s : Bytes) (q m : ℕ) → q ≡ 0 → m ≡ length s → GoodAt fixt s q m → Good fixt s
 all-of s q m e f G = subst (λ (l : Bytes). Good fixt l) (ap₂ (λ (n i : ℕ). take n (drop i s)) f e ∙ take-length s) (G .good)
 
-second : (q m : ℕ) → GoodAt fixt (fix "8=FIXT.1.1|9=5|35=0|10=242|") q m → ⊥
+pub W2 : (q m : ℕ) → GoodAt fixt (fix "8=FIXT.1.1|9=5|35=0|10=242|") q m → ⊥
 unfolding fixt
-second q m G =
+W2 q m G =
     let k = (good-at-length fixt G) .0 in
     let s = fix "8=FIXT.1.1|9=5|35=0|10=242|" in
     let e = good-sum fixt s (all-of s q m (omega (arith, G .inside)) (omega (arith, G .inside)) G) in
@@ -90,18 +93,17 @@ third q m G (no l) =
     let z : _≡_ {A = ℕ} 61 56 = ap (λ (i : ℕ). getD s (i + 0) 0) (sym e) ∙ at-byte s q (fixt .mark) (good-at-mark fixt G) 0 (omega arith) in
     omega arith
 
+pub W3 : (q m : ℕ) → GoodAt fixt (fix "8=FIXT.1.1|9=05|35=0|10=241|") q m → ⊥
+W3 q m G = third q m G (decLt q 1)
+
 nothing-in : (s : Bytes) → length s < 27 → (q m : ℕ) → GoodAt fixt s q m → ⊥
 unfolding fixt
 nothing-in s h q m G = omega (arith, G .inside, (good-at-length fixt G) .0)
 
-pub desk : Desk
-desk =
-    record {
-      W1 = record { here = record { inside = lit≤ tt; good = w1-good }; left = λ q m l. absurd (omega arith) };
-      W2 = second;
-      W3 = λ q m G. third q m G (decLt q 1);
-      W4 = (refl, record { none = nothing-in [] (lit≤ tt); dead = λ q l. absurd (omega arith); stop = inl refl });
-      W5 =
-          left-none fixt fixt-ok (fix "8=FIXT.1.1|9=40|") (fix "8=FIXT.1.1|9=5|35=0|10=241|") [] w1-good
-          (nothing-in (fix "8=FIXT.1.1|9=40|") (lit≤ tt));
-    }
+pub W4 : Reads fixt (fix "") (refusal 1 0)
+W4 = (refl, record { none = nothing-in [] (lit≤ tt); dead = λ q l. absurd (omega arith); stop = inl refl })
+
+pub W5 : Reads fixt (fix "8=FIXT.1.1|9=40|" ++ fix "8=FIXT.1.1|9=5|35=0|10=241|") (frame 16 27)
+W5 =
+    left-none fixt fixt-ok (fix "8=FIXT.1.1|9=40|") (fix "8=FIXT.1.1|9=5|35=0|10=241|") [] w1-good
+    (nothing-in (fix "8=FIXT.1.1|9=40|") (lit≤ tt))

@@ -4,6 +4,5 @@ pub mod Mark
 pub mod Reading
 pub mod Stream
 pub mod Line
-pub mod Desk
 pub mod Leaf
 pub mod Walk

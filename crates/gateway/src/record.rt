@@ -1,10 +1,10 @@
 // The session's record as words, and its answers as numbers.
 use session::Answer;
 use session::Record;
-use session::Refusal;
 use session::Status;
+use session::refusal_number;
 ghost use mathlib.Core.Path.{_≡_};
-ghost use Rattle.session.specs.Session.{code, No, numbers};
+ghost use Rattle.session.specs.Session.{code, numbers};
 ghost use Rattle.gateway.specs.Calls.{wordsOf, statusOf, recordWith, refusalOf, valueOf};
 ghost use Rattle.gateway.specs.Held.{statusIn};
 
@@ -64,21 +64,6 @@ pub fn save(words: &mut [u64; 7], r: Record)
         r.heartbeat,
         r.sent,
     ];
-}
-
-fn refusal_number(k: Refusal) -> u32
-    ensures { λ r. ⌜ r ≡ No k ⌝ }
-{
-    match k {
-        Refusal::SessionClosed => 2,
-        Refusal::NotLogon => 3,
-        Refusal::BadLogon => 4,
-        Refusal::NumbersSpent => 5,
-        Refusal::BufferShort => 6,
-        Refusal::TimePast => 7,
-        Refusal::NotOneFrame => 10,
-        Refusal::BadRecord => 11,
-    }
 }
 
 // The number of an answer: the refusal, or 0.

@@ -28,7 +28,7 @@ ghost use lib.ListN.{length};
 ghost use Rattle.frame.specs.Bytes.{Bytes};
 ghost use Rattle.calendar.specs.Time.{limit};
 ghost use Rattle.writer.specs.Wrote.{Wrote};
-ghost use Rattle.session.specs.Session.{turned, fresh};
+ghost use Rattle.session.specs.Session.{No, turned, fresh};
 ghost use Rattle.session.specs.Calls.{making, refusing, movesOn, due, step, tick, new, reconnect};
 ghost use Rattle.session.specs.Held.{sessionOf, Leaves, answeredBy, recordOf, answeredNew, padded};
 ghost use Rattle.session.specs.Plan.{deedsOf, replied, Carried, Ready};
@@ -68,6 +68,22 @@ pub enum Refusal {
     TimePast,
     NotOneFrame,
     BadRecord,
+}
+
+// The document's number of a refusal.
+pub fn refusal_number(k: Refusal) -> u32
+    ensures { λ n. ⌜ n ≡ No k ⌝ }
+{
+    match k {
+        Refusal::SessionClosed => 2,
+        Refusal::NotLogon => 3,
+        Refusal::BadLogon => 4,
+        Refusal::NumbersSpent => 5,
+        Refusal::BufferShort => 6,
+        Refusal::TimePast => 7,
+        Refusal::NotOneFrame => 10,
+        Refusal::BadRecord => 11,
+    }
 }
 
 // What a call answers.

@@ -1,4 +1,4 @@
-pub mod Desk
+pub mod Cases
 pub mod Rows
 pub mod Frames
 pub mod Wholes

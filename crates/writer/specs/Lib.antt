@@ -8,4 +8,3 @@ pub mod Wrote
 pub mod Ranges
 pub mod Replied
 pub mod Held
-pub mod Desk

@@ -7,16 +7,19 @@ use Rattle.desk.proofs.answer_all.Statement.{statement}
 use Rattle.desk.proofs.answer_all.Tie as tie
 
 abbrev Inv-loop : tie.InvT-loop
-Inv-loop s at₀ at = at ≤ length s + 1
+Inv-loop s r₀ at₀ r at = at ≤ length s + 1
 
 abbrev μ-loop : tie.MeasureT-loop
-μ-loop s at₀ at = length s + 1 - at
+μ-loop s r₀ at₀ r at = length s + 1 - at
+
+nobody-requires : tie.Need-nobody-requires Inv-loop μ-loop
+nobody-requires c κs = search needs
 
 loop-holds : tie.Need-loop-holds Inv-loop μ-loop
 loop-holds c = search needs
 
-line-end-requires : tie.Need-line-end-requires Inv-loop μ-loop
-line-end-requires c κs = search needs
+find-requires : tie.Need-find-requires Inv-loop μ-loop
+find-requires c κs = search needs
 
 sub-answer : tie.Need-sub-answer Inv-loop μ-loop
 sub-answer c = search needs
@@ -48,8 +51,9 @@ answer-all-spec =
     (tie.spec
     Inv-loop
     μ-loop
+    nobody-requires
     loop-holds
-    line-end-requires
+    find-requires
     sub-answer
     part-answer-start
     part-answer-end

@@ -1,9 +1,6 @@
 -- `begins`: the word is no longer than the line.
 use borrow.Author.Needs.{needs}
-use native.Mathlib.Omega.{arith}
 use Prim.Native.Nat.{ℕ, _+_, _-_, _≤_, _<_}
-use mathlib.Core.Path.{_≡_, sym, subst}
-use lib.Dec.{T}
 use lib.ListN.{length}
 use Rattle.desk.proofs.begins.Statement.{statement}
 use Rattle.desk.proofs.begins.Tie as tie
@@ -15,7 +12,7 @@ abbrev μ-loop : tie.MeasureT-loop
 μ-loop line word i₀ i = length word - i
 
 returns : tie.Need-returns Inv-loop μ-loop
-returns c = λ e. absurd (subst T (sym e) tt)
+returns c = search needs
 
 loop-holds : tie.Need-loop-holds Inv-loop μ-loop
 loop-holds c = search needs
@@ -27,7 +24,7 @@ shared-slice-read-if2-2 : tie.Need-shared-slice-read-if2-2 Inv-loop μ-loop
 shared-slice-read-if2-2 c = search needs
 
 returns-2 : tie.Need-returns-2 Inv-loop μ-loop
-returns-2 c = λ e. absurd (subst T (sym e) tt)
+returns-2 c = search needs
 
 add-i : tie.Need-add-i Inv-loop μ-loop
 add-i c = search needs
@@ -39,7 +36,7 @@ loop-again : tie.Need-loop-again Inv-loop μ-loop
 loop-again c = search needs
 
 returns-3 : tie.Need-returns-3 Inv-loop μ-loop
-returns-3 c = λ e. omega arith
+returns-3 c = search needs
 
 pub begins-spec : {M : Type 1} → statement M
 begins-spec =
