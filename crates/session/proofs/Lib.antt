@@ -1,3 +1,4 @@
+pub mod Words
 pub mod Desk
 pub mod Cases
 pub mod Readings
@@ -9,13 +10,16 @@ pub mod Gating
 pub mod Behind
 pub mod Small
 pub mod Carried
+pub mod EachRule
 pub mod Fitting
 pub mod Replying
 pub mod Playing
 pub mod Stepping
+pub mod EachCall
 pub mod Ticking
 pub mod Ranged
 pub mod Slips
+pub mod Delivered
 pub mod Beginning
 pub mod Promise
 pub mod Whole

@@ -5,11 +5,11 @@ use native.Mathlib.Omega.{arith}
 use native.Mathlib.Decide.{decLe}
 use mathlib.Core.Path.{_≡_, refl, sym, ap, _∙_, subst}
 use mathlib.Core.Bool.{Bool, true, false, cond, not, _&&_, _||_, false≢true}
-use mathlib.Core.List.{List, [], _∷_, _++_}
+use mathlib.Core.List.{[], _∷_}
 use mathlib.Core.Option.{Option, none, some}
-use lib.Dec.{eqb, leb, ltb}
+use lib.Dec.{leb, ltb}
 use lib.ListN.{length, take}
-use borrow.Author.Tests.{lt-leb, le-leb, lt-ltb, le-ltb, leb-true, leb-false, ltb-false, not-true, not-false}
+use borrow.Author.Tests.{lt-leb, le-leb, lt-ltb, leb-true, leb-false, ltb-false, not-true, not-false}
 use Rattle.frame.specs.Bytes.{Bytes, fix, within}
 use Rattle.frame.specs.Frame.{fixt, Good, BodyOf, its-body, no-frame}
 use Rattle.frame.proofs.Numerals.{both, within-is}
@@ -38,23 +38,9 @@ use Rattle.session.specs.declared.Gate.the-variants.{Open, Shut}
 use Rattle.session.specs.declared.Status.{Status}
 use Rattle.session.specs.declared.Status.the-variants.{Waiting, Active, Closed}
 use Rattle.session.specs.declared.rules.Move.{Move}
+use Rattle.session.proofs.Words.{not-said, Silent, all-silent, first-some, first-rest}
 use Rattle.session.proofs.Carried.{is-clean}
 use Rattle.session.proofs.Fitting.{Ample}
-
--- THE FIRST THAT SPEAKS, of two lists
-pub first-none : {A : Type 0} (x : A) (b : Bool) (l : List (Option A)) → first ((x when b) ∷ l) ≡ none → (b ≡ false) × (first l ≡ none)
-first-none x true l e = let z : _≡_ {A = ℕ} 0 1 = cc in absurd (omega arith)
-first-none x false l e = (refl, e)
-
-pub first-some : {A : Type 0} (k l : List (Option A)) (a : A) → first k ≡ some a → first (k ++ l) ≡ some a
-first-some [] l a e = let z : _≡_ {A = ℕ} 0 1 = cc in absurd (omega arith)
-first-some (none ∷ k) l a e = first-some k l a e
-first-some (some x ∷ k) l a e = e
-
-pub first-rest : {A : Type 0} (k l : List (Option A)) → first k ≡ none → first (k ++ l) ≡ first l
-first-rest [] l e = refl
-first-rest (none ∷ k) l e = first-rest k l e
-first-rest (some x ∷ k) l e = let z : _≡_ {A = ℕ} 0 1 = cc in absurd (omega arith)
 
 -- WHAT PASSES THE REFUSALS
 pub record Passed (s : Session) (one : Bool) (t room : ℕ) : Type 0 where
@@ -65,16 +51,20 @@ pub record Passed (s : Session) (one : Bool) (t room : ℕ) : Type 0 where
   pub not-closed : (s .status == Closed) ≡ false
   pub unspent : spent s ≡ false
 
-pub passes : (s : Session) (one : Bool) (t room : ℕ) → first (refusals s one t room) ≡ none → Passed s one t room
+pub passed : (s : Session) (one : Bool) (t room : ℕ) → Silent (refusals s one t room) → Passed s one t room
 unfolding refusals
-passes s one t room e =
-    let a = first-none (Refused BadRecord) (not (inRange s)) ((Refused NotOneFrame when not one) ∷ (Refused TimePast when leb limit t) ∷ (Refused BufferShort when ltb room 512) ∷ (Refused SessionClosed when (s .status == Closed)) ∷ (Refused NumbersSpent when spent s) ∷ []) e in
-    let b = first-none (Refused NotOneFrame) (not one) ((Refused TimePast when leb limit t) ∷ (Refused BufferShort when ltb room 512) ∷ (Refused SessionClosed when (s .status == Closed)) ∷ (Refused NumbersSpent when spent s) ∷ []) (a .1) in
-    let c = first-none (Refused TimePast) (leb limit t) ((Refused BufferShort when ltb room 512) ∷ (Refused SessionClosed when (s .status == Closed)) ∷ (Refused NumbersSpent when spent s) ∷ []) (b .1) in
-    let d = first-none (Refused BufferShort) (ltb room 512) ((Refused SessionClosed when (s .status == Closed)) ∷ (Refused NumbersSpent when spent s) ∷ []) (c .1) in
-    let f = first-none (Refused SessionClosed) (s .status == Closed) ((Refused NumbersSpent when spent s) ∷ []) (d .1) in
-    let g = first-none (Refused NumbersSpent) (spent s) [] (f .1) in
-    record { ranged = not-false _ (a .0); framed = not-false one (b .0); timed = leb-false limit t (c .0); roomy = ltb-false room 512 (d .0); not-closed = f .0; unspent = g .0 }
+passed s one t room k =
+    record {
+      ranged = not-false (inRange s) (not-said (Refused BadRecord) _ (k .0));
+      framed = not-false one (not-said (Refused NotOneFrame) _ (k .1 .0));
+      timed = leb-false limit t (not-said (Refused TimePast) _ (k .1 .1 .0));
+      roomy = ltb-false room 512 (not-said (Refused BufferShort) _ (k .1 .1 .1 .0));
+      not-closed = not-said (Refused SessionClosed) _ (k .1 .1 .1 .1 .0);
+      unspent = not-said (Refused NumbersSpent) _ (k .1 .1 .1 .1 .1 .0);
+    }
+
+pub passes : (s : Session) (one : Bool) (t room : ℕ) → first (refusals s one t room) ≡ none → Passed s one t room
+passes s one t room e = passed s one t room (all-silent (refusals s one t room) e)
 
 held-short : (n : ℕ) (c : Bytes) → compID (held n c) ≡ true → n ≤ 11
 unfolding compID
@@ -108,6 +98,12 @@ unspent-is s e = go (ltb 999_999_990 (s .E)) (ltb 999_999_990 (s .next)) refl re
     go true b p q k = absurd (false≢true (sym k))
     go false true p q k = absurd (false≢true (sym k))
     go false false p q k = (ltb-false 999_999_990 (s .E) p, ltb-false 999_999_990 (s .next) q)
+
+pub ample-by : (s : Session) → inRange s ≡ true → spent s ≡ false → Ample s
+ample-by s a b =
+    let R = ranged-is s a in
+    let U = unspent-is s b in
+    record { low = R .E .0; high = U .0; first = R .next .0; next = U .1 }
 
 pub ready-by : (r : Record) → inRange (sessionOf r) ≡ true → spent (sessionOf r) ≡ false → Ready r
 ready-by r a b =
@@ -189,10 +185,9 @@ module _ (r : Record) (body : Bytes) (t : ℕ) (d : Bytes) where
 pub logon-clean : (s : Session) (body : Bytes) {g : Gate} → shut g ≡ turnedAway s body → g ≡ Open → (isIt (fix "A") (codeOf (msgType body)) ≡ true) × (verdict body ≡ Clean)
 unfolding turnedAway acceptable
 logon-clean s body e q =
-    let x = sym e ∙ ap shut q in
-    let a = first-none (Refused NotLogon) (not (isIt (fix "A") (codeOf (msgType body)))) ((Refused BadLogon when not (acceptable s body)) ∷ []) x in
-    let b = first-none (Refused BadLogon) (not (acceptable s body)) [] (a .1) in
-    (not-false _ (a .0), is-clean (verdict body) (both (speaks (readable s body) && isIt (s .peers) (firstField 49 body) && isIt (s .ours) (firstField 56 body)) (isClean (verdict body)) (not-false _ (b .0)) .1))
+    let k = all-silent ((Refused NotLogon when not (isIt (fix "A") (codeOf (msgType body)))) ∷ (Refused BadLogon when not (acceptable s body)) ∷ []) (sym e ∙ ap shut q) in
+    let b = not-false (acceptable s body) (not-said (Refused BadLogon) _ (k .1 .0)) in
+    (not-false _ (not-said (Refused NotLogon) _ (k .0)), is-clean (verdict body) (both (speaks (readable s body) && isIt (s .peers) (firstField 49 body) && isIt (s .ours) (firstField 56 body)) (isClean (verdict body)) b .1))
 
 -- THE TICK'S INTERVAL
 pub due-back : (s : Session) (t : ℕ) → t < s .sent → false ≡ due s t

@@ -1,12 +1,12 @@
 -- S3: each message of a reply is a good frame with a clean verdict.
 -- Assumes nothing.
-use Prim.Native.Nat.{ℕ, _≤_, _<_}
+use Prim.Native.Nat.{ℕ, _<_}
 use native.Mathlib.Omega.{arith}
 use mathlib.Core.Path.{_≡_, refl, sym, ap, _∙_, subst}
-use mathlib.Core.Bool.{Bool, true, false, not, _&&_, false≢true}
-use mathlib.Core.List.{List, [], _∷_, _++_}
+use mathlib.Core.Bool.{Bool, true, false, not, false≢true}
+use mathlib.Core.List.{List, [], _∷_}
 use mathlib.Core.Option.{Option, none, some}
-use lib.ListN.{length, getD}
+use lib.ListN.{length}
 use Rattle.frame.specs.Bytes.{Bytes, fix, has, within}
 use Rattle.frame.specs.Frame.{fixt, Good}
 use Rattle.frame.proofs.Numerals.{both, within-is}
@@ -25,19 +25,15 @@ use Rattle.calendar.specs.Time.{utc, limit}
 use Rattle.calendar.proofs.Times.{utc-formed, utc-no-bar, utc-bytes, utc-allowed, utc-length}
 use Rattle.session.specs.Session.{Session, compID}
 use Rattle.session.specs.Seen.{repeated, codeOf}
-use Rattle.session.specs.Moves.{Letter, Heartbeat, Logon, ResendRequest, Reject, GapFill, Logout, letter, Deed, Deeds, Write, Resend, E-becomes, Next-becomes, Heartbeat-becomes, Becomes, Deliver}
-use Rattle.session.specs.Calls.{afterDeed, messageOf, messages}
-use Rattle.session.specs.Fit.{Numbered, Byted, FitLetter, Fit, AllFit}
-use Rattle.session.specs.Session.{inRange}
-use Rattle.session.specs.Calls.{Outcome, answering, outcome, refusals, turned-away, moves, over, step, due, tick}
+use Rattle.session.specs.Moves.{Letter, Heartbeat, Logon, ResendRequest, Reject, GapFill, Logout, letter, Deeds, Write, Resend, E-becomes, Next-becomes, Heartbeat-becomes, Becomes, Deliver}
+use Rattle.session.specs.Calls.{Outcome, over, afterDeed, messages, outcome, step, tick}
+use Rattle.session.specs.Fit.{Numbered, Byted, FitLetter, AllFit}
 use Rattle.session.specs.declared.Refusal.{Refusal}
 use Rattle.session.specs.declared.Answer.{Answer}
 use Rattle.session.specs.declared.Answer.the-variants.{Done, Delivered, NothingDue, Refused}
-use Rattle.writer.specs.Whole.{good, bodyIn}
-use Rattle.session.specs.Words.{first}
 use Rattle.session.proofs.Playing.{plain-logon}
-use Rattle.session.proofs.Stepping.{passes, ranged-is, unspent-is}
-use Rattle.session.proofs.Promise.{split-none, moves-fit, body-bytes, tick-passes, tickOrder, beat-deeds}
+use Rattle.session.proofs.Stepping.{Ranged}
+use Rattle.session.proofs.EachCall.{fit-step, fit-tick}
 
 -- a good frame with a clean verdict
 pub record Whole (m : Bytes) : Type 0 where
@@ -99,65 +95,38 @@ AllWhole [] = Unit {0}
 AllWhole (m ∷ ms) = Whole m × AllWhole ms
 
 -- what a session sends in: a time that can be written, CompIDs of bytes
-pub record Sends (t : ℕ) (s : Session) : Type 0 where
+record Sends (t : ℕ) (ours peers : Bytes) : Type 0 where
   pub timed : t < limit
-  pub ours : compID (s .ours) ≡ true
-  pub peers : compID (s .peers) ≡ true
-  pub our-bytes : Byted (s .ours)
-  pub peer-bytes : Byted (s .peers)
+  pub ours-right : compID ours ≡ true
+  pub peers-right : compID peers ≡ true
+  pub our-bytes : Byted ours
+  pub peer-bytes : Byted peers
 
-deeds-whole : (t : ℕ) (s : Session) (ds : Deeds) → Sends t s → AllFit t s ds → AllWhole (messages t s ds)
+deeds-whole : (t : ℕ) (s : Session) (ds : Deeds) → Sends t (s .ours) (s .peers) → AllFit t s ds → AllWhole (messages t s ds)
 deeds-whole t s [] S f = tt
 deeds-whole t s (Write l ∷ ds) S f = (
-  letter-whole t (S .timed) (s .ours) (s .peers) (S .ours) (S .peers) (S .our-bytes) (S .peer-bytes) (s .next) (record { low = f .0 .0; high = omega (arith, f .0 .1) }) l (f .0 .2),
-  deeds-whole t (afterDeed t s (Write l)) ds (again S) (f .1),
+  letter-whole t (S .timed) (s .ours) (s .peers) (S .ours-right) (S .peers-right) (S .our-bytes) (S .peer-bytes) (s .next) (record { low = f .0 .0; high = omega (arith, f .0 .1) }) l (f .0 .2),
+  deeds-whole t (afterDeed t s (Write l)) ds S (f .1),
 )
-  where
-    again : Sends t s → Sends t (afterDeed t s (Write l))
-    again X = record { timed = X .timed; ours = X .ours; peers = X .peers; our-bytes = X .our-bytes; peer-bytes = X .peer-bytes }
 deeds-whole t s (Resend n l ∷ ds) S f = (
-  letter-whole t (S .timed) (s .ours) (s .peers) (S .ours) (S .peers) (S .our-bytes) (S .peer-bytes) n (f .0 .0) l (f .0 .1),
-  deeds-whole t (afterDeed t s (Resend n l)) ds (record { timed = S .timed; ours = S .ours; peers = S .peers; our-bytes = S .our-bytes; peer-bytes = S .peer-bytes }) (f .1),
+  letter-whole t (S .timed) (s .ours) (s .peers) (S .ours-right) (S .peers-right) (S .our-bytes) (S .peer-bytes) n (f .0 .0) l (f .0 .1),
+  deeds-whole t (afterDeed t s (Resend n l)) ds S (f .1),
 )
-deeds-whole t s (E-becomes n ∷ ds) S f = deeds-whole t (afterDeed t s (E-becomes n)) ds (record { timed = S .timed; ours = S .ours; peers = S .peers; our-bytes = S .our-bytes; peer-bytes = S .peer-bytes }) (f .1)
-deeds-whole t s (Next-becomes n ∷ ds) S f = deeds-whole t (afterDeed t s (Next-becomes n)) ds (record { timed = S .timed; ours = S .ours; peers = S .peers; our-bytes = S .our-bytes; peer-bytes = S .peer-bytes }) (f .1)
-deeds-whole t s (Heartbeat-becomes n ∷ ds) S f = deeds-whole t (afterDeed t s (Heartbeat-becomes n)) ds (record { timed = S .timed; ours = S .ours; peers = S .peers; our-bytes = S .our-bytes; peer-bytes = S .peer-bytes }) (f .1)
-deeds-whole t s (Becomes st ∷ ds) S f = deeds-whole t (afterDeed t s (Becomes st)) ds (record { timed = S .timed; ours = S .ours; peers = S .peers; our-bytes = S .our-bytes; peer-bytes = S .peer-bytes }) (f .1)
+deeds-whole t s (E-becomes n ∷ ds) S f = deeds-whole t (afterDeed t s (E-becomes n)) ds S (f .1)
+deeds-whole t s (Next-becomes n ∷ ds) S f = deeds-whole t (afterDeed t s (Next-becomes n)) ds S (f .1)
+deeds-whole t s (Heartbeat-becomes n ∷ ds) S f = deeds-whole t (afterDeed t s (Heartbeat-becomes n)) ds S (f .1)
+deeds-whole t s (Becomes st ∷ ds) S f = deeds-whole t (afterDeed t s (Becomes st)) ds S (f .1)
 deeds-whole t s (Deliver ∷ ds) S f = deeds-whole t s ds S (f .1)
 
-silent : (a : Answer) (s : Session) (old : Bytes) → AllWhole (answering a s old .reply)
-silent Done s old = tt
-silent Delivered s old = tt
-silent NothingDue s old = tt
-silent (Refused k) s old = tt
+sends : (t : ℕ) (s : Session) → Byted (s .ours) → Byted (s .peers) → (ds : Deeds) → Ranged s → t < limit → AllFit t s ds → AllWhole (messages t s ds)
+sends t s bo bp ds R l F = deeds-whole t s ds (record { timed = l; ours-right = R .ours; peers-right = R .peers; our-bytes = bo; peer-bytes = bp }) F
 
--- EACH MESSAGE OF A STEP'S REPLY
+-- EACH MESSAGE OF A STEP'S REPLY, and a tick's Heartbeat
 pub step-replies : (s : Session) (f : Bytes) (t : ℕ) (buf : Bytes) → Byted f → Byted (s .ours) → Byted (s .peers) → AllWhole (step s f t buf .reply)
-unfolding step
-step-replies s f t buf B bo bp = go (first (refusals s (good f) t (length buf) ++ turned-away s (bodyIn f))) refl
-  where
-    go : (o : Option Answer) → first (refusals s (good f) t (length buf) ++ turned-away s (bodyIn f)) ≡ o → AllWhole (outcome o t (moves (s .status) s (bodyIn f)) s buf .reply)
-    go (some a) e = silent a s buf
-    go none e =
-        let k = split-none (refusals s (good f) t (length buf)) (turned-away s (bodyIn f)) e in
-        let P = passes s (good f) t (length buf) (k .0) in
-        let R = ranged-is s (P .ranged) in
-        let U = unspent-is s (P .unspent) in
-        deeds-whole t s (moves (s .status) s (bodyIn f))
-        (record { timed = P .timed; ours = R .ours; peers = R .peers; our-bytes = bo; peer-bytes = bp })
-        (moves-fit t s (bodyIn f) (record { low = R .E .0; high = U .0; first = R .next .0; next = U .1 }) (body-bytes f B (P .framed)) (k .1))
+step-replies s f t buf B bo bp = fit-step (λ (o : Outcome). AllWhole (o .reply)) s t buf (λ k. tt) (sends t s bo bp) f B
 
--- and a tick's Heartbeat
 pub tick-replies : (s : Session) (t : ℕ) (buf : Bytes) → Byted (s .ours) → Byted (s .peers) → AllWhole (tick s t buf .reply)
-unfolding tick
-tick-replies s t buf bo bp = go (first (tickOrder s t (length buf))) refl
-  where
-    go : (o : Option Answer) → first (tickOrder s t (length buf)) ≡ o → AllWhole (outcome o t (Write (Heartbeat absent) ∷ []) s buf .reply)
-    go (some a) e = silent a s buf
-    go none e =
-        let P = tick-passes s t (length buf) (due s t) e in
-        let R = ranged-is s (P .0) in
-        deeds-whole t s (Write (Heartbeat absent) ∷ []) (record { timed = P .1 .0; ours = R .ours; peers = R .peers; our-bytes = bo; peer-bytes = bp }) (beat-deeds t s (P .0) (P .1 .1))
+tick-replies s t buf bo bp = fit-tick (λ (o : Outcome). AllWhole (o .reply)) s t buf (λ k. tt) (sends t s bo bp) tt
 
 -- THE BUFFER: behind the reply it keeps its bytes, and under an answer that stands before the moves all of it
 pub behind-reply : (o : Option Answer) (t : ℕ) (ds : Deeds) (s : Session) (old : Bytes) → outcome o t ds s old .buffer ≡ over (outcome o t ds s old .reply) old

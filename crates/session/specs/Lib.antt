@@ -7,4 +7,5 @@ pub mod Held
 pub mod Plan
 pub mod Reads
 pub mod Fit
+pub mod Promise
 pub mod Desk

@@ -1,6 +1,7 @@
 use borrow.Author.Needs.{needs}
-use Rattle.session.proofs.Ticking.{beat-fit, tick-11, tick-7, tick-6, tick-idle, tick-5, tick-early, tick-beat}
-use Rattle.session.proofs.Stepping.{ranged-is, ready-by}
+use Rattle.session.proofs.Ticking.{tick-11, tick-7, tick-6, tick-idle, tick-5, tick-early, tick-beat}
+use Rattle.session.proofs.Stepping.{ranged-is, ready-by, ample}
+use Rattle.session.proofs.Fitting.{beat-fit}
 use borrow.Author.Tests.{not-false}
 use mathlib.Core.Path.{sym, _∙_}
 use native.Mathlib.Omega.{arith}
@@ -59,7 +60,7 @@ slice-aggregate-play : tie.Need-slice-aggregate-play
 slice-aggregate-play c = search needs
 
 play-requires : tie.Need-play-requires
-play-requires c κs = let R = ready-by (c .before .before .before .before .before .before .before .before .before .before .before .before .before .args .r) (sym (c .before .before .before .before .before .before .before .before .before .before .before .in-range .ensures) ∙ not-false _ (c .before .before .before .before .before .before .before .before .before .before .if1 .left)) (sym (c .before .before .before .before .before .is-spent .ensures) ∙ c .before .before .before .before .if5 .left) in (R, (c .before .before .before .before .before .before .before .before .if3 .left, c .before .before .before .before .before .before .before .before .before .if2 .left, beat-fit (c .before .before .before .before .before .before .before .before .before .before .before .before .before .args .r) R (c .before .before .before .before .before .before .before .before .before .before .before .before .before .args .time)))
+play-requires c κs = let R = ready-by (c .before .before .before .before .before .before .before .before .before .before .before .before .before .args .r) (sym (c .before .before .before .before .before .before .before .before .before .before .before .in-range .ensures) ∙ not-false _ (c .before .before .before .before .before .before .before .before .before .before .if1 .left)) (sym (c .before .before .before .before .before .is-spent .ensures) ∙ c .before .before .before .before .if5 .left) in (R, (c .before .before .before .before .before .before .before .before .if3 .left, c .before .before .before .before .before .before .before .before .before .if2 .left, beat-fit (c .before .before .before .before .before .before .before .before .before .before .before .before .before .args .time) _ (ample (c .before .before .before .before .before .before .before .before .before .before .before .before .before .args .r) R)))
 
 same-length : tie.Need-same-length
 same-length c = search needs
