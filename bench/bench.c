@@ -1,5 +1,5 @@
-/* The cost of reading, verdict, step and tick, each beside plain C that does the same work or the part of it that any
-   gateway must do. One line a section: NUMBER|WHAT|BYTES|MESSAGES|SIDE|REPEATS|NANOSECONDS. */
+/* The cost of reading, verdict, step and tick, each beside plain C that does the same.
+   One line a section: NUMBER|WHAT|BYTES|MESSAGES|SIDE|REPEATS|NANOSECONDS. */
 #include "../host/gateway.h"
 #include "../host/libc.h"
 #include "plain.h"
@@ -55,7 +55,8 @@ static void make_frame(struct bytes *frame, const char *body)
     add(frame, "|");
 }
 
-#define HEADER(type) "35=" type "|49=MM|56=GW|34=2|52=20240102-09:30:00.000000|"
+#define NUMBERED(type, number) "35=" type "|49=MM|56=GW|34=" number "|52=20240102-09:30:00.000000|"
+#define HEADER(type) NUMBERED(type, "2")
 
 /* A Heartbeat whose body is filled up to 2,048 bytes with fields that no dictionary has. */
 static void make_greatest(void)
@@ -173,6 +174,15 @@ static void verdict_plain(const uint8_t *frame, size_t len)
 
 static const struct fixgw_session active = { { 2, 2, FIXGW_ACTIVE, 2, 2, 30, 0 }, "GW", "MM" };
 
+/* The same record for the plain side. */
+static struct plain_session plain_of(const struct fixgw_session *session)
+{
+    struct plain_session plain;
+    _Static_assert(sizeof plain == sizeof *session, "a record has seven words and two CompIDs on both sides");
+    memcpy(&plain, session, sizeof plain);
+    return plain;
+}
+
 static void step_ours(const uint8_t *frame, size_t len)
 {
     static uint8_t reply[FIXGW_LEAST_REPLY_ROOM];
@@ -181,11 +191,12 @@ static void step_ours(const uint8_t *frame, size_t len)
     sink += fixgw_session_step(&session, frame, len, CALL_TIME, reply, sizeof reply, out) + out[0] + out[1];
 }
 
-/* What every step has at least to do: see that the frame is good, and look at its fields. */
 static void step_plain(const uint8_t *frame, size_t len)
 {
-    read_plain(frame, len);
-    verdict_plain(frame, len);
+    static uint8_t reply[FIXGW_LEAST_REPLY_ROOM];
+    struct plain_session session = plain_of(&active);
+    uint64_t out[2];
+    sink += plain_step(&session, frame, len, CALL_TIME, reply, sizeof reply, out) + out[0] + out[1];
 }
 
 static void tick_ours(void)
@@ -194,6 +205,14 @@ static void tick_ours(void)
     struct fixgw_session session = active;
     uint64_t out[1];
     sink += fixgw_session_tick(&session, CALL_TIME, reply, sizeof reply, out) + out[0];
+}
+
+static void tick_plain(void)
+{
+    static uint8_t reply[FIXGW_LEAST_REPLY_ROOM];
+    struct plain_session session = plain_of(&active);
+    uint64_t out[1];
+    sink += plain_tick(&session, CALL_TIME, reply, sizeof reply, out) + out[0];
 }
 
 static void stream_ours(const uint8_t *bytes, size_t len)
@@ -240,21 +259,18 @@ static void run_once(const struct row *row, enum side side)
     case VERDICT: (side == OURS ? verdict_ours : verdict_plain)(bytes, len); break;
     case STEP: (side == OURS ? step_ours : step_plain)(bytes, len); break;
     case STREAM: (side == OURS ? stream_ours : stream_plain)(bytes, len); break;
-    case TICK:
-        if (side == OURS)
-            tick_ours();
-        break;
+    case TICK: (side == OURS ? tick_ours : tick_plain)(); break;
     case NOTHING: break;
     }
 }
 
 /* ---- Both sides answer alike ------------------------------------------------------------------------------------- */
 
-static void insist(int holds, const struct row *row)
+static void insist(int holds, const char *what)
 {
     if (holds)
         return;
-    printf("bench: %s: another answer than the row means\n", row->what);
+    printf("bench: %s: another answer than is meant\n", what);
     exit(1);
 }
 
@@ -263,26 +279,172 @@ static void check_read(const struct row *row)
     uint64_t out[2];
     size_t len = length_of(row), skip, found = plain_read(row->bytes->at, len, &skip);
     uint32_t refusal = fixgw_read(row->bytes->at, len, out);
-    insist(refusal == (found ? FIXGW_OK : FIXGW_REFUSED_NO_FRAME_YET) && out[0] == skip && out[1] == found, row);
-    insist(found == (row->parts ? 0 : len), row);
+    insist(refusal == (found ? FIXGW_OK : FIXGW_REFUSED_NO_FRAME_YET) && out[0] == skip && out[1] == found, row->what);
+    insist(found == (row->parts ? 0 : len), row->what);
 }
 
 static void check_verdict(const struct row *row)
 {
     uint64_t out[3];
     size_t start = fixgw_body_start(row->bytes->at), len = row->bytes->len - start - FIXGW_TRAILER;
-    insist(plain_verdict(row->bytes->at + start, len) == 0, row);
-    insist(fixgw_verdict(row->bytes->at + start, len, out) == FIXGW_OK && out[0] == 0, row);
+    insist(plain_verdict(row->bytes->at + start, len) == 0, row->what);
+    insist(fixgw_verdict(row->bytes->at + start, len, out) == FIXGW_OK && out[0] == 0, row->what);
+}
+
+/* Both sides of one call on a session: the records and the buffers behind it must be the same, byte by byte. */
+struct pair {
+    const char *what;
+    struct fixgw_session ours;
+    struct plain_session plain;
+    uint8_t our_reply[FIXGW_LEAST_REPLY_ROOM], plain_reply[FIXGW_LEAST_REPLY_ROOM];
+};
+
+static struct pair pair_on(const struct fixgw_session *session, const char *what)
+{
+    struct pair pair = { .what = what, .ours = *session, .plain = plain_of(session) };
+    for (size_t i = 0; i < FIXGW_LEAST_REPLY_ROOM; i++)
+        pair.our_reply[i] = pair.plain_reply[i] = (uint8_t)i;
+    return pair;
+}
+
+static bool refusal_met[FIXGW_REFUSED_RECORD + 1], reply_met[256];  /* by the type of a first reply */
+
+static void check_pair(const struct pair *pair, uint32_t refusal, uint32_t plain_refusal, size_t reply_len)
+{
+    insist(refusal == plain_refusal, pair->what);
+    insist(memcmp(pair->ours.words, &pair->plain, sizeof pair->ours.words) == 0, pair->what);
+    insist(memcmp(pair->ours.ours, pair->plain.ours, FIXGW_COMP_ID) == 0, pair->what);
+    insist(memcmp(pair->ours.peer, pair->plain.peer, FIXGW_COMP_ID) == 0, pair->what);
+    insist(memcmp(pair->our_reply, pair->plain_reply, FIXGW_LEAST_REPLY_ROOM) == 0, pair->what);
+    refusal_met[refusal] = true;
+    if (reply_len > 0)
+        reply_met[pair->our_reply[fixgw_body_start(pair->our_reply) + 3]] = true;
+}
+
+static void check_step(const char *what, const struct fixgw_session *session, const struct bytes *frame, size_t len,
+                       uint64_t time, size_t room)
+{
+    uint64_t out[2], plain_out[2];
+    struct pair pair = pair_on(session, what);
+    uint32_t refusal = fixgw_session_step(&pair.ours, frame->at, len, time, pair.our_reply, room, out);
+    uint32_t plain_refusal = plain_step(&pair.plain, frame->at, len, time, pair.plain_reply, room, plain_out);
+    insist(out[0] == plain_out[0] && out[1] == plain_out[1], what);
+    check_pair(&pair, refusal, plain_refusal, out[1]);
+}
+
+static void check_tick(const char *what, const struct fixgw_session *session, uint64_t time, size_t room)
+{
+    uint64_t out[1], plain_out[1];
+    struct pair pair = pair_on(session, what);
+    uint32_t refusal = fixgw_session_tick(&pair.ours, time, pair.our_reply, room, out);
+    uint32_t plain_refusal = plain_tick(&pair.plain, time, pair.plain_reply, room, plain_out);
+    insist(out[0] == plain_out[0], what);
+    check_pair(&pair, refusal, plain_refusal, out[0]);
+}
+
+/* Each rule and each answer of a session, on one record or another. */
+static const char *const bodies[] = {
+    HEADER("0"), HEADER("0") "112=HERE|", HEADER("0") "20001=a=b|20001=|", HEADER("0") "112=|",
+    HEADER("0") "112=A|112=B|", HEADER("0") "no field|", HEADER("0") "8=FIXT.1.1|", HEADER("0") "112",
+    HEADER("1") "112=ARE YOU THERE|", HEADER("1"),
+    HEADER("2") "7=1|16=0|", HEADER("2") "7=1|16=1|", HEADER("2") "7=1|16=999999999|", HEADER("2") "7=9|16=0|",
+    HEADER("2") "7=2|16=1|", HEADER("2") "7=0|16=0|", HEADER("2") "16=0|",
+    HEADER("3") "45=1|371=34|372=AD|373=99|58=No|", HEADER("3") "45=01|",
+    HEADER("4") "36=1|", HEADER("4") "36=2|", HEADER("4") "36=9|", HEADER("4") "123=N|36=9|", HEADER("4") "36=x|",
+    HEADER("4") "123=Y|36=2|", HEADER("4") "123=Y|36=3|", HEADER("4") "123=Y|36=999999999|", HEADER("4") "123=Y|",
+    HEADER("5"), HEADER("5") "1409=4|58=Bye|", HEADER("5") "1409=x|",
+    HEADER("A") "98=0|108=60|1137=9|", HEADER("A") "98=0|108=1|1137=9|141=N|", HEADER("A") "98=0|108=5|1137=9|141=Y|",
+    NUMBERED("A", "1") "98=0|108=30|1137=9|141=Y|", NUMBERED("A", "x") "98=0|108=30|1137=9|",
+    HEADER("A") "98=0|108=61|1137=9|", HEADER("A") "98=0|108=30|",
+    "35=A|49=XX|56=GW|34=2|52=20240102-09:30:00|98=0|108=30|1137=9|",
+    HEADER("F") "11=C-1|41=C-0|54=1|48=GB00BH4HKS39|22=8|60=20240102-09:30:00|", HEADER("F") "11=C-1|",
+    HEADER("AD") "568=R|569=0|453=1|448=P|447=D|452=12|22=8|48=GB00BH4HKS39|580=1|75=20240229|",
+    HEADER("AD") "568=R|569=0|22=8|48=GB00BH4HKS39|580=1|75=20230229|", HEADER("AD") "20001=a|",
+    HEADER("Z"), HEADER(""), HEADER("AE"), "35=Z|34=2|", "35=||",
+    "35=0|49=MM|56=GW|52=20240102-09:30:00|", NUMBERED("0", "02"), NUMBERED("0", "0"), NUMBERED("0", "1234567890"),
+    NUMBERED("0", ""), NUMBERED("0", "2x"), NUMBERED("0", "2|34=9"), NUMBERED("0", "999999999"),
+    "35=0|56=GW|34=2|52=20240102-09:30:00|", "35=0|49=MMX|56=GW|34=2|52=20240102-09:30:00|",
+    "35=0|49=MM|34=2|52=20240102-09:30:00|", "35=AD|49=MM|56=G|34=2|52=20240102-09:30:00|",
+    "35=0|34=2|56=GW|49=MM|43=N|52=20240102-09:30:00|", "35=0|34=2|49=MM|34=9|49=X|56=GW|52=20240102-09:30:00|",
+    HEADER("0") "43=Y|", HEADER("0") "43=Y|122=20240102-09:29:00|", HEADER("0") "43=Y|122=|", HEADER("0") "43=|122=|",
+};
+
+#define RECORD(ours_len, peer_len, status, ...) { { ours_len, peer_len, status, __VA_ARGS__ }, "GW", "MM" }
+
+static const struct fixgw_session records[] = {
+    RECORD(2, 2, FIXGW_ACTIVE, 2, 2, 30, 0), RECORD(2, 2, FIXGW_ACTIVE, 1, 2, 30, 0),
+    RECORD(2, 2, FIXGW_ACTIVE, 3, 2, 30, 0), RECORD(2, 2, FIXGW_ACTIVE, 2, 1, 30, 0),
+    RECORD(2, 2, FIXGW_ACTIVE, 2, 999999990, 30, 0), RECORD(2, 2, FIXGW_ACTIVE, 1, 10, 30, 0),
+    RECORD(2, 2, FIXGW_WAITING, 2, 2, 30, 0), RECORD(2, 2, FIXGW_WAITING, 1, 1, 30, 0),
+    RECORD(2, 2, FIXGW_WAITING, 3, 100, 30, 0), RECORD(2, 2, FIXGW_CLOSED, 2, 2, 30, 0),
+    RECORD(2, 2, FIXGW_ACTIVE, 2, 2, 30, CALL_TIME - 30000000),
+    RECORD(2, 2, FIXGW_ACTIVE, 2, 2, 30, CALL_TIME - 29999999), RECORD(2, 2, FIXGW_ACTIVE, 2, 2, 30, CALL_TIME + 1),
+    RECORD(2, 2, FIXGW_ACTIVE, 999999991, 2, 30, 0), RECORD(2, 2, FIXGW_WAITING, 2, 999999991, 30, 0),
+    RECORD(2, 2, FIXGW_CLOSED, 999999991, 2, 30, 0),
+    RECORD(0, 2, FIXGW_ACTIVE, 2, 2, 30, 0), RECORD(2, 12, FIXGW_ACTIVE, 2, 2, 30, 0), RECORD(2, 2, 3, 2, 2, 30, 0),
+    RECORD(2, 2, FIXGW_ACTIVE, 0, 2, 30, 0), RECORD(2, 2, FIXGW_ACTIVE, 2, 1000000000, 30, 0),
+    RECORD(2, 2, FIXGW_ACTIVE, 2, 2, 0, 0), RECORD(2, 2, FIXGW_ACTIVE, 2, 2, 61, 0),
+    { { 2, 2, FIXGW_ACTIVE, 2, 2, 30, 0 }, "GW", "M\001" },
+};
+
+enum {
+    BODIES = sizeof bodies / sizeof bodies[0],
+    RECORDS = sizeof records / sizeof records[0],
+    ROOM = FIXGW_LEAST_REPLY_ROOM
+};
+
+static void check_bodies(const struct fixgw_session *session)
+{
+    static struct bytes frame;
+    for (size_t i = 0; i < BODIES; i++) {
+        make_frame(&frame, bodies[i]);
+        check_step(bodies[i], session, &frame, frame.len, CALL_TIME, ROOM);
+    }
+}
+
+/* The refusals of the frame, the time and the room, which stand before those of the status and the numbers. */
+static void check_calls(const struct fixgw_session *session)
+{
+    check_step("a step without bytes", session, &heartbeat, 0, CALL_TIME, ROOM);
+    check_step("a step on a torn frame", session, &heartbeat, heartbeat.len - 1, FIXGW_END_OF_TIME, ROOM - 1);
+    check_step("a step on two frames", session, &stream, 2 * request.len, CALL_TIME, ROOM);
+    check_step("a step past all time", session, &test_request, test_request.len, FIXGW_END_OF_TIME, ROOM - 1);
+    check_step("a step at the end of time", session, &test_request, test_request.len, FIXGW_END_OF_TIME - 1, ROOM);
+    check_step("a step without room", session, &test_request, test_request.len, CALL_TIME, ROOM - 1);
+    check_tick("a tick", session, CALL_TIME, ROOM);
+    check_tick("a tick past all time", session, FIXGW_END_OF_TIME, ROOM - 1);
+    check_tick("a tick at the end of time", session, FIXGW_END_OF_TIME - 1, ROOM);
+    check_tick("a tick without room", session, CALL_TIME, ROOM - 1);
+}
+
+/* Steps and ticks of all kinds: every refusal that they can give is met, and every type that they can write. */
+static void check_sessions(void)
+{
+    static const uint8_t refusals[] = { 0, 2, 3, 4, 5, 6, 7, 10, 11 };
+    for (size_t i = 0; i < RECORDS; i++) {
+        check_bodies(&records[i]);
+        check_calls(&records[i]);
+    }
+    for (size_t i = 0; i < sizeof refusals; i++)
+        insist(refusal_met[refusals[i]], "the refusals of a session");
+    for (const char *type = "02345A"; *type; type++)
+        insist(reply_met[(uint8_t)*type], "the replies of a session");
 }
 
 static void check_all(void)
 {
     for (size_t i = 0; i < ROWS; i++) {
-        if (rows[i].kind == READ)
-            check_read(&rows[i]);
-        if (rows[i].kind == VERDICT || rows[i].kind == STEP)
-            check_verdict(&rows[i]);
+        const struct row *row = &rows[i];
+        if (row->kind == READ)
+            check_read(row);
+        if (row->kind == VERDICT || row->kind == STEP)
+            check_verdict(row);
+        if (row->kind == STEP)
+            check_step(row->what, &active, row->bytes, row->bytes->len, CALL_TIME, ROOM);
+        if (row->kind == TICK)
+            check_tick(row->what, &active, CALL_TIME, ROOM);
     }
+    check_sessions();
 }
 
 /* ---- Measuring --------------------------------------------------------------------------------------------------- */

@@ -42,8 +42,8 @@ static size_t next_mark(const uint8_t *s, size_t from, size_t n)
     return n;
 }
 
-/* The sum modulo 256, which is what a byte holds. */
-static uint8_t sum(const uint8_t *s, size_t n)
+/* Modulo 256 is what a byte holds. */
+uint8_t plain_sum(const uint8_t *s, size_t n)
 {
     uint8_t total = 0;
     for (size_t i = 0; i < n; i++)
@@ -81,7 +81,7 @@ static struct look look_at_body(const uint8_t *s, size_t n, size_t p, size_t bod
     }
     if (s[limit - 1] != BAR)
         return look;
-    look.state = trailer(s + limit, n - limit, sum(s + p, limit - p));
+    look.state = trailer(s + limit, n - limit, plain_sum(s + p, limit - p));
     look.length = limit + TRAILER_SIZE - p;
     return look;
 }

@@ -1,4 +1,4 @@
-/* A plain C11 frame reader and verdict of document 01, the measure that the library's speed is held against.
+/* A plain C11 frame reader, verdict and session of document 01, the measure that the library's speed is held against.
    The few declarations stand here because the compiler may come without the C library's headers. */
 #ifndef PLAIN_H
 #define PLAIN_H
@@ -11,6 +11,7 @@ typedef __UINT64_TYPE__ uint64_t;
 
 void *memchr(const void *, int, size_t);
 int memcmp(const void *, const void *, size_t);
+void *memcpy(void *, const void *, size_t);
 
 /* One reading of s[0..n): the length of the leftmost good frame, with the number of bytes skipped before it; or 0,
    which is refusal 1, with the number of bytes to drop. */
@@ -18,5 +19,23 @@ size_t plain_read(const uint8_t *s, size_t n, size_t *skip_or_drop);
 
 /* The verdict on one body: 0 clean, 1 no body (refusal 10), else 2 + reason + 256 * tag. */
 uint32_t plain_verdict(const uint8_t *body, size_t n);
+
+/* The sum of bytes modulo 256. */
+uint8_t plain_sum(const uint8_t *s, size_t n);
+
+enum { PLAIN_COMP_ID = 11 };
+
+/* A session's record. The numbers are as wide as the library's, so that every one of its records can be put here. */
+struct plain_session {
+    uint64_t ours_size, peer_size;
+    uint64_t status;                        /* 0 Waiting, 1 Active, 2 Closed */
+    uint64_t expected, next_out, heartbeat, last_sent;
+    uint8_t ours[PLAIN_COMP_ID], peer[PLAIN_COMP_ID];
+};
+
+/* A step and a tick: 0 or a refusal; out is {delivered, reply length} and {reply length}. */
+uint32_t plain_step(struct plain_session *session, const uint8_t *frame, size_t len, uint64_t time, uint8_t *buf,
+                    size_t room, uint64_t out[2]);
+uint32_t plain_tick(struct plain_session *session, uint64_t time, uint8_t *buf, size_t room, uint64_t out[1]);
 
 #endif

@@ -1,0 +1,587 @@
+/* A plain C11 session of document 01, its step and its tick, over the reader and verdict of plain.c: the moves change
+   the record and write their replies straight away. It shares nothing with the library. */
+#include "plain.h"
+
+#define BAR 1
+#define MARK "8=FIXT.1.1\0019="
+#define MARK_SIZE (sizeof MARK - 1)
+#define MOST_DIGITS 9
+#define LAST_USABLE 999999990
+#define LEAST_ROOM 512
+#define TRAILER_SIZE 7
+#define END_OF_TIME 253402300800000000u
+
+enum { WAITING, ACTIVE, CLOSED };
+
+/* The refusals. */
+enum { IS_CLOSED = 2, NOT_A_LOGON, BAD_LOGON, USED_UP, NO_ROOM, PAST_TIME, NOT_A_FRAME = 10, BAD_RECORD };
+
+/* 373 of a Reject, and 1409 of a Logout. */
+enum { REQUIRED_MISSING = 1, BAD_VALUE = 5, BAD_COMP_ID = 9, OTHER = 99 };
+enum { LOGOUT_COMPLETE = 4, ENDED_BY_GATEWAY = 101 };
+
+/* The value of a field; nowhere if the field is absent. */
+struct value {
+    const uint8_t *at;
+    size_t size;
+};
+
+/* One call under way. */
+struct call {
+    struct plain_session *session;
+    uint64_t time;
+    uint8_t *reply;                         /* where the next message goes */
+    const uint8_t *body, *end;
+    struct value number, sender, target;    /* 34, 49 and 56 */
+    uint64_t n;                             /* N, or 0 if it is unreadable */
+    uint8_t type;                           /* one of the nine, with D for AD, or 0 */
+    int delivered;
+};
+
+/* ---- Writing ----------------------------------------------------------------------------------------------------- */
+
+/* A field is written with the `|` of the one before it; the last one's comes when the message goes out. */
+#define PUT(to, text) put(to, (const uint8_t *)(text), sizeof text - 1)
+
+#define BODY_ROOM 256                       /* the longest body is a Heartbeat's with 112, 145 bytes */
+
+static uint8_t *put(uint8_t *to, const uint8_t *s, size_t n)
+{
+    memcpy(to, s, n);
+    return to + n;
+}
+
+/* All eleven bytes at once; what is written next covers those behind the CompID. */
+static uint8_t *put_comp_id(uint8_t *to, const uint8_t id[PLAIN_COMP_ID], size_t size)
+{
+    memcpy(to, id, PLAIN_COMP_ID);
+    return to + size;
+}
+
+/* A number of at most nine digits. */
+static uint8_t *put_number(uint8_t *to, uint64_t number)
+{
+    uint32_t rest = (uint32_t)number;
+    size_t width = 1;
+    for (uint32_t n = rest; n >= 10; n /= 10)
+        width++;
+    for (size_t i = width; i-- > 0; rest /= 10)
+        to[i] = (uint8_t)('0' + rest % 10);
+    return to + width;
+}
+
+/* Two digits. */
+static uint8_t *put_pair(uint8_t *to, uint32_t number)
+{
+    static const char pairs[] = "0001020304050607080910111213141516171819202122232425262728293031323334353637383940"
+        "414243444546474849505152535455565758596061626364656667686970717273747576777879808182838485868788899091929394"
+        "9596979899";
+    return put(to, (const uint8_t *)pairs + 2 * number, 2);
+}
+
+/* YYYYMMDD of a day since 1970. Years are counted from 1 March, so that the leap day is a year's last. */
+static uint8_t *put_date(uint8_t *to, uint32_t day)
+{
+    uint32_t since = day + 719468, era = since / 146097, of_era = since % 146097;
+    uint32_t year_of_era = (of_era - of_era / 1460 + of_era / 36524 - of_era / 146096) / 365;
+    uint32_t of_year = of_era - (365 * year_of_era + year_of_era / 4 - year_of_era / 100);
+    uint32_t from_march = (5 * of_year + 2) / 153;
+    uint32_t month = from_march < 10 ? from_march + 3 : from_march - 9;
+    uint32_t year = 400 * era + year_of_era + (month < 3);
+    to = put_pair(to, year / 100);
+    to = put_pair(to, year % 100);
+    to = put_pair(to, month);
+    return put_pair(to, of_year - (153 * from_march + 2) / 5 + 1);
+}
+
+/* YYYYMMDD-HH:MM:SS.ssssss */
+static uint8_t *put_time(uint8_t *to, uint64_t time)
+{
+    uint64_t seconds = time / 1000000;
+    uint32_t micros = (uint32_t)(time % 1000000), of_day = (uint32_t)(seconds % 86400);
+    to = put_date(to, (uint32_t)(seconds / 86400));
+    *to++ = '-';
+    to = put_pair(to, of_day / 3600);
+    *to++ = ':';
+    to = put_pair(to, of_day / 60 % 60);
+    *to++ = ':';
+    to = put_pair(to, of_day % 60);
+    *to++ = '.';
+    to = put_pair(to, micros / 10000);
+    to = put_pair(to, micros / 100 % 100);
+    return put_pair(to, micros % 100);
+}
+
+/* 35, 49, 56 and 34. */
+static uint8_t *put_ids(uint8_t *to, const struct call *call, char type, uint64_t number)
+{
+    const struct plain_session *session = call->session;
+    to = PUT(to, "35=");
+    *to++ = (uint8_t)type;
+    to = PUT(to, "\00149=");
+    to = put_comp_id(to, session->ours, session->ours_size);
+    to = PUT(to, "\00156=");
+    to = put_comp_id(to, session->peer, session->peer_size);
+    to = PUT(to, "\00134=");
+    return put_number(to, number);
+}
+
+/* The same, with the next number, and 52. */
+static uint8_t *put_header(uint8_t *to, struct call *call, char type)
+{
+    to = put_ids(to, call, type, call->session->next_out++);
+    to = PUT(to, "\00152=");
+    return put_time(to, call->time);
+}
+
+/* The frame around a body. */
+static void send_body(struct call *call, uint8_t *body, uint8_t *end)
+{
+    uint8_t *front = call->reply, *to = PUT(front, MARK);
+    *end++ = BAR;
+    to = put_number(to, (uint64_t)(end - body));
+    *to++ = BAR;
+    to = put(to, body, (size_t)(end - body));
+    uint8_t sum = plain_sum(front, (size_t)(to - front));
+    to = PUT(to, "10=");
+    *to++ = (uint8_t)('0' + sum / 100);
+    to = put_pair(to, sum % 100);
+    *to++ = BAR;
+    call->reply = to;
+    call->session->last_sent = call->time;
+}
+
+static void send_heartbeat(struct call *call, struct value id)
+{
+    uint8_t body[BODY_ROOM], *to = put_header(body, call, '0');
+    if (id.at) {
+        to = PUT(to, "\001112=");
+        to = put(to, id.at, id.size);
+    }
+    send_body(call, body, to);
+}
+
+static void send_resend_request(struct call *call)
+{
+    uint8_t body[BODY_ROOM], *to = put_header(body, call, '2');
+    to = PUT(to, "\0017=");
+    to = put_number(to, call->session->expected);
+    to = PUT(to, "\00116=0");
+    send_body(call, body, to);
+}
+
+static uint8_t *put_type(uint8_t *to, uint8_t type)
+{
+    to = PUT(to, "\001372=");
+    if (type == 'D')
+        *to++ = 'A';
+    *to++ = type;
+    return to;
+}
+
+static void send_reject(struct call *call, uint32_t reason, uint32_t tag)
+{
+    uint8_t body[BODY_ROOM], *to = put_header(body, call, '3');
+    to = PUT(to, "\00145=");
+    to = put_number(to, call->n);
+    if (tag) {
+        to = PUT(to, "\001371=");
+        to = put_number(to, tag);
+    }
+    if (call->type)
+        to = put_type(to, call->type);
+    to = PUT(to, "\001373=");
+    to = put_number(to, reason);
+    send_body(call, body, to);
+}
+
+/* A gap fill has the number of the first message that it stands for, not the next one. */
+static void send_gap_fill(struct call *call, uint64_t begin, uint64_t next)
+{
+    uint8_t body[BODY_ROOM], *to = put_ids(body, call, '4', begin);
+    to = PUT(to, "\00143=Y\00152=");
+    to = put_time(to, call->time);
+    to = PUT(to, "\001122=");
+    to = put_time(to, call->time);
+    to = PUT(to, "\001123=Y\00136=");
+    to = put_number(to, next);
+    send_body(call, body, to);
+}
+
+static void send_logout(struct call *call, uint64_t status)
+{
+    uint8_t body[BODY_ROOM], *to = put_header(body, call, '5');
+    to = PUT(to, "\0011409=");
+    to = put_number(to, status);
+    send_body(call, body, to);
+    call->session->status = CLOSED;
+}
+
+static void send_logon(struct call *call, int reset)
+{
+    uint8_t body[BODY_ROOM], *to = put_header(body, call, 'A');
+    to = PUT(to, "\00198=0\001108=");
+    to = put_number(to, call->session->heartbeat);
+    to = PUT(to, "\0011137=9");
+    if (reset)
+        to = PUT(to, "\001141=Y");
+    send_body(call, body, to);
+}
+
+/* ---- What a move reads ------------------------------------------------------------------------------------------- */
+
+#define FIRST(call, tag) first_field(call, tag "=", sizeof tag)
+
+/* The next `|`, for what is short: a body ends with one, and so does its length. */
+static const uint8_t *next_bar(const uint8_t *p)
+{
+    while (*p != BAR)
+        p++;
+    return p;
+}
+
+static struct value first_field(const struct call *call, const char *front, size_t size)
+{
+    const uint8_t *bar;
+    for (const uint8_t *p = call->body; p < call->end; p = bar + 1) {
+        bar = memchr(p, BAR, (size_t)(call->end - p));
+        if (*p == (uint8_t)*front && (size_t)(bar - p) >= size && memcmp(p, front, size) == 0)
+            return (struct value){ p + size, (size_t)(bar - p) - size };
+    }
+    return (struct value){ 0, 0 };
+}
+
+static int is_it(struct value value, const uint8_t *s, size_t n)
+{
+    return value.size == n && memcmp(value.at, s, n) == 0;
+}
+
+static int is_yes(struct value value)
+{
+    return value.size == 1 && *value.at == 'Y';
+}
+
+/* A number of 1 to 9 digits without leading zero; 0 for anything else. */
+static uint64_t number(struct value value)
+{
+    uint64_t total = 0;
+    if (value.size == 0 || value.size > MOST_DIGITS || *value.at == '0')
+        return 0;
+    for (size_t i = 0; i < value.size; i++) {
+        uint8_t digit = (uint8_t)(value.at[i] - '0');
+        if (digit > 9)
+            return 0;
+        total = 10 * total + digit;
+    }
+    return total;
+}
+
+/* Where the pass over the header keeps the field at p, if it does. */
+static struct value *place_of(struct call *call, const uint8_t *p)
+{
+    if (p[2] != '=')
+        return 0;
+    switch (p[0] << 8 | p[1]) {
+    case '3' << 8 | '4': return &call->number;
+    case '4' << 8 | '9': return &call->sender;
+    case '5' << 8 | '6': return &call->target;
+    default: return 0;
+    }
+}
+
+/* One pass up to the last of the first fields 34, 49 and 56. Behind the body stands the trailer, so three bytes can be
+   looked at everywhere. */
+static void read_header(struct call *call)
+{
+    const uint8_t *bar;
+    int missing = 3;
+    for (const uint8_t *p = call->body; p < call->end && missing; p = bar + 1) {
+        struct value *place = place_of(call, p);
+        bar = next_bar(p);
+        if (place && !place->at) {
+            *place = (struct value){ p + 3, (size_t)(bar - p) - 3 };
+            missing--;
+        }
+    }
+    call->n = number(call->number);
+}
+
+static uint8_t type_at(const uint8_t *type)
+{
+    if (type[1] == BAR)
+        return (type[0] >= '0' && type[0] <= '5') || type[0] == 'A' || type[0] == 'F' ? type[0] : 0;
+    return type[0] == 'A' && type[1] == 'D' && type[2] == BAR ? 'D' : 0;
+}
+
+/* The CompID's tag that is missing or not as it should be, or 0. */
+static uint32_t wrong_comp_id(const struct call *call)
+{
+    const struct plain_session *session = call->session;
+    if (!is_it(call->sender, session->peer, session->peer_size))
+        return 49;
+    return is_it(call->target, session->ours, session->ours_size) ? 0 : 56;
+}
+
+static uint32_t verdict(const struct call *call)
+{
+    return plain_verdict(call->body, (size_t)(call->end - call->body));
+}
+
+/* ---- Waiting ----------------------------------------------------------------------------------------------------- */
+
+static uint32_t closed(struct plain_session *session, uint32_t refusal)
+{
+    session->status = CLOSED;
+    return refusal;
+}
+
+static void accept_logon(struct call *call, int reset)
+{
+    call->session->status = ACTIVE;
+    call->session->heartbeat = number(FIRST(call, "108"));
+    send_logon(call, reset);
+}
+
+static void logon_with_reset(struct call *call)
+{
+    if (call->n != 1) {
+        send_logout(call, ENDED_BY_GATEWAY);
+        return;
+    }
+    call->session->next_out = 1;
+    call->session->expected = 2;
+    accept_logon(call, 1);
+}
+
+static void logon(struct call *call)
+{
+    uint64_t expected = call->session->expected;
+    if (call->n < expected) {
+        send_logout(call, ENDED_BY_GATEWAY);
+        return;
+    }
+    accept_logon(call, 0);
+    if (call->n == expected)
+        call->session->expected++;
+    else
+        send_resend_request(call);
+}
+
+static uint32_t waiting(struct call *call)
+{
+    if (call->type != 'A')
+        return closed(call->session, NOT_A_LOGON);
+    if (call->n == 0 || wrong_comp_id(call) || verdict(call))
+        return closed(call->session, BAD_LOGON);
+    if (is_yes(FIRST(call, "141")))
+        logon_with_reset(call);
+    else
+        logon(call);
+    return 0;
+}
+
+/* ---- Active ------------------------------------------------------------------------------------------------------ */
+
+/* What plain_verdict found. */
+static void reject_found(struct call *call, uint32_t found)
+{
+    send_reject(call, found % 256 - 2, found / 256);
+}
+
+static void reject_comp_id(struct call *call, uint32_t tag)
+{
+    if (call->n == call->session->expected)
+        call->session->expected++;
+    send_reject(call, BAD_COMP_ID, tag);
+    send_logout(call, ENDED_BY_GATEWAY);
+}
+
+static void bare_reset(struct call *call)
+{
+    uint32_t found = verdict(call);
+    if (found) {
+        reject_found(call, found);
+        return;
+    }
+    uint64_t next = number(FIRST(call, "36"));
+    if (next < call->session->expected)
+        send_reject(call, BAD_VALUE, 36);
+    else
+        call->session->expected = next;
+}
+
+/* Serves a clean Resend Request: the tag for which it is rejected, or 0. */
+static uint32_t serve(struct call *call)
+{
+    uint64_t last = call->session->next_out - 1, begin = number(FIRST(call, "7")), end = number(FIRST(call, "16"));
+    if (begin > last)
+        return 7;
+    if (0 < end && end < begin)
+        return 16;
+    send_gap_fill(call, begin, (end == 0 || end > last ? last : end) + 1);
+    return 0;
+}
+
+static void too_high(struct call *call)
+{
+    if (call->type == '2' && !verdict(call))
+        serve(call);
+    send_resend_request(call);
+}
+
+static void too_low(struct call *call)
+{
+    if (!is_yes(FIRST(call, "43")))
+        send_logout(call, ENDED_BY_GATEWAY);
+    else if (!FIRST(call, "122").at)
+        send_reject(call, REQUIRED_MISSING, 122);
+}
+
+static void fill_gap(struct call *call)
+{
+    uint64_t next = number(FIRST(call, "36"));
+    if (next > call->n)
+        call->session->expected = next;
+    else
+        send_reject(call, BAD_VALUE, 36);
+}
+
+static void resend(struct call *call)
+{
+    uint32_t tag = serve(call);
+    if (tag)
+        send_reject(call, BAD_VALUE, tag);
+}
+
+static void in_turn(struct call *call)
+{
+    uint32_t found = verdict(call);
+    call->session->expected++;
+    if (found) {
+        reject_found(call, found);
+        return;
+    }
+    switch (call->type) {
+    case '1': send_heartbeat(call, FIRST(call, "112")); break;
+    case '2': resend(call); break;
+    case '4': fill_gap(call); break;
+    case '5': send_logout(call, LOGOUT_COMPLETE); break;
+    case 'A': send_reject(call, OTHER, 35); break;
+    case 'D': case 'F': call->delivered = 1; break;
+    }
+}
+
+/* The first rule that fits. */
+static void active(struct call *call)
+{
+    uint64_t expected = call->session->expected;
+    if (call->n == 0) {
+        send_logout(call, ENDED_BY_GATEWAY);
+        return;
+    }
+    uint32_t tag = wrong_comp_id(call);
+    if (tag)
+        reject_comp_id(call, tag);
+    else if (call->type == '4' && !is_yes(FIRST(call, "123")))
+        bare_reset(call);
+    else if (call->n > expected)
+        too_high(call);
+    else if (call->n < expected)
+        too_low(call);
+    else
+        in_turn(call);
+}
+
+/* ---- The calls --------------------------------------------------------------------------------------------------- */
+
+static int is_comp_id(const uint8_t *id, uint64_t size)
+{
+    if (size < 1 || size > PLAIN_COMP_ID)
+        return 0;
+    for (size_t i = 0; i < size; i++)
+        if (id[i] == BAR)
+            return 0;
+    return 1;
+}
+
+static int is_numbered(uint64_t number)
+{
+    return number >= 1 && number <= 999999999;
+}
+
+static int in_range(const struct plain_session *session)
+{
+    return is_comp_id(session->ours, session->ours_size) && is_comp_id(session->peer, session->peer_size)
+        && session->status <= CLOSED && is_numbered(session->expected) && is_numbered(session->next_out)
+        && session->heartbeat >= 1 && session->heartbeat <= 60;
+}
+
+static int is_used_up(const struct plain_session *session)
+{
+    return session->expected > LAST_USABLE || session->next_out > LAST_USABLE;
+}
+
+static int is_one_frame(const uint8_t *frame, size_t len)
+{
+    size_t skip;
+    return len > 0 && plain_read(frame, len, &skip) == len;
+}
+
+static uint32_t refusal_of_step(const struct plain_session *session, const uint8_t *frame, size_t len, uint64_t time,
+                                size_t room)
+{
+    if (!in_range(session))
+        return BAD_RECORD;
+    if (!is_one_frame(frame, len))
+        return NOT_A_FRAME;
+    if (time >= END_OF_TIME)
+        return PAST_TIME;
+    if (room < LEAST_ROOM)
+        return NO_ROOM;
+    if (session->status == CLOSED)
+        return IS_CLOSED;
+    return is_used_up(session) ? USED_UP : 0;
+}
+
+uint32_t plain_step(struct plain_session *session, const uint8_t *frame, size_t len, uint64_t time, uint8_t *buf,
+                    size_t room, uint64_t out[2])
+{
+    uint32_t refusal = refusal_of_step(session, frame, len, time, room);
+    out[0] = 0;
+    out[1] = 0;
+    if (refusal)
+        return refusal == USED_UP ? closed(session, refusal) : refusal;
+    struct call call = { .session = session, .time = time, .reply = buf };
+    call.body = next_bar(frame + MARK_SIZE) + 1;
+    call.end = frame + len - TRAILER_SIZE;
+    call.type = type_at(call.body + 3);
+    read_header(&call);
+    if (session->status == WAITING)
+        refusal = waiting(&call);
+    else
+        active(&call);
+    out[0] = (uint64_t)call.delivered;
+    out[1] = (uint64_t)(call.reply - buf);
+    return refusal;
+}
+
+uint32_t plain_tick(struct plain_session *session, uint64_t time, uint8_t *buf, size_t room, uint64_t out[1])
+{
+    out[0] = 0;
+    if (!in_range(session))
+        return BAD_RECORD;
+    if (time >= END_OF_TIME)
+        return PAST_TIME;
+    if (room < LEAST_ROOM)
+        return NO_ROOM;
+    if (session->status != ACTIVE)
+        return 0;
+    if (is_used_up(session))
+        return closed(session, USED_UP);
+    if (time < session->last_sent || time - session->last_sent < 1000000 * session->heartbeat)
+        return 0;
+    struct call call = { .session = session, .time = time, .reply = buf };
+    send_heartbeat(&call, (struct value){ 0, 0 });
+    out[0] = (uint64_t)(call.reply - buf);
+    return 0;
+}
