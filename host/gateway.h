@@ -249,7 +249,7 @@ enum fixgw_word {
 enum {
     FIXGW_COMP_ID = 11,                     /* bytes of a CompID's place; those behind its length mean nothing */
     FIXGW_LEAST_REPLY_ROOM = 512,
-    FIXGW_LONGEST_REPLY = 269
+    FIXGW_LONGEST_REPLY = 269               /* by count, a gap fill and a Resend Request; that 512 suffice is proved */
 };
 
 #define FIXGW_END_OF_TIME 253402300800000000u   /* the first microsecond of the year 10000 */
