@@ -1,6 +1,5 @@
 -- Months: the month and its day that one division finds, by one computed test over the days of a leap year and of another.
-use Prim.Native.Nat.{ℕ, zero, suc, _+_, _-_, _*_, _/_, _≤_, _<_}
-use native.Mathlib.Nat.{le-of-suc-le-suc, not-suc-le-zero}
+use Prim.Native.Nat.{ℕ, _+_, _-_, _*_, _/_, _≤_, _<_}
 use native.Mathlib.Omega.{arith}
 use mathlib.Core.Path.{_≡_, refl, sym, ap₂, subst}
 use mathlib.Core.List.{[], _∷_}
@@ -8,21 +7,11 @@ use mathlib.Core.Bool.{Bool, true, false, cond, _&&_}
 use lib.Dec.{eqb, leb}
 use lib.ListN.{getD}
 use borrow.Author.Tests.{eqb-true, leb-true}
-use Rattle.frame.proofs.Numerals.{both}
+use Rattle.frame.proofs.Tests.{both, allBelow, at-below}
 use Rattle.kinds.specs.Kind.{leap, days}
 use Rattle.calendar.specs.Time.{counted, yearDays, inYear}
 use Rattle.calendar.specs.Walk.{evened}
 use Rattle.calendar.proofs.Years.{year-days}
-
--- a test passes at each number below n
-abbrev allBelow : ℕ → (ℕ → Bool) → Bool
-allBelow zero f = true
-allBelow (suc n) f = f zero && allBelow n (λ k. f (suc k))
-
-at-below : (n : ℕ) (f : ℕ → Bool) → allBelow n f ≡ true → (k : ℕ) → k < n → f k ≡ true
-at-below zero f t k h = absurd (not-suc-le-zero h)
-at-below (suc n) f t zero h = both (f zero) (allBelow n (λ j. f (suc j))) t .0
-at-below (suc n) f t (suc k) h = at-below n (λ j. f (suc j)) (both (f zero) (allBelow n (λ j. f (suc j))) t .1) k (le-of-suc-le-suc h)
 
 -- the month, from 0 on, and the day of the month, of the evened day e
 abbrev pub monthAt : ℕ → ℕ

@@ -11,7 +11,8 @@ use lib.Seq.{drop-drop}
 use borrow.Author.Tests.{eqb-true}
 use Rattle.frame.specs.Bytes.{Bytes, fix, all, digit, within, value}
 use Rattle.frame.proofs.Numerals.{within-is}
-use Rattle.frame.proofs.Numerals.{both, value-below}
+use Rattle.frame.proofs.Tests.{both}
+use Rattle.frame.proofs.Numerals.{value-below}
 use Rattle.kinds.specs.Kind.{time, like, allowed, goodDay, goodClock, days, number-at}
 use Rattle.kinds.proofs.Shapes.{like-append, like-letters}
 use Rattle.calendar.specs.declared.days.Date.{Date}

@@ -1,18 +1,18 @@
 -- What a clean verdict says: the first field of a tag of the dictionary is of its kind, and each required tag is there.
 use Prim.Native.Nat.{ℕ, _≤_}
 use native.Mathlib.Omega.{arith}
-use borrow.Author.Tests.{eqb-true, leb-true}
+use borrow.Author.Tests.{eqb-true}
 use mathlib.Core.Path.{_≡_, refl, ap, sym, _∙_}
 use mathlib.Core.List.{List, [], _∷_, _++_}
 use mathlib.Core.Bool.{Bool, true, false, cond, not, _&&_, _||_, false≢true}
 use mathlib.Core.Option.{Option, none, some}
 use mathlib.Core.Logic.{_⊎_, inl, inr}
-use lib.Dec.{eqb, leb}
+use lib.Dec.{eqb}
 use lib.ListN.{length, drop}
 use Rattle.frame.specs.Bytes.{Bytes, any, has, starts, within, value}
 use Rattle.fields.specs.Field.{Part, field, malformed, partOf, parts, firstOfParts, firstField, isBody}
 use Rattle.fields.proofs.Firsts.{tagged, starts-append, tag-part, part-split}
-use Rattle.kinds.specs.Kind.{number_to_, isNumber, formed, allowed}
+use Rattle.kinds.specs.Kind.{formed, allowed}
 use Rattle.dictionary.specs.Dictionary.{Row, header, fields, kindIn, rowsOf, inDictionary}
 use Rattle.dictionary.specs.Verdict.{Open, Place, outside, inside, Past, _when_, firstOf, missing, closing, left, rule9, rule10, said, skipped, taken, after, verdictBy, walk, nothingYet, msgType, judgedAs, verdict}
 use Rattle.dictionary.specs.declared.MsgType.{MsgType}
@@ -20,7 +20,7 @@ use Rattle.dictionary.specs.declared.Says.{Says}
 use Rattle.dictionary.specs.declared.Says.the-variants.{Nothing, Reason}
 use Rattle.dictionary.specs.declared.Verdict.{Verdict}
 use Rattle.dictionary.specs.declared.Verdict.the-variants.{Clean, NoBody}
-use Rattle.dictionary.proofs.Lists.{and-left, and-right}
+use Rattle.frame.proofs.Numerals.{within-is}
 use Rattle.dictionary.proofs.Turns.{Silent, silent, silent-at}
 
 -- a field of a tag is a part that begins with the tag and `=`
@@ -68,12 +68,6 @@ none-missing (x ∷ rows) met t r h = go (x .required) (eqb (x .tag) t) (has met
     go true true true p s k e ih = ap (has met) (sym (eqb-true (x .tag) t p)) ∙ s
     go true false true p s k e ih = ih k e
     go false b c p s k e ih = ih k e
-
-within-low : (t : ℕ) → within 1 99_999 t ≡ true → 1 ≤ t
-within-low t h = leb-true 1 t (and-left (leb 1 t) (leb t 99_999) h)
-
-within-high : (t : ℕ) → within 1 99_999 t ≡ true → t ≤ 99_999
-within-high t h = leb-true t 99_999 (and-right (leb 1 t) (leb t 99_999) h)
 
 none-some : (v : Bytes) → _≡_ {A = Option Bytes} none (some v) → ⊥
 none-some v e = let z : _≡_ {A = ℕ} 0 1 = cc in omega arith
@@ -163,19 +157,14 @@ clean-type body h = go (isBody body) (msgType body) h
 pub clean-kind : (m : MsgType) (t : ℕ) (body v : Bytes) → verdict body ≡ Clean → msgType body ≡ some m → within 1 99_999 t ≡ true → inDictionary t ≡ true
     → firstField t body ≡ some v → OfKind m t v
 unfolding firstField
-clean-kind m t body v h y n k e = walk-kind m t (within-low t n) (within-high t n) (parts body) nothingYet v k (clean-walk m body h y) e
+clean-kind m t body v h y n k e = walk-kind m t (within-is 1 99_999 t n .0) (within-is 1 99_999 t n .1) (parts body) nothingYet v k (clean-walk m body h y) e
 
 -- EACH REQUIRED TAG OF THE HEADER AND OF THE MESSAGE IS THERE
 pub clean-required : (m : MsgType) (t : ℕ) (body : Bytes) → verdict body ≡ Clean → msgType body ≡ some m → within 1 99_999 t ≡ true → required (header ++ fields m) t ≡ true
     → (v : Bytes) × (firstField t body ≡ some v)
 unfolding firstField Found
-clean-required m t body h y n r = go (walk-required m t (within-low t n) (within-high t n) (parts body) nothingYet r (clean-walk m body h y))
+clean-required m t body h y n r = go (walk-required m t (within-is 1 99_999 t n .0) (within-is 1 99_999 t n .1) (parts body) nothingYet r (clean-walk m body h y))
   where
-    go : (_≡_ {A = Bool} false true) ⊎ Found m t (within-low t n) (within-high t n) (parts body) → (v : Bytes) × (firstOfParts (tagged t) (parts body) ≡ some v)
+    go : (_≡_ {A = Bool} false true) ⊎ Found m t (within-is 1 99_999 t n .0) (within-is 1 99_999 t n .1) (parts body) → (v : Bytes) × (firstOfParts (tagged t) (parts body) ≡ some v)
     go (inl x) = absurd (false≢true x)
     go (inr f) = f
-
--- a number that a move reads is one, and in its range
-pub number-kind : (m : MsgType) (t : ℕ) (v : Bytes) (a b : ℕ) → kindIn (rowsOf m) t ≡ number a to b → OfKind m t v → (isNumber v ≡ true) × (within a b (value v) ≡ true)
-unfolding formed allowed
-number-kind m t v a b e K = (rw e at (K .form), rw e at (K .value))

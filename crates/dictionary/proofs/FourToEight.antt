@@ -3,7 +3,7 @@ use Prim.Native.Nat.{ℕ, _<_}
 use borrow.Author.Tests.{eq-eqb, ne-eqb, not-true, not-false}
 use mathlib.Core.Path.{_≡_, refl, ap, sym, _∙_}
 use mathlib.Core.List.{List, _++_}
-use mathlib.Core.Bool.{Bool, true, false, not, _||_, false≢true}
+use mathlib.Core.Bool.{Bool, true, false, not, _||_, false≢true, or-true}
 use lib.Dec.{eqb}
 use lib.ListN.{length, getD}
 use Rattle.frame.specs.Bytes.{Bytes, has}
@@ -15,7 +15,7 @@ use Rattle.dictionary.specs.declared.MsgType.{MsgType}
 use Rattle.dictionary.specs.declared.Says.the-variants.{Nothing, Reason}
 use Rattle.dictionary.specs.declared.rules.State.{State}
 use Rattle.dictionary.specs.declared.table.Entry.{Entry}
-use Rattle.dictionary.proofs.Lists.{and-right, any-append}
+use Rattle.frame.proofs.Tests.{both, any-append}
 use Rattle.dictionary.proofs.Groups.{counted}
 
 -- rule 4
@@ -50,10 +50,6 @@ module _ {m : MsgType} {e : Entry} {seen b : Bool} (R : Right e) (p : b ≡ bitO
 pub listed-rows : (m : MsgType) (t : ℕ) → listed (rowsOf m) t ≡ (listed (header ++ fields m) t || member m t)
 unfolding rowsOf member
 listed-rows m t = any-append (λ (r : Row). eqb (r .tag) t) (header ++ fields m) (allMembers (groupsOf m))
-
-or-true : (a : Bool) → (a || true) ≡ true
-or-true true = refl
-or-true false = refl
 
 module _ (m : MsgType) {e : Entry} {b : Bool} (R : Right e) (p : b ≡ bitOf (e .marks) (index m)) where
   pub rule6-outside : b ≡ true → Nothing ≡ rule6 m (e .tag)
@@ -97,7 +93,7 @@ module _ {e : Entry} {met : List Bool} {st : State} (R : Right e) where
   unfolding left
   left-within i outside v (away z) = absurd (false≢true (rw (eq-eqb (st .group) 0 z) at i))
   left-within i (inside g) v (within I) =
-      let h : eqb (g .group .counter) (e .member .group) ≡ true = rw (I .counter) at (and-right (not (eqb (st .group) 0)) (eqb (st .group) (e .member .group)) i) in
+      let h : eqb (g .group .counter) (e .member .group) ≡ true = rw (I .counter) at (both (not (eqb (st .group) 0)) (eqb (st .group) (e .member .group)) i .1) in
       (g, (refl, I, rw (sym (R .member-of (g .group) (I .two)), h), h))
 
 -- rule 8

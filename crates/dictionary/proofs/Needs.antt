@@ -18,7 +18,8 @@ use Rattle.dictionary.specs.declared.Says.{Says}
 use Rattle.dictionary.specs.declared.Says.the-variants.{Nothing, Reason}
 use Rattle.dictionary.specs.declared.table.Rows.{Rows}
 use Rattle.dictionary.specs.declared.table.Rows.the-variants.{Header, Own, Members}
-use Rattle.dictionary.proofs.Lists.{all-at, all-nine}
+use Rattle.dictionary.proofs.Lists.{all-nine}
+use Rattle.frame.proofs.Tests.{all-at}
 
 -- the first of some tags that was not met
 abbrev pub lacking : List ℕ → List ℕ → Says

@@ -19,7 +19,7 @@ use Rattle.dictionary.specs.declared.MsgType.{MsgType}
 use Rattle.dictionary.specs.declared.Says.the-variants.{Nothing, Reason}
 use Rattle.dictionary.specs.declared.rules.State.{State}
 use Rattle.dictionary.specs.declared.table.Entry.{Entry}
-use Rattle.dictionary.proofs.Lists.{any-append}
+use Rattle.frame.proofs.Tests.{any-append}
 use Rattle.dictionary.proofs.FourToEight.{listed-rows}
 
 -- the header

@@ -1,7 +1,7 @@
 -- The places of the table: each tag of the dictionary has one, with its entry and its mark.
 use Prim.Native.Nat.{ℕ, zero, suc, _+_, _<_}
 use native.Mathlib.Omega.{arith}
-use borrow.Author.Tests.{eqb-true, ne-eqb}
+use borrow.Author.Tests.{eqb-true}
 use mathlib.Core.Path.{_≡_, refl, ap, sym, _∙_, subst}
 use mathlib.Core.List.{List, [], _∷_, _++_, map}
 use mathlib.Core.Bool.{Bool, true, false, cond, not, _&&_, _||_, false≢true}
@@ -16,7 +16,8 @@ use Rattle.dictionary.specs.Held.{tags, tagAt, Placed, index, bitOf, wri
 use Rattle.dictionary.specs.declared.MsgType.{MsgType}
 use Rattle.dictionary.specs.declared.table.Entry.{Entry}
 use Rattle.dictionary.specs.declared.table.Line.{Line}
-use Rattle.dictionary.proofs.Lists.{and-left, and-right, agree-true, all-at, all-nine, map-at, has-next}
+use Rattle.dictionary.proofs.Lists.{agree-true, all-nine}
+use Rattle.frame.proofs.Tests.{both, all-at, map-at, has-next}
 
 pub tags-long : length tags ≡ 44
 unfolding tags
@@ -24,7 +25,7 @@ tags-long = refl
 
 pub entry-tag : (t : List Line) (d : Line) (i : ℕ) → Table t → i < 44 → getD t i d .0 ≡ tagAt i
 entry-tag t d i T h =
-    let e : length (map (λ (x : Line). x .0) t) ≡ 44 = ap length (T .order) ∙ tags-long in
+    let e : length t ≡ 44 = sym (length-map t (λ (x : Line). x .0)) ∙ ap length (T .order) ∙ tags-long in
     sym (map-at (λ (x : Line). x .0) d 0 t i (omega arith)) ∙ ap (λ (l : List ℕ). getD l i 0) (T .order)
 
 -- the search for a tag, at a place and past it
@@ -33,7 +34,7 @@ place-here t d i x T h e = record { within = omega arith; there = λ k. sym (ent
 
 pub place-next : (t : List Line) (d : Line) (i x : ℕ) → Table t → i < 44 → (getD t i d .0 ≡ x → ⊥) → has (drop i tags) x ≡ has (drop (i + 1) tags) x
 place-next t d i x T h n =
-    has-next tags i x (omega (arith, tags-long)) (ne-eqb (tagAt i) x (λ e. n (entry-tag t d i T h ∙ e)))
+    has-next tags i x (omega (arith, tags-long)) (λ e. n (entry-tag t d i T h ∙ e))
 
 pub place-none : (i x : ℕ) → i ≡ 44 → has tags x ≡ has (drop i tags) x → Placed x i
 unfolding tags
@@ -51,8 +52,8 @@ inPlace i (x ∷ l) = eqb (placeIn tags x) i && inPlace (1 + i) l
 in-place-at : (i : ℕ) (l : List ℕ) → inPlace i l ≡ true → (k : ℕ) → k < length l → placeIn tags (getD l k 0) ≡ i + k
 unfolding inPlace
 in-place-at i [] h k n = absurd (omega arith)
-in-place-at i (x ∷ l) h zero n = eqb-true (placeIn tags x) i (and-left (eqb (placeIn tags x) i) _ h) ∙ omega arith
-in-place-at i (x ∷ l) h (suc k) n = in-place-at (1 + i) l (and-right (eqb (placeIn tags x) i) _ h) k (omega arith) ∙ omega arith
+in-place-at i (x ∷ l) h zero n = eqb-true (placeIn tags x) i (both (eqb (placeIn tags x) i) _ h .0) ∙ omega arith
+in-place-at i (x ∷ l) h (suc k) n = in-place-at (1 + i) l (both (eqb (placeIn tags x) i) _ h .1) k (omega arith) ∙ omega arith
 
 in-place : inPlace 0 tags ≡ true
 unfolding inPlace placeIn tags
@@ -88,7 +89,7 @@ sameAll-true : (k l : List Bytes) → sameAll k l ≡ true → k ≡ l
 sameAll-true [] [] h = refl
 sameAll-true [] (w ∷ l) h = absurd (false≢true h)
 sameAll-true (u ∷ k) [] h = absurd (false≢true h)
-sameAll-true (u ∷ k) (w ∷ l) h = rw (same-true u w (and-left (same u w) (sameAll k l) h), sameAll-true k l (and-right (same u w) (sameAll k l) h))
+sameAll-true (u ∷ k) (w ∷ l) h = rw (same-true u w (both (same u w) (sameAll k l) h .0), sameAll-true k l (both (same u w) (sameAll k l) h .1))
 
 same-kind : (k l : Kind) → sameAll (written k) (written l) ≡ true → k ≡ l
 same-kind k l h = sym (from-written k) ∙ ap kindFrom (sameAll-true (written k) (written l) h) ∙ from-written l
@@ -99,31 +100,31 @@ or-not false b h e = absurd (false≢true e)
 
 in-message : (e : Entry) → right e ≡ true → (m : MsgType) → rightIn e m ≡ true
 unfolding right
-in-message e h = all-nine (rightIn e) (and-left (all (rightIn e) theNine) _ h)
+in-message e h = all-nine (rightIn e) (both (all (rightIn e) theNine) _ h .0)
 
 in-groups : (e : Entry) → right e ≡ true → (g : Group) → Two g → rightOf e g ≡ true
 unfolding right
-in-groups e h g (inl x) = rw x (and-left (rightOf e №453) _ (and-left (all (rightOf e) groups) _ (and-right (all (rightIn e) theNine) _ h)))
-in-groups e h g (inr x) = rw x (and-left (rightOf e №580) _ (and-right (rightOf e №453) _ (and-left (all (rightOf e) groups) _ (and-right (all (rightIn e) theNine) _ h))))
+in-groups e h g (inl x) = rw x (both (rightOf e №453) _ (both (all (rightOf e) groups) _ (both (all (rightIn e) theNine) _ h .1) .0) .0)
+in-groups e h g (inr x) = rw x (both (rightOf e №580) _ (both (rightOf e №453) _ (both (all (rightOf e) groups) _ (both (all (rightIn e) theNine) _ h .1) .0) .1) .0)
 
 right-is : (e : Entry) → right e ≡ true → Right e
 unfolding right rightIn rightOf
 right-is e h =
     let i = in-message e h in
     let g = in-groups e h in
-    let h2 = and-right (all (rightOf e) groups) _ (and-right (all (rightIn e) theNine) _ h) in
-    let h3 = and-right (agree (bitOf (e .marks) 9) (listed header (e .tag))) _ h2 in
-    let h4 = and-right (agree (bitOf (e .marks) 10) (frameTag (e .tag))) _ h3 in
+    let h2 = both (all (rightOf e) groups) _ (both (all (rightIn e) theNine) _ h .1) .1 in
+    let h3 = both (agree (bitOf (e .marks) 9) (listed header (e .tag))) _ h2 .1 in
+    let h4 = both (agree (bitOf (e .marks) 10) (frameTag (e .tag))) _ h3 .1 in
     record {
-      outside-in = λ m. agree-true _ _ (and-left (agree (bitOf (e .marks) (index m)) (listed (header ++ fields m) (e .tag))) _ (i m));
-      member-in = λ m. agree-true _ _ (and-left (agree (bitOf (e .member .marks) (index m)) (member m (e .tag))) _ (and-right (agree (bitOf (e .marks) (index m)) (listed (header ++ fields m) (e .tag))) _ (i m)));
-      kind-in = λ m l. same-kind _ _ (or-not (listed (rowsOf m) (e .tag)) _ (and-right (agree (bitOf (e .member .marks) (index m)) (member m (e .tag))) _ (and-right (agree (bitOf (e .marks) (index m)) (listed (header ++ fields m) (e .tag))) _ (i m))) l);
-      member-of = λ x y. agree-true _ _ (and-left (agree (eqb (x .counter) (e .member .group)) (listed (x .members) (e .tag))) _ (g x y));
-      first-of = λ x y. agree-true _ _ (and-right (agree (eqb (x .counter) (e .member .group)) (listed (x .members) (e .tag))) _ (g x y));
-      in-header = agree-true _ _ (and-left (agree (bitOf (e .marks) 9) (listed header (e .tag))) _ h2);
-      in-frame = agree-true _ _ (and-left (agree (bitOf (e .marks) 10) (frameTag (e .tag))) _ h3);
-      counts = agree-true _ _ (and-left (agree (bitOf (e .marks) 11) (any (λ x. eqb (x .counter) (e .tag)) groups)) _ h4);
-      counts-number = λ b. or-not (bitOf (e .marks) 11) _ (and-right (agree (bitOf (e .marks) 11) (any (λ x. eqb (x .counter) (e .tag)) groups)) _ h4) b;
+      outside-in = λ m. agree-true _ _ (both (agree (bitOf (e .marks) (index m)) (listed (header ++ fields m) (e .tag))) _ (i m) .0);
+      member-in = λ m. agree-true _ _ (both (agree (bitOf (e .member .marks) (index m)) (member m (e .tag))) _ (both (agree (bitOf (e .marks) (index m)) (listed (header ++ fields m) (e .tag))) _ (i m) .1) .0);
+      kind-in = λ m l. same-kind _ _ (or-not (listed (rowsOf m) (e .tag)) _ (both (agree (bitOf (e .member .marks) (index m)) (member m (e .tag))) _ (both (agree (bitOf (e .marks) (index m)) (listed (header ++ fields m) (e .tag))) _ (i m) .1) .1) l);
+      member-of = λ x y. agree-true _ _ (both (agree (eqb (x .counter) (e .member .group)) (listed (x .members) (e .tag))) _ (g x y) .0);
+      first-of = λ x y. agree-true _ _ (both (agree (eqb (x .counter) (e .member .group)) (listed (x .members) (e .tag))) _ (g x y) .1);
+      in-header = agree-true _ _ (both (agree (bitOf (e .marks) 9) (listed header (e .tag))) _ h2 .0);
+      in-frame = agree-true _ _ (both (agree (bitOf (e .marks) 10) (frameTag (e .tag))) _ h3 .0);
+      counts = agree-true _ _ (both (agree (bitOf (e .marks) 11) (any (λ x. eqb (x .counter) (e .tag)) groups)) _ h4 .0);
+      counts-number = λ b. or-not (bitOf (e .marks) 11) _ (both (agree (bitOf (e .marks) 11) (any (λ x. eqb (x .counter) (e .tag)) groups)) _ h4 .1) b;
     }
 
 module _ {t : List Line} (d : Line) {x p : ℕ} (T : Table t) (P : Placed x p) (n : p ≡ 44 → ⊥) where

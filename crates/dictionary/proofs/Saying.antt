@@ -4,16 +4,16 @@ use native.Mathlib.Omega.{arith}
 use borrow.Author.Tests.{ne-eqb}
 use mathlib.Core.Path.{_≡_, refl, ap, sym, _∙_}
 use mathlib.Core.List.{List, [], _∷_}
-use mathlib.Core.Bool.{Bool, true, false, cond, not, _&&_, _||_, false≢true}
+use mathlib.Core.Bool.{Bool, true, false, cond, not, _&&_, false≢true}
 use mathlib.Core.Logic.{inl, inr}
 use lib.Dec.{eqb, ltb}
-use lib.ListN.{length, getD}
+use lib.ListN.{getD}
 use Rattle.frame.specs.Bytes.{Bytes, any, all, has}
 use Rattle.fields.specs.Field.{field, malformed}
 use Rattle.kinds.specs.Kind.{Kind, formed, allowed}
 use Rattle.kinds.specs.Judged.{meaning, judged}
 use Rattle.dictionary.specs.Dictionary.{Row, Group, №453, №580, theNine, header, fields, code35, listed, kindIn, groupsOf, member, rowsOf, inDictionary, administrative}
-use Rattle.dictionary.specs.Verdict.{Place, outside, inside, Past, _when_, firstOf, ends, firstMember, rule1, rule2, rule3, rule4, rule5, rule6, rule7, rule8, rule9, rule10, left, skipped, rules4to10, said}
+use Rattle.dictionary.specs.Verdict.{Place, outside, inside, Past, _when_, firstOf, firstMember, rule1, rule2, rule3, rule4, rule5, rule6, rule7, rule8, rule9, rule10, left, skipped, rules4to10, said}
 use Rattle.dictionary.specs.Held.{tags, tagAt, index, Two, Right, Looked, Belongs, Marked, Stood, away, within, Rules9and10}
 use Rattle.dictionary.specs.declared.MsgType.{MsgType}
 use Rattle.dictionary.specs.declared.MsgType.the-variants.{Heartbeat, TestRequest, ResendRequest, Reject, SequenceReset, Logout, Logon, OrderCancelRequest, TradeCaptureReportRequest}
@@ -21,7 +21,7 @@ use Rattle.dictionary.specs.declared.Says.{Says}
 use Rattle.dictionary.specs.declared.Says.the-variants.{Nothing, Reason}
 use Rattle.dictionary.specs.declared.rules.State.{State}
 use Rattle.dictionary.specs.declared.table.Entry.{Entry}
-use Rattle.dictionary.proofs.Lists.{and-left, and-right, all-at}
+use Rattle.frame.proofs.Tests.{both, neither, all-at}
 use Rattle.dictionary.proofs.Places.{tags-long}
 use Rattle.dictionary.proofs.Groups.{counted}
 
@@ -34,10 +34,6 @@ stops {r} p e = record { is = rw (sym p ∙ e) e }
 
 pub passes : {r x y : Says} {l : List Says} → r ≡ x → r ≡ Nothing → First l y → First (x ∷ l) y
 passes p e h = record { is = rw (sym p ∙ e) (h .is) }
-
-or-left : (a b : Bool) → (a || b) ≡ false → a ≡ false
-or-left true b h = h
-or-left false b h = refl
 
 -- the tags that have a place are those of the dictionary
 all-known : all inDictionary tags ≡ true
@@ -69,16 +65,16 @@ module _ (t : ℕ) (n : has tags t ≡ false) where
 
   not-among : (l : List ℕ) → all (has tags) l ≡ true → has l t ≡ false
   not-among [] h = refl
-  not-among (x ∷ l) h = rw (other x (and-left (has tags x) _ h), not-among l (and-right (has tags x) _ h))
+  not-among (x ∷ l) h = rw (other x (both (has tags x) _ h .0), not-among l (both (has tags x) _ h .1))
 
   not-listed : (rows : List Row) → all placed rows ≡ true → listed rows t ≡ false
   unfolding placed
   not-listed [] h = refl
-  not-listed (r ∷ rs) h = rw (other (r .tag) (and-left (has tags (r .tag)) _ h), not-listed rs (and-right (has tags (r .tag)) _ h))
+  not-listed (r ∷ rs) h = rw (other (r .tag) (both (has tags (r .tag)) _ h .0), not-listed rs (both (has tags (r .tag)) _ h .1))
 
   not-in : (ms : List MsgType) → all (λ m. all placed (rowsOf m)) ms ≡ true → any (λ m. listed (rowsOf m) t) ms ≡ false
   not-in [] h = refl
-  not-in (m ∷ ms) h = rw (not-listed (rowsOf m) (and-left (all placed (rowsOf m)) _ h), not-in ms (and-right (all placed (rowsOf m)) _ h))
+  not-in (m ∷ ms) h = rw (not-listed (rowsOf m) (both (all placed (rowsOf m)) _ h .0), not-in ms (both (all placed (rowsOf m)) _ h .1))
 
   pub unknown-tag : inDictionary t ≡ false
   unfolding inDictionary
@@ -93,7 +89,7 @@ module _ (t : ℕ) (n : has tags t ≡ false) where
     where
       not-first : (rows : List Row) → listed rows t ≡ false → firstMember rows t ≡ false
       not-first [] h = refl
-      not-first (r ∷ rs) h = or-left (eqb (r .tag) t) (listed rs t) h
+      not-first (r ∷ rs) h = neither (eqb (r .tag) t) (listed rs t) h .0
 
   -- and it ends any that is open
   pub unknown-left : (pl : Place) (v : Bytes) {met : List Bool} {st : State} → Stood pl met st → left pl (field t v) ≡ outside

@@ -4,7 +4,7 @@ use native.Mathlib.Omega.{arith}
 use borrow.Author.Tests.{not-true, not-false}
 use mathlib.Core.Path.{_≡_, refl, ap, sym, _∙_}
 use mathlib.Core.List.{List, [], _∷_, _++_}
-use mathlib.Core.Bool.{Bool, true, false, cond, not, _&&_, _||_}
+use mathlib.Core.Bool.{Bool, true, false, cond, not, _&&_, _||_, and-false}
 use lib.ListN.{length, getD, drop, set, replicate, length-set, length-replicate}
 use Rattle.frame.specs.Bytes.{Bytes, has}
 use Rattle.fields.specs.Field.{field, parts}
@@ -50,11 +50,7 @@ unknown-skipped m w t v k h = rw k (go (administrative m) (silent-at (rule1 (w .
 
 known-not-skipped : (m : MsgType) (t : ℕ) → inDictionary t ≡ true → skipped m t ≡ false
 unfolding skipped
-known-not-skipped m t k = rw k (go (administrative m))
-  where
-    go : (a : Bool) → (a && false) ≡ false
-    go true = refl
-    go false = refl
+known-not-skipped m t k = rw k (and-false (administrative m))
 
 after-skipped : (m : MsgType) (w : Past) (t : ℕ) (v : Bytes) (pl : Place) → skipped m t ≡ true → left (w .place) (field t v) ≡ pl → after m w (field t v) ≡ record { seen = w .seen; place = pl }
 unfolding after

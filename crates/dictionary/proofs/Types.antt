@@ -1,20 +1,21 @@
 -- The message type, and the verdict by it.
 use Prim.Native.Nat.{ℕ, _-_, _≤_}
-use borrow.Author.Tests.{ne-eqb, not-true, not-false, leb-true}
-use mathlib.Core.Path.{_≡_, refl, ap, sym, _∙_, subst}
-use mathlib.Core.List.{[], _∷_}
-use mathlib.Core.Bool.{Bool, true, false, not}
+use borrow.Author.Tests.{ne-eqb, not-true, not-false}
+use mathlib.Core.Path.{_≡_, refl, ap, sym, _∙_}
+use mathlib.Core.List.{List, [], _∷_}
+use mathlib.Core.Bool.{Bool, true, false, cond, not}
 use mathlib.Core.Option.{Option, none, some}
 use native.Mathlib.Omega.{arith}
-use lib.Dec.{leb}
 use lib.ListN.{length, take, drop, getD}
 use Rattle.frame.specs.Bytes.{Bytes, fix, same}
+use Rattle.frame.proofs.Tests.{both}
+use Rattle.frame.proofs.Numerals.{within-is}
 use Rattle.fields.specs.Field.{parts, isBody}
-use Rattle.fields.specs.First.{First, valueAt, Inside}
+use Rattle.fields.specs.First.{First, valueAt}
 use Rattle.fields.specs.declared.Place.{Place}
 use Rattle.fields.specs.declared.Place.the-variants.{At, Absent}
 use Rattle.kinds.proofs.Values.{same-long, same-true}
-use Rattle.dictionary.specs.Dictionary.{code35, typeOf, typeIs}
+use Rattle.dictionary.specs.Dictionary.{code35, theNine, typeAmong, typeOf, typeIs}
 use Rattle.dictionary.specs.Verdict.{typeBy, judgedAs, walk, nothingYet, verdict}
 use Rattle.dictionary.specs.declared.MsgType.{MsgType}
 use Rattle.dictionary.specs.declared.MsgType.the-variants.{TradeCaptureReportRequest}
@@ -22,9 +23,8 @@ use Rattle.dictionary.specs.declared.Verdict.{Verdict}
 use Rattle.dictionary.specs.declared.Verdict.the-variants.{Finding, NoBody}
 use Rattle.dictionary.specs.declared.walk.Named.{Named}
 use Rattle.dictionary.specs.declared.walk.Named.the-variants.{Of, Other}
-use Rattle.dictionary.proofs.Lists.{and-left, and-right}
 
--- of one byte, of two, and of others
+-- THE TYPE of one byte, of two, and of others
 pub one-byte : (v : Bytes) → length v ≡ 1 → (getD v 0 0 ∷ []) ≡ v
 one-byte [] n = absurd (omega arith)
 one-byte (x ∷ []) n = refl
@@ -43,7 +43,20 @@ unfolding typeOf code35
 other-bytes v n p q =
     rw (same-long v (fix "0") n, same-long v (fix "1") n, same-long v (fix "2") n, same-long v (fix "3") n, same-long v (fix "4") n, same-long v (fix "5") n, same-long v (fix "A") n, same-long v (fix "F") n, sym p ∙ q)
 
--- the verdict
+-- THE TYPE that a value names is written as that value
+among-coded : (ms : List MsgType) (v : Bytes) (m : MsgType) → typeAmong ms v ≡ some m → v ≡ code35 m
+among-coded [] v m e = let z : _≡_ {A = ℕ} 0 1 = cc in absurd (omega arith)
+among-coded (n ∷ ms) v m e = go (same v (code35 n)) refl e (among-coded ms v m)
+  where
+    go : (b : Bool) → same v (code35 n) ≡ b → cond b (some n) (typeAmong ms v) ≡ some m → (typeAmong ms v ≡ some m → v ≡ code35 m) → v ≡ code35 m
+    go true k e f = let q : n ≡ m = cc in same-true v (code35 n) k ∙ ap code35 q
+    go false k e f = f e
+
+pub type-coded : (v : Bytes) (m : MsgType) → typeOf v ≡ some m → v ≡ code35 m
+unfolding typeOf
+type-coded v m e = among-coded theNine v m e
+
+-- THE VERDICT
 pub verdict-nobody : (body : Bytes) {b : Bool} → b ≡ isBody body → not b ≡ true → NoBody ≡ verdict body
 unfolding verdict
 verdict-nobody body {b} p q = rw (sym p ∙ not-true b q)
@@ -63,9 +76,6 @@ module _ (body : Bytes) {b : Bool} (p : b ≡ isBody body) (q : not b ≡ false)
     pub verdict-walked : {m : MsgType} {f : Verdict} → k ≡ Of m → f ≡ walk m nothingYet (parts body) → f ≡ verdict body
     verdict-walked o w = w ∙ sym (by-type (ap (valueAt body) h) ∙ rw (sym t ∙ ap typeIs o))
 
-pub place-inside : {body : Bytes} {r : Place} {s e : ℕ} → First 35 body r → r ≡ At s e → (s ≤ e) × (e ≤ length body)
-place-inside {body} F h = subst (Inside body) h (F .inside)
-
 pub body-short : (body : Bytes) {b : Bool} → b ≡ isBody body → not b ≡ false → length body ≤ 2048
 unfolding isBody
-body-short body {b} p q = leb-true (length body) 2048 (and-right (leb 5 (length body)) _ (and-left _ _ (and-left _ _ (sym p ∙ not-false b q))))
+body-short body {b} p q = within-is 5 2048 (length body) (both _ _ (both _ _ (sym p ∙ not-false b q) .0) .0) .1

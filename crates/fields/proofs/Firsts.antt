@@ -16,7 +16,8 @@ use Rattle.fields.specs.declared.Place.{Place}
 use Rattle.fields.specs.declared.Place.the-variants.{At, Absent}
 use Rattle.fields.specs.Item.{Cut}
 use Rattle.fields.specs.First.{placeIn, firstPlace, valueAt, Inside, First}
-use Rattle.frame.proofs.Numerals.{both, numeral-means}
+use Rattle.frame.proofs.Tests.{both}
+use Rattle.frame.proofs.Numerals.{numeral-means}
 use Rattle.frame.proofs.Decimals.{decimal-numeral, decimal-worth, numeral-decimal}
 use Rattle.fields.proofs.Cutting.{has-split}
 use Rattle.fields.proofs.Items.{field-part}
@@ -149,3 +150,7 @@ module _ (t : ℕ) (body : Bytes) where
   pub first-from : (r : Place) → 1 ≤ t → t ≤ 99_999 → r ≡ placeFrom t body 0 → First t body r
   unfolding firstPlace
   first-from r l h e = first-place t body r (rw (le-leb 1 t l, le-leb t 99_999 h) e)
+
+-- the place of a field lies in the body
+pub place-inside : {t : ℕ} {body : Bytes} {r : Place} {s e : ℕ} → First t body r → r ≡ At s e → (s ≤ e) × (e ≤ length body)
+place-inside {body = body} F h = subst (Inside body) h (F .inside)

@@ -2,13 +2,14 @@
 use Prim.Native.Nat.{ℕ, _+_, _-_, _≤_, _<_}
 use native.Mathlib.Omega.{arith}
 use native.Mathlib.Decide.{decLt}
-use mathlib.Core.Path.{_≡_, refl, sym, ap, _∙_, subst}
-use mathlib.Core.List.{List, [], _∷_, _++_, append-nil, append-assoc}
+use mathlib.Core.Path.{_≡_, sym, ap, _∙_, subst}
+use mathlib.Core.List.{[], _∷_, _++_, append-nil}
 use lib.ListN.{length, take, drop, getD, length-append}
 use lib.Seq.{take-at, drop-at}
-use Rattle.frame.specs.Bytes.{Bytes, value}
+use Rattle.frame.specs.Bytes.{Bytes}
 use Rattle.frame.specs.Leaf.{Digit, Number}
 use Rattle.frame.specs.Frame.{Rule, Good, BodyOf, its-body, trailer, sumOf}
+use Rattle.frame.proofs.Lists.{regroup}
 use Rattle.frame.proofs.Numerals.{digit-at, numeral-means}
 use Rattle.frame.proofs.Make.{j-digit, j-soh}
 use Rattle.frame.proofs.Good.{good-length, good-split, good-digits}
@@ -58,6 +59,3 @@ module _ (R : Rule) (f : Bytes) (G : Good R f) (v c : ℕ) (N : Number f (length
       (sym
       (ap (λ (x : Bytes). take (length f - 7 - a) x) (ap (λ (x : Bytes). drop a x) e ∙ drop-at h (G .body ++ tr) a l) ∙ take-at (G .body) tr (length f - 7 - a) k))
       (its-body G)
-    where
-      regroup : (m ds t : Bytes) → m ++ (ds ++ (1 ∷ t)) ≡ m ++ (ds ++ (1 ∷ [])) ++ t
-      regroup m ds t = simp append-assoc

@@ -5,15 +5,15 @@ use native.Mathlib.Decide.{decLt, decLe, ℕ-discrete}
 use mathlib.Core.Path.{_≡_, refl, sym, ap, ap₂, subst}
 use mathlib.Core.Logic.{_⊎_, inl, inr}
 use mathlib.Core.Bool.{Bool, true, false}
-use mathlib.Core.List.{List, [], _∷_, head-eq-of-cons-eq, tail-eq-of-cons-eq}
+use mathlib.Core.List.{[], _∷_, head-eq-of-cons-eq, tail-eq-of-cons-eq}
 use lib.Dec.{T}
 use lib.ListN.{length, take, drop, getD, List·getD-eq-default}
 use Rattle.frame.specs.Bytes.{Bytes, At}
 
-pub both : {A B : Type 0} → Dec A → Dec B → Dec (A × B)
-both (yes a) (yes b) = yes (a, b)
-both (yes a) (no f) = no (λ w. f (w .1))
-both (no f) _ = no (λ w. f (w .0))
+pub both? : {A B : Type 0} → Dec A → Dec B → Dec (A × B)
+both? (yes a) (yes b) = yes (a, b)
+both? (yes a) (no f) = no (λ w. f (w .1))
+both? (no f) _ = no (λ w. f (w .0))
 
 pub neither : {A : Type 0} → Dec A → Dec (A → ⊥)
 neither (yes a) = no (λ f. f a)
@@ -28,7 +28,7 @@ lists [] [] = yes refl
 lists [] (b ∷ y) = no (λ e. let z : 0 ≡ suc (length y) = ap length e in omega arith)
 lists (a ∷ x) [] = no (λ e. let z : suc (length x) ≡ 0 = ap length e in omega arith)
 lists (a ∷ x) (b ∷ y) =
-    turn (λ w. ap₂ (λ (i : ℕ) (l : Bytes). i ∷ l) (w .0) (w .1)) (λ e. (head-eq-of-cons-eq e, tail-eq-of-cons-eq e)) (both (ℕ-discrete a b) (lists x y))
+    turn (λ w. ap₂ (λ (i : ℕ) (l : Bytes). i ∷ l) (w .0) (w .1)) (λ e. (head-eq-of-cons-eq e, tail-eq-of-cons-eq e)) (both? (ℕ-discrete a b) (lists x y))
 
 pub holds? : (b : Bool) → Dec (b ≡ true)
 holds? true = yes refl
@@ -88,7 +88,7 @@ some-bytes zero P d = turn to from (d [])
     from w = empty (w .bytes) (w .many) (w .here)
 some-bytes (suc k) P d =
     turn to from
-    (some-below (λ b. (b < 256) × Some k (λ l. P (b ∷ l))) (λ b. both (decLt b 256) (some-bytes k (λ l. P (b ∷ l)) (λ l. d (b ∷ l)))) 256 (λ b w. w .0))
+    (some-below (λ b. (b < 256) × Some k (λ l. P (b ∷ l))) (λ b. both? (decLt b 256) (some-bytes k (λ l. P (b ∷ l)) (λ l. d (b ∷ l)))) 256 (λ b w. w .0))
   where
     small : (b : ℕ) (l : Bytes) → b < 256 → Small l → Small (b ∷ l)
     small b l h s zero y = h
@@ -126,4 +126,4 @@ small? b = go (some-below (λ i. 256 ≤ getD b i 0) (λ i. decLe 256 (getD b i 
         one i (no y) = absurd (f (i, omega arith))
 
 pub at? : (s : Bytes) (p : ℕ) (l : Bytes) → Dec (At s p l)
-at? s p l = both (decLe (p + length l) (length s)) (lists (take (length l) (drop p s)) l)
+at? s p l = both? (decLe (p + length l) (length s)) (lists (take (length l) (drop p s)) l)

@@ -10,7 +10,8 @@ use lib.ListN.{length, getD, length-append, List·getD-append}
 use borrow.Author.Tests.{ltb-true, ltb-false, lt-ltb, le-ltb}
 use Rattle.frame.specs.Bytes.{Bytes, all, digit, value, valueFrom, lastDigits, decimal}
 use Rattle.frame.proofs.Lists.{valueFrom-append}
-use Rattle.frame.proofs.Numerals.{both, all-append, is-digit, digit-is, Numeral}
+use Rattle.frame.proofs.Tests.{both, all-append}
+use Rattle.frame.proofs.Numerals.{is-digit, digit-is, Numeral}
 
 pub record Decimal (n : ℕ) (l : Bytes) : Type 0 where
   pub whole : all digit l ≡ true

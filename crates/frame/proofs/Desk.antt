@@ -1,12 +1,12 @@
 -- The desk examples W1 to W5, for the one table of all twelve.
-use Prim.Native.Nat.{ℕ, _+_, _-_, _%_, _≤_, _<_}
+use Prim.Native.Nat.{ℕ, _+_, _-_, _%_, _<_}
 use native.Mathlib.Nat.{add-zero}
 use native.Mathlib.Omega.{arith}
 use native.Mathlib.Decide.{decLt}
 use mathlib.Core.Path.{_≡_, refl, sym, ap, ap₂, _∙_, subst}
 use mathlib.Core.Logic.{inl}
 use mathlib.Core.Bool.{true}
-use mathlib.Core.List.{List, [], _∷_, _++_, append-assoc}
+use mathlib.Core.List.{[], _∷_, _++_, append-assoc}
 use lib.Dec.{lit≤, ltb}
 use lib.ListN.{length, take, drop, getD, length-append, List·getD-append, List·getD-eq-default}
 use lib.Seq.{take-at, drop-at, take-length, getD-take, getD-append-add}
@@ -18,7 +18,8 @@ use Rattle.frame.proofs.Lists.{at-byte}
 use Rattle.frame.proofs.Numerals.{numeral-means}
 use Rattle.frame.proofs.Good.{good-at-length, good-at-mark}
 use Rattle.frame.proofs.Make.{good-make}
-use Rattle.frame.proofs.Marks.{fixt-ok, allBelow, at-below}
+use Rattle.frame.proofs.Tests.{allBelow, at-below}
+use Rattle.frame.proofs.Marks.{fixt-ok}
 use Rattle.frame.proofs.Apart.{left-none}
 
 module _ (R : Rule) where

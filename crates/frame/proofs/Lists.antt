@@ -1,11 +1,11 @@
 -- Laws of byte lists: one more byte of a part, its sum and what its digits are worth, and what stands at a place.
-use Prim.Native.Nat.{ℕ, zero, suc, _+_, _-_, _*_, _%_, _^_, _≤_, _<_}
+use Prim.Native.Nat.{ℕ, _+_, _-_, _*_, _%_, _^_, _≤_, _<_}
 use native.Mathlib.Nat.{add-assoc, add-zero, zero-add, pow-suc, pow-le-pow-right}
 use native.Mathlib.Numerals.{add-one}
 use native.Mathlib.Omega.{arith}
 use mathlib.Core.Path.{_≡_, refl, sym, ap, _∙_}
-use mathlib.Core.Bool.{Bool, true, false}
-use mathlib.Core.List.{List, [], _∷_, _++_}
+use mathlib.Core.Bool.{Bool, false}
+use mathlib.Core.List.{[], _∷_, _++_, append-assoc}
 use lib.ListN.{length, take, drop, getD, length-drop, length-append, List·getD-append}
 use lib.Seq.{take-suc, getD-drop, getD-take, ext-getD, length-take-le, drop-append-le, take-append-le}
 use Rattle.frame.specs.Bytes.{Bytes, sum, value, valueFrom, At}
@@ -86,6 +86,10 @@ pub at-more : (s t : Bytes) (q : ℕ) (l : Bytes) → At s q l → At (s ++ t) q
 at-more s t q l a =
     bytes-at (s ++ t) q l (omega (arith, a .0, length-append s t))
     (λ i j. List·getD-append s t 0 (q + i) (omega (arith, a .0)) ∙ at-byte s q l a i j)
+
+-- a mark, digits and `|` taken together
+pub regroup : (m ds t : Bytes) → m ++ (ds ++ (1 ∷ t)) ≡ m ++ (ds ++ (1 ∷ [])) ++ t
+regroup m ds t = simp append-assoc
 
 -- a part of s that lies in s is the same part of a longer list
 pub part-more : (s t : Bytes) (p n : ℕ) → p + n ≤ length s → take n (drop p (s ++ t)) ≡ take n (drop p s)

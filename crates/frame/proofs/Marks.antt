@@ -1,36 +1,19 @@
 -- The conditions of a mark are one test that antt computes; `8=FIXT.1.1|9=` and `8=FIX.4.2|9=` pass it.
-use Prim.Native.Nat.{ℕ, zero, suc, _+_, _-_, _≤_, _<_}
-use native.Mathlib.Decide.{decLt}
-use native.Mathlib.Omega.{arith}
+use Prim.Native.Nat.{ℕ, _+_, _-_}
 use mathlib.Core.Path.{_≡_, refl, sym, ap, _∙_, subst}
-use mathlib.Core.Bool.{Bool, true, false, not, _&&_}
+use mathlib.Core.Bool.{Bool, true, not, _&&_}
 use lib.Dec.{T, leb, ltb, eqb}
 use lib.ListN.{length, getD}
 use borrow.Author.Tests.{ltb-true, leb-true, le-leb, eq-eqb}
 use Rattle.frame.specs.Bytes.{Bytes, digit}
-use Rattle.frame.specs.Leaf.{Digit}
 use Rattle.frame.specs.Frame.{fixt, fix42}
 use Rattle.frame.specs.Mark.{MarkOk}
-use Rattle.frame.proofs.Numerals.{both, and-true, is-digit}
-
--- a test at each number below n
-abbrev pub allBelow : ℕ → (ℕ → Bool) → Bool
-allBelow zero f = true
-allBelow (suc n) f = f n && allBelow n f
-
-pub at-below : (n : ℕ) (f : ℕ → Bool) → allBelow n f ≡ true → (k : ℕ) → k < n → f k ≡ true
-at-below zero f t k h = absurd (omega arith)
-at-below (suc n) f t k h = go (decLt k n) (at-below n f ((both (f n) (allBelow n f) t) .1) k)
-  where
-    go : Dec (k < n) → (k < n → f k ≡ true) → f k ≡ true
-    go (yes l) below = below l
-    go (no l) below =
-        let e : n ≡ k = omega arith in
-        subst (λ (i : ℕ). f i ≡ true) e ((both (f n) (allBelow n f) t) .0)
+use Rattle.frame.proofs.Tests.{both-true, allBelow, at-below}
+use Rattle.frame.proofs.Numerals.{is-digit}
 
 -- two tests of which one fails
 apart : (a b : Bool) → not (a && b) ≡ true → a ≡ true → b ≡ true → ⊥
-apart a b t p q = subst T (sym t ∙ ap not (and-true a b p q)) tt
+apart a b t p q = subst T (sym t ∙ ap not (both-true a b p q)) tt
 
 module _ (m : Bytes) where
   abbrev fresh : ℕ → Bool

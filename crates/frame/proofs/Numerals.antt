@@ -4,37 +4,22 @@ use native.Mathlib.Nat.{zero-add, add-zero, add-suc, suc-add}
 use native.Mathlib.Numerals.{add-one}
 use native.Mathlib.Omega.{arith}
 use mathlib.Core.Path.{_≡_, refl, sym, ap, ap₂, _∙_}
-use mathlib.Core.List.{List, [], _∷_, _++_, head-eq-of-cons-eq, tail-eq-of-cons-eq}
-use mathlib.Core.Bool.{Bool, true, false, not, _&&_, false≢true}
+use mathlib.Core.List.{[], _∷_, _++_, head-eq-of-cons-eq, tail-eq-of-cons-eq}
+use mathlib.Core.Bool.{Bool, true, false, not, _&&_, false≢true, and-false}
 use lib.Dec.{eqb, leb}
 use lib.ListN.{length, take, drop, getD, length-drop}
 use lib.Seq.{getD-take, getD-drop, take-all}
 use borrow.Author.Tests.{le-leb, leb-true, eq-eqb, ne-eqb, eqb-true, eqb-false}
 use Rattle.frame.specs.Bytes.{Bytes, fix, starts, all, digit, digits, within, value, valueFrom, numeral}
 use Rattle.frame.specs.Leaf.{Digit, Number}
+use Rattle.frame.proofs.Tests.{both, both-true}
 use Rattle.frame.proofs.Lists.{part-length, pow-more, few-digits}
-
-pub both : (a b : Bool) → (a && b) ≡ true → (a ≡ true) × (b ≡ true)
-both true b e = (refl, e)
-both false b e = absurd (false≢true e)
-
-pub and-true : (a b : Bool) → a ≡ true → b ≡ true → (a && b) ≡ true
-and-true true b p q = q
-and-true false b p q = p
 
 pub within-is : (a b n : ℕ) → within a b n ≡ true → (a ≤ n) × (n ≤ b)
 within-is a b n e = let w = both (leb a n) (leb n b) e in (leb-true a n (w .0), leb-true n b (w .1))
 
 pub is-within : (a b n : ℕ) → a ≤ n → n ≤ b → within a b n ≡ true
-is-within a b n h k = and-true (leb a n) (leb n b) (le-leb a n h) (le-leb n b k)
-
-pub all-append : (p : ℕ → Bool) (k l : Bytes) → all p (k ++ l) ≡ (all p k && all p l)
-all-append p [] l = refl
-all-append p (x ∷ k) l = go (p x) (all-append p k l)
-  where
-    go : (c : Bool) → all p (k ++ l) ≡ (all p k && all p l) → (c && all p (k ++ l)) ≡ ((c && all p k) && all p l)
-    go true e = e
-    go false e = refl
+is-within a b n h k = both-true (leb a n) (leb n b) (le-leb a n h) (le-leb n b k)
 
 -- a digit, as a test and as two orders
 pub is-digit : (d : ℕ) → Digit d → digit d ≡ true
@@ -85,11 +70,7 @@ digits-broken (d ∷ l) zero h n = go (digit d) refl
     go : (b : Bool) → digit d ≡ b → (b && all digit l) ≡ false
     go true e = absurd (n (digit-is d e))
     go false e = refl
-digits-broken (d ∷ l) (suc i) h n = rw (digits-broken l i (omega arith) n) (go (digit d))
-  where
-    go : (b : Bool) → (b && false) ≡ false
-    go true = refl
-    go false = refl
+digits-broken (d ∷ l) (suc i) h n = rw (digits-broken l i (omega arith) n) (and-false (digit d))
 
 -- where the reading could go to the end, it went there if all bytes are digits
 pub read-is : (s : Bytes) (p n v c : ℕ) → Number s p n v c → length s ≤ p + n → eqb (p + c) (length s) ≡ all digit (drop p s)
@@ -147,7 +128,7 @@ row-digits (d ∷ ds) e = let w = both (digit d) (all digit ds) e in (digit-is d
 
 pub digits-row : (ds : Bytes) → Digits ds → all digit ds ≡ true
 digits-row [] h = refl
-digits-row (d ∷ ds) h = and-true (digit d) (all digit ds) (is-digit d (h .0)) (digits-row ds (h .1))
+digits-row (d ∷ ds) h = both-true (digit d) (all digit ds) (is-digit d (h .0)) (digits-row ds (h .1))
 
 pub digit-at : (ds : Bytes) → Digits ds → (i : ℕ) → i < length ds → Digit (getD ds i 0)
 digit-at [] h i l = absurd (omega arith)

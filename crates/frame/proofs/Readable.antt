@@ -4,36 +4,36 @@ use native.Mathlib.Omega.{arith}
 use native.Mathlib.Decide.{decLt, decLe, ℕ-discrete}
 use mathlib.Core.Path.{_≡_, refl, sym, ap, ap₂, _∙_, subst}
 use mathlib.Core.Logic.{_⊎_, inl, inr}
-use mathlib.Core.List.{List, [], _∷_, _++_, append-nil, append-assoc}
+use mathlib.Core.List.{[], _∷_, _++_, append-nil, append-assoc}
 use lib.ListN.{length, take, drop, getD, length-append, take-append-drop, List·getD-append}
 use lib.Seq.{take-at, drop-at, length-take-le, getD-append-add, getD-drop, getD-take}
 use Rattle.frame.specs.Bytes.{Bytes, fix, value, numeral, At}
 use Rattle.frame.specs.Frame.{Rule, Length, Body, Good, GoodAt, Live, front, trailer, sumOf}
 use Rattle.frame.specs.Reading.{Answer, frame, refusal, Reads}
 use Rattle.frame.specs.Mark.{MarkOk}
-use Rattle.frame.proofs.Lists.{part-length}
+use Rattle.frame.proofs.Lists.{part-length, regroup}
 use Rattle.frame.proofs.Numerals.{digit-at, numeral-means}
 use Rattle.frame.proofs.Good.{good-split, good-digits, good-at-length, good-live, good-less}
-use Rattle.frame.proofs.Decide.{both, neither, turn, lists, holds?, Least, least, some-below, Small, Some, some-bytes, small?, at?}
+use Rattle.frame.proofs.Decide.{both?, neither, turn, lists, holds?, Least, least, some-below, Some, some-bytes, small?, at?}
 
 module _ (R : Rule) where
   -- ---- a good frame
   length? : (ds : Bytes) → Dec (Length R ds)
   length? ds =
       turn (λ w. record { written = w .0; low = w .1 .0; high = w .1 .1 }) (λ L. (L .written, (L .low, L .high)))
-      (both (holds? (numeral (R .most) ds)) (both (decLe 5 (value ds)) (decLe (value ds) 2048)))
+      (both? (holds? (numeral (R .most) ds)) (both? (decLe 5 (value ds)) (decLe (value ds) 2048)))
 
   body? : (n : ℕ) (b : Bytes) → Dec (Body n b)
   body? n b =
       turn (λ w. record { sized = w .0; begins = w .1 .0; ends = w .1 .1 .0; bytes = w .1 .1 .1 })
       (λ B. (B .sized, (B .begins, (B .ends, B .bytes))))
-      (both (ℕ-discrete (length b) n) (both (at? b 0 (fix "35=")) (both (ℕ-discrete (getD b (n - 1) 0) 1) (small? b))))
+      (both? (ℕ-discrete (length b) n) (both? (at? b 0 (fix "35=")) (both? (ℕ-discrete (getD b (n - 1) 0) 1) (small? b))))
 
   once? : (g : Bytes) → Dec ((q : ℕ) → 0 < q → At g q (R .mark) → ⊥)
   once? g =
       turn (λ f q h a. f (q, (h, a))) (λ f w. f (w .0) (w .1 .0) (w .1 .1))
       (neither
-      (some-below (λ q. (0 < q) × At g q (R .mark)) (λ q. both (decLt 0 q) (at? g q (R .mark))) (suc (length g)) (λ q w. omega (arith, w .1 .0))))
+      (some-below (λ q. (0 < q) × At g q (R .mark)) (λ q. both? (decLt 0 q) (at? g q (R .mark))) (suc (length g)) (λ q w. omega (arith, w .1 .0))))
 
   -- the digits and the body of g, where the length has k digits
   abbrev digitsIn : Bytes → ℕ → Bytes
@@ -51,7 +51,7 @@ module _ (R : Rule) where
   parts? : (g ds b : Bytes) → Dec (Parts g ds b)
   parts? g ds b =
       turn (λ w. record { len = w .0; inner = w .1 .0; whole = w .1 .1 .0; once = w .1 .1 .1 }) (λ x. (x .len, (x .inner, (x .whole, x .once))))
-      (both (length? ds) (both (body? (value ds) b) (both (lists g (front R ds b ++ trailer (sumOf R ds b))) (once? g))))
+      (both? (length? ds) (both? (body? (value ds) b) (both? (lists g (front R ds b ++ trailer (sumOf R ds b))) (once? g))))
 
   digits-in : (g : Bytes) (G : Good R g) → digitsIn g (length (G .digits)) ≡ G .digits
   digits-in g G =
@@ -67,14 +67,11 @@ module _ (R : Rule) where
       let l : length h ≡ a = omega (arith, length-append (R .mark) (G .digits ++ (1 ∷ [])), length-append (G .digits) (1 ∷ [])) in
       ap₂ (λ (n : ℕ) (x : Bytes). take n x) (ap value (digits-in g G)) (ap (λ (x : Bytes). drop a x) e ∙ drop-at h _ a l)
       ∙ take-at (G .body) _ (value (G .digits)) (G .inner .sized)
-    where
-      regroup : (m ds t : Bytes) → m ++ (ds ++ (1 ∷ t)) ≡ m ++ (ds ++ (1 ∷ [])) ++ t
-      regroup m ds t = simp append-assoc
 
   pub good? : (g : Bytes) → Dec (Good R g)
   good? g =
       turn to from
-      (some-below (λ k. (k ≤ R .most) × Parts g (digitsIn g k) (bodyIn g k)) (λ k. both (decLe k (R .most)) (parts? g (digitsIn g k) (bodyIn g k))) (suc (R .most)) (λ k w. omega (arith, w .0)))
+      (some-below (λ k. (k ≤ R .most) × Parts g (digitsIn g k) (bodyIn g k)) (λ k. both? (decLe k (R .most)) (parts? g (digitsIn g k) (bodyIn g k))) (suc (R .most)) (λ k w. omega (arith, w .0)))
     where
       to : (k : ℕ) × ((k ≤ R .most) × Parts g (digitsIn g k) (bodyIn g k)) → Good R g
       to w =
@@ -94,7 +91,7 @@ module _ (R : Rule) where
   good-at? : (s : Bytes) (p : ℕ) → Dec ((n : ℕ) × GoodAt R s p n)
   good-at? s p =
       some-below (λ n. GoodAt R s p n)
-      (λ n. turn (λ w. record { inside = w .0; good = w .1 }) (λ G. (G .inside, G .good)) (both (decLe (p + n) (length s)) (good? (take n (drop p s)))))
+      (λ n. turn (λ w. record { inside = w .0; good = w .1 }) (λ G. (G .inside, G .good)) (both? (decLe (p + n) (length s)) (good? (take n (drop p s)))))
       (suc (length s)) (λ n G. omega (arith, G .inside))
 
   -- ---- a live position: where any bytes could follow, some of at most a frame's length could
@@ -228,7 +225,7 @@ module _ (R : Rule) where
           go (yes w) = yes (good-live R (w .1))
           go (no f) =
               turn to (from f)
-              (some-below (λ k. (k < suc longest) × Some k Ends) (λ k. both (decLt k (suc longest)) (some-bytes k Ends (λ t. good-at? (s ++ t) p))) (suc longest) (λ k w. w .0))
+              (some-below (λ k. (k < suc longest) × Some k Ends) (λ k. both? (decLt k (suc longest)) (some-bytes k Ends (λ t. good-at? (s ++ t) p))) (suc longest) (λ k w. w .0))
 
     -- every byte string has its reading
     pub reads-of : (s : Bytes) → (a : Answer) × Reads R s a

@@ -12,7 +12,8 @@ use lib.ListN.{length, take}
 use borrow.Author.Tests.{lt-leb, le-leb, lt-ltb, leb-true, leb-false, ltb-false, not-true, not-false}
 use Rattle.frame.specs.Bytes.{Bytes, fix, within}
 use Rattle.frame.specs.Frame.{fixt, Good, BodyOf, its-body, no-frame}
-use Rattle.frame.proofs.Numerals.{both, within-is}
+use Rattle.frame.proofs.Numerals.{within-is}
+use Rattle.frame.proofs.Tests.{both}
 use Rattle.fields.specs.Field.{firstField}
 use Rattle.dictionary.specs.declared.Verdict.the-variants.{Clean}
 use Rattle.dictionary.specs.Verdict.{verdict, msgType}

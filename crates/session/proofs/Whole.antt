@@ -9,7 +9,8 @@ use mathlib.Core.Option.{Option, none, some}
 use lib.ListN.{length}
 use Rattle.frame.specs.Bytes.{Bytes, fix, has, within}
 use Rattle.frame.specs.Frame.{fixt, Good}
-use Rattle.frame.proofs.Numerals.{both, within-is}
+use Rattle.frame.proofs.Numerals.{within-is}
+use Rattle.frame.proofs.Tests.{both}
 use Rattle.dictionary.specs.declared.MsgType.{MsgType}
 use Rattle.dictionary.specs.declared.MsgType.the-variants as MsgType
 use Rattle.dictionary.specs.Dictionary.{code35}

@@ -2,15 +2,15 @@
 use Prim.Native.Nat.{ℕ, zero, suc, _^_, _≤_, _<_, max}
 use native.Mathlib.Omega.{arith}
 use Prim.Native.Char.{code}
-use mathlib.Core.Path.{_≡_, refl, sym, ap}
+use mathlib.Core.Path.{_≡_, refl, ap}
 use mathlib.Core.List.{List, [], _∷_}
 use mathlib.Core.Bool.{Bool, true, false, cond, not, _||_, false≢true}
 use lib.Dec.{eqb, leb}
 use lib.ListN.{length}
 use borrow.Author.Tests.{not-false}
 use Rattle.frame.specs.Bytes.{Bytes, fix, any, has, same, within, digit, numeral, decimal}
-use Rattle.frame.proofs.Numerals.{within-is}
-use Rattle.frame.proofs.Numerals.{both, numeral-true, numeral-means}
+use Rattle.frame.proofs.Tests.{both, neither}
+use Rattle.frame.proofs.Numerals.{within-is, numeral-true, numeral-means}
 use Rattle.frame.proofs.Decimals.{decimal-numeral, decimal-worth}
 use Rattle.kinds.specs.Kind.{Kind, text, number_to_, Y/N, time, day, among, formed, allowed, isNumber, like, shapes}
 use Rattle.kinds.proofs.Values.{same-true}
@@ -18,16 +18,6 @@ use Rattle.dictionary.specs.declared.MsgType.{MsgType}
 use Rattle.dictionary.specs.Dictionary.{rowsOf, listed, kindIn}
 use Rattle.writer.specs.Call.{rejected}
 use Rattle.writer.specs.Held.{longest, most}
-
--- one of two tests
-pub or-last : (a b : Bool) → b ≡ true → (a || b) ≡ true
-or-last true b e = refl
-or-last false b e = e
-
--- tests of which both fail
-pub neither : (a b : Bool) → (a || b) ≡ false → (a ≡ false) × (b ≡ false)
-neither true b e = absurd (false≢true (sym e))
-neither false b e = (refl, e)
 
 pub record Accepted (m : MsgType) (t : ℕ) (v : Bytes) : Type 0 where
   pub own : listed (rowsOf m) t ≡ true

@@ -1,5 +1,5 @@
 -- Why the verdict on a message is clean: the walk takes each of its fields, and no required one is missing.
-use Prim.Native.Nat.{ℕ, _+_}
+use Prim.Native.Nat.{ℕ}
 use native.Mathlib.Omega.{arith}
 use mathlib.Core.Path.{_≡_, refl, sym, ap, _∙_}
 use mathlib.Core.List.{List, [], _∷_, _++_, append-nil}
@@ -10,7 +10,7 @@ use borrow.Author.Tests.{eqb-true, eq-eqb, not-true}
 use Rattle.frame.specs.Bytes.{Bytes, any, all, has, within, decimal}
 use Rattle.frame.proofs.Numerals.{within-is}
 use Rattle.fields.specs.Field.{partOf, field}
-use Rattle.frame.proofs.Numerals.{both}
+use Rattle.frame.proofs.Tests.{both, neither, or-last}
 use Rattle.frame.proofs.Decimals.{decimal-numeral, decimal-worth}
 use Rattle.fields.proofs.Items.{field-part}
 use Rattle.dictionary.specs.declared.MsgType.{MsgType}
@@ -21,7 +21,7 @@ use Rattle.dictionary.specs.Verdict.{Past, outside, nothingYet, said, after, ta
 use Rattle.writer.specs.Message.{Value, _is_, shown, order, valued}
 use Rattle.writer.specs.Call.{required, unwritable, unfit}
 use Rattle.writer.proofs.Rows.{partsOf, withPart}
-use Rattle.writer.proofs.Accepted.{Accepted, accepted, or-last, neither}
+use Rattle.writer.proofs.Accepted.{Accepted, accepted}
 use Rattle.writer.proofs.Seven.{inPlace, inOrder, needed, known}
 
 -- the walk outside groups, with these tags met

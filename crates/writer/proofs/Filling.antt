@@ -1,22 +1,23 @@
 -- The values of a call, one place further: what the tables say at a place, and what has been put up to it.
-use Prim.Native.Nat.{ℕ, zero, suc, _+_, _≤_, _<_}
+use Prim.Native.Nat.{ℕ, _+_, _≤_, _<_}
 use native.Mathlib.Numerals.{add-one}
 use native.Mathlib.Omega.{arith}
 use mathlib.Core.Path.{_≡_, refl, sym, ap, _∙_, subst}
 use mathlib.Core.List.{List, [], _∷_, _++_, map, append-nil, head-eq-of-cons-eq, tail-eq-of-cons-eq}
 use mathlib.Core.Bool.{Bool, true, false, cond, _&&_, _||_, false≢true}
 use lib.Dec.{eqb, leb, ltb}
-use lib.ListN.{length, take, getD}
+use lib.ListN.{length, take, getD, List·getD-map}
 use lib.Seq.{take-suc, take-all}
 use borrow.Author.Tests.{eqb-true, leb-true, ltb-true}
 use Rattle.frame.specs.Bytes.{Bytes, any, has}
-use Rattle.frame.proofs.Marks.{allBelow, at-below}
-use Rattle.frame.proofs.Numerals.{both}
+use Rattle.frame.proofs.Tests.{both, or-last, allBelow, at-below, any-append, map-at}
 use Rattle.kinds.specs.Kind.{Kind, kindOf}
 use Rattle.kinds.specs.Judged.{meaning}
 use Rattle.kinds.specs.declared.Kind.the-variants.{Text}
 use Rattle.dictionary.specs.declared.MsgType.{MsgType}
 use Rattle.dictionary.specs.Dictionary.{№453, №580, header, fields, code35, groupsOf, rowsOf, listed, kindIn, administrative}
+use Rattle.dictionary.specs.Held.{agree}
+use Rattle.dictionary.proofs.Lists.{agree-true}
 use Rattle.writer.specs.Message.{Value, absent, number, bytes, Field, _is_, own, order, field, row, valued}
 use Rattle.writer.specs.Tags.{tags, isNumeric, numeric}
 use Rattle.writer.specs.Call.{placeIn, part, valueAt, valueIn, required, unfit, refused8}
@@ -28,21 +29,9 @@ use Rattle.writer.specs.declared.fill.Entry.{Entry}
 use Rattle.writer.specs.declared.fill.Put.{Put}
 use Rattle.writer.specs.Held.{bitOf, tagAt, Marked, sevenRows, Slots, Holds, valueOf, most, PutOne}
 use Rattle.writer.proofs.Writes.{more, reword}
-use Rattle.writer.proofs.Accepted.{or-last}
 use Rattle.writer.proofs.Seven.{each, filtered-has, known}
-use Rattle.writer.proofs.Types.{agree, agree-true}
 
 -- WHAT THE TABLES SAY AT A PLACE
-map-at : {A : Type 0} (f : Slot → A) (l : List Slot) (k : ℕ) (d : Slot) → getD (map f l) k (f d) ≡ f (getD l k d)
-map-at f [] k d = refl
-map-at f (x ∷ l) zero d = refl
-map-at f (x ∷ l) (suc k) d = map-at f l k d
-
-map-in : {A : Type 0} (f : ℕ → A) (l : List ℕ) (k : ℕ) (a : A) → k < length l → getD (map f l) k a ≡ f (getD l k 0)
-map-in f [] k a h = absurd (omega arith)
-map-in f (x ∷ l) zero a h = refl
-map-in f (x ∷ l) (suc k) a h = map-in f l k a (omega arith)
-
 map-same : (f g : ℕ → Kind) (ts : List ℕ) (u : ℕ) → map f ts ≡ map g ts → has ts u ≡ true → f u ≡ g u
 map-same f g [] u e h = absurd (false≢true h)
 map-same f g (t ∷ ts) u e h = go (eqb t u) refl h (map-same f g ts u (tail-eq-of-cons-eq e))
@@ -120,11 +109,11 @@ entryAt table o n values k =
 
 module _ (table : List Slot) (S : Slots table) (k : ℕ) (h : k < 21) where
   slot-tag : getD table k noSlot .0 ≡ tagAt k
-  slot-tag = sym (map-at (λ (s : Slot). s .0) table k noSlot) ∙ ap (λ (l : List ℕ). getD l k 0) (S .tags-are)
+  slot-tag = sym (List·getD-map (λ (s : Slot). s .0) table k noSlot) ∙ ap (λ (l : List ℕ). getD l k 0) (S .tags-are)
 
   slot-kind : meaning (getD table k noSlot .1) ≡ kindIn sevenRows (tagAt k)
   slot-kind =
-      sym (map-at (λ (s : Slot). meaning (s .1)) table k noSlot) ∙ ap (λ (l : List Kind). getD l k (meaning (Text 0))) (S .kinds-are) ∙ map-in (kindIn sevenRows) tags k (meaning (Text 0)) (omega (arith, many-tags))
+      sym (List·getD-map (λ (s : Slot). meaning (s .1)) table k noSlot) ∙ ap (λ (l : List Kind). getD l k (meaning (Text 0))) (S .kinds-are) ∙ map-at (kindIn sevenRows) 0 (meaning (Text 0)) tags k (omega (arith, many-tags))
 
   pub slot-bounds : (getD table k noSlot .0 < 100_000) × (most (meaning (getD table k noSlot .1)) ≤ 256)
   slot-bounds = (subst (λ (t : ℕ). t < 100_000) (sym slot-tag) (sound-at k h .tag-small), subst (λ (x : Kind). most x ≤ 256) (sym slot-kind) (sound-at k h .value-short))
@@ -168,14 +157,6 @@ told e t v d d′ at marks P m a M = subst (λ (x : Put). PutOne m t v d d′ at
 valued-append : (vs : ℕ → Value) (ts us : List ℕ) → valued vs (ts ++ us) ≡ valued vs ts ++ valued vs us
 valued-append vs [] us = refl
 valued-append vs (t ∷ ts) us = ap (λ (l : List Field). (t is vs t) ∷ l) (valued-append vs ts us)
-
-any-append : (p : Field → Bool) (xs ys : List Field) → any p (xs ++ ys) ≡ (any p xs || any p ys)
-any-append p [] ys = refl
-any-append p (x ∷ xs) ys = go (p x) (any-append p xs ys)
-  where
-    go : (b : Bool) → any p (xs ++ ys) ≡ (any p xs || any p ys) → (b || any p (xs ++ ys)) ≡ ((b || any p xs) || any p ys)
-    go true e = refl
-    go false e = e
 
 one-more : (vs : ℕ → Value) (k : ℕ) → k < 21 → valued vs (take (k + 1) tags) ≡ valued vs (take k tags) ++ (tagAt k is vs (tagAt k) ∷ [])
 one-more vs k h =

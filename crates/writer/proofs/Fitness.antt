@@ -1,14 +1,13 @@
 -- Whether a value is fit, test by test as the code looks at it.
-use Prim.Native.Nat.{ℕ, _+_, _≤_, _<_}
-use native.Mathlib.Numerals.{add-one}
+use Prim.Native.Nat.{ℕ, _≤_, _<_}
 use native.Mathlib.Omega.{arith}
 use mathlib.Core.Path.{_≡_, refl, ap}
 use mathlib.Core.Bool.{Bool, true, false, cond, not, _||_, false≢true}
 use lib.Dec.{eqb}
-use lib.ListN.{length, drop, getD, drop-of-length-le}
-use lib.Seq.{drop-cons}
+use lib.ListN.{length}
 use borrow.Author.Tests.{eq-eqb, ne-eqb, not-false}
 use Rattle.frame.specs.Bytes.{Bytes, fix, has, same, value, numeral, decimal}
+use Rattle.frame.proofs.Tests.{neither}
 use Rattle.frame.proofs.Numerals.{numeral-means, value-below}
 use Rattle.frame.proofs.Decimals.{decimal-worth}
 use Rattle.kinds.specs.Kind.{Kind, text, number_to_, Y/N, time, day, among, isNumber, formed, allowed}
@@ -19,17 +18,7 @@ use Rattle.dictionary.specs.Dictionary.{rowsOf, listed, kindIn}
 use Rattle.writer.specs.Tags.{isNumeric}
 use Rattle.writer.specs.Call.{rejected}
 use Rattle.writer.specs.Held.{unwritten, most}
-use Rattle.writer.proofs.Accepted.{neither, kind-length}
-
--- IS THERE A `|`: at the place looked at, behind it, or nowhere
-pub has-here : (v : Bytes) (i : ℕ) → i < length v → getD v i 0 ≡ 1 → has (drop i v) 1 ≡ true
-has-here v i h e = rw (drop-cons v i 0 h, eq-eqb _ 1 e)
-
-pub has-next : (v : Bytes) (i : ℕ) → i < length v → (getD v i 0 ≡ 1 → ⊥) → has (drop i v) 1 ≡ has (drop (i + 1) v) 1
-has-next v i h n = rw (drop-cons v i 0 h, ne-eqb _ 1 n, add-one)
-
-pub has-end : (v : Bytes) (i : ℕ) → length v ≤ i → has (drop i v) 1 ≡ false
-has-end v i h = rw (drop-of-length-le v {i = i} h)
+use Rattle.writer.proofs.Accepted.{kind-length}
 
 -- A VALUE OF A KIND
 pub unwritten-empty : (k : Kind) (v : Bytes) → length v ≡ 0 → true ≡ unwritten k v

@@ -1,5 +1,5 @@
 -- D4: what is written for values that are fit is a good frame, has a clean verdict, and reads back as the values given, each of them and no other.
-use Prim.Native.Nat.{ℕ, zero, suc, _-_, _≤_}
+use Prim.Native.Nat.{ℕ, zero, suc, _≤_}
 use native.Mathlib.Omega.{arith}
 use mathlib.Core.Path.{_≡_, refl, sym, ap, _∙_, subst}
 use mathlib.Core.List.{List, [], _∷_}
@@ -10,8 +10,8 @@ use lib.ListN.{length}
 use borrow.Author.Tests.{eqb-true, eqb-false, eq-eqb, ne-eqb, ltb-true}
 use Rattle.frame.specs.Bytes.{Bytes, all, has}
 use Rattle.frame.specs.Frame.{fixt, Good}
-use Rattle.fields.specs.Field.{parts, firstField}
-use Rattle.frame.proofs.Numerals.{both}
+use Rattle.fields.specs.Field.{firstField}
+use Rattle.frame.proofs.Tests.{both, neither, or-last}
 use Rattle.dictionary.specs.declared.MsgType.{MsgType}
 use Rattle.dictionary.specs.declared.Verdict.the-variants.{Clean}
 use Rattle.dictionary.specs.Dictionary.{code35, administrative, typeOf, rowsOf, listed}
@@ -22,7 +22,7 @@ use Rattle.writer.specs.Call.{unwritable, refused8}
 use Rattle.writer.proofs.Rows.{plain-of, Fit, FitOne, partsOf, cut-row, orLater, shownFor, first-of-row}
 use Rattle.writer.proofs.Frames.{AllBytes, sound-row, good-framed, begins-35}
 use Rattle.writer.proofs.Wholes.{body-true, framed-one}
-use Rattle.writer.proofs.Accepted.{accepted, or-last, neither}
+use Rattle.writer.proofs.Accepted.{accepted}
 use Rattle.writer.proofs.Seven.{filtered-has, known, named, withType, message-is, type-fits, type-read}
 use Rattle.writer.proofs.Clean.{message-clean}
 use Rattle.writer.proofs.Sizes.{Fine, not-own, fine-first, fine-later, all-fine, type-byte, body-length, body-longest}
@@ -122,10 +122,7 @@ module _ (m : MsgType) (a : administrative m ≡ true) (vs : ℕ → Value) (ok 
       let c = cut-row (message m vs) well-formed ∙ ap partsOf (message-is vs m a) in
       rw (B, type-read (row (valued vs (order m))) m a) (ap (walk m nothingYet) c ∙ message-clean m a (withType m vs) whole-fine)
 
-  -- THE VALUES ARE READ BACK: the parts are the fields in order, and the first field of each tag is its value
-  pub written-parts : parts body ≡ partsOf (message m vs)
-  written-parts = cut-row (message m vs) well-formed
-
+  -- THE VALUES ARE READ BACK: the first field of each tag is its value
   first-is : (t : ℕ) → firstField t body ≡ cond (has (35 ∷ order m) t) (shown (withType m vs t)) none
   first-is t = first-of-row t (message m vs) well-formed ∙ ap (shownFor t) (message-is vs m a) ∙ shown-valued t (withType m vs) (35 ∷ order m)
 

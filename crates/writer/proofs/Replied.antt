@@ -7,7 +7,7 @@ use lib.Dec.{leb}
 use lib.ListN.{length}
 use borrow.Author.Tests.{leb-true, leb-false, le-leb, lt-leb, not-true, not-false}
 use Rattle.frame.specs.Bytes.{Bytes}
-use Rattle.frame.proofs.Numerals.{both, and-true}
+use Rattle.frame.proofs.Tests.{both, both-true}
 use Rattle.writer.specs.Wrote.{Wrote}
 use Rattle.writer.specs.Ranges.{Ranged}
 use Rattle.writer.specs.Replied.{sendable, rejectable, Replied}
@@ -80,7 +80,7 @@ module _ {b all : Bool} (tested : b ≡ all) where
 
   pub put : {d d′ : Bytes} {at to room : ℕ} {xs : Bytes} {own : Bool} → not b ≡ false → own ≡ true → Wrote d d′ at to xs → to ≤ at + room → Replied (all && own) d d′ at to room xs
   put {own = own} h e w l =
-      let fit = and-true all own (sym tested ∙ not-false b h) e in
+      let fit = both-true all own (sym tested ∙ not-false b h) e in
       record { written = λ t. (w, l); refused = λ f. absurd (false≢true (sym f ∙ fit)) }
 
 -- any two outcomes that the contract of a call allows are equal

@@ -1,5 +1,5 @@
 -- What holds of each of the seven administrative messages, by tests that antt computes.
-use Prim.Native.Nat.{ℕ, _+_}
+use Prim.Native.Nat.{ℕ}
 use mathlib.Core.Path.{_≡_, refl, sym, ap, _∙_}
 use mathlib.Core.List.{List, [], _∷_, _++_}
 use mathlib.Core.Bool.{Bool, true, false, cond, not, _&&_, _||_, false≢true}
@@ -12,7 +12,7 @@ use native.Mathlib.Omega.{arith}
 use borrow.Author.Tests.{eqb-true}
 use Rattle.frame.specs.Bytes.{Bytes, any, all, has, same, within, decimal}
 use Rattle.dictionary.specs.Dictionary.{header, fields, №453, №580, code35, typeOf, administrative, listed, groupsOf, member, rowsOf, frameTag, inDictionary}
-use Rattle.frame.proofs.Numerals.{both}
+use Rattle.frame.proofs.Tests.{both}
 use Rattle.kinds.proofs.Values.{same-true}
 use Rattle.dictionary.specs.Verdict.{msgType}
 use Rattle.fields.specs.Field.{firstField}

@@ -9,7 +9,7 @@ use lib.Dec.{eqb, leb, ltb}
 use lib.ListN.{length, take, length-append}
 use borrow.Author.Tests.{eqb-true, eq-eqb, leb-true}
 use Rattle.frame.specs.Bytes.{Bytes, fix, any, all, has, decimal}
-use Rattle.frame.proofs.Numerals.{both}
+use Rattle.frame.proofs.Tests.{both, neither, or-last}
 use Rattle.kinds.specs.Kind.{kindOf}
 use Rattle.dictionary.specs.declared.MsgType.{MsgType}
 use Rattle.dictionary.specs.Dictionary.{№453, №580, header, fields, code35, administrative, groupsOf, rowsOf, listed, kindIn}
@@ -17,7 +17,7 @@ use Rattle.writer.specs.Message.{Value, _is_, shown, tagged, row, valued
 use Rattle.writer.specs.Tags.{tags}
 use Rattle.writer.specs.Call.{unwritable, unfit}
 use Rattle.writer.specs.Held.{most}
-use Rattle.writer.proofs.Accepted.{accepted, or-last, neither, kind-length}
+use Rattle.writer.proofs.Accepted.{accepted, kind-length}
 use Rattle.writer.proofs.Seven.{each, filtered, known}
 
 -- each of some values is fit

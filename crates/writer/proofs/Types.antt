@@ -2,19 +2,21 @@
 use Prim.Native.Nat.{ℕ}
 use native.Mathlib.Omega.{arith}
 use mathlib.Core.Path.{_≡_, refl, sym, ap, _∙_}
-use mathlib.Core.List.{List, [], _∷_}
-use mathlib.Core.Bool.{Bool, true, false, cond, not, _&&_, false≢true}
+use mathlib.Core.List.{[], _∷_}
+use mathlib.Core.Bool.{Bool, true, false, cond, _&&_}
 use mathlib.Core.Option.{Option, none, some}
 use lib.Dec.{eqb}
 use lib.ListN.{length, getD}
 use borrow.Author.Tests.{ne-eqb}
 use Rattle.frame.specs.Bytes.{Bytes, fix, same}
-use Rattle.frame.proofs.Marks.{allBelow, at-below}
-use Rattle.frame.proofs.Numerals.{both}
-use Rattle.kinds.proofs.Values.{same-long, same-true}
+use Rattle.frame.proofs.Tests.{both, allBelow, at-below}
+use Rattle.kinds.proofs.Values.{same-long}
 use Rattle.dictionary.specs.declared.MsgType.{MsgType}
 use Rattle.dictionary.specs.declared.MsgType.the-variants.{OrderCancelRequest, TradeCaptureReportRequest}
 use Rattle.dictionary.specs.Dictionary.{code35, theNine, typeAmong, typeOf, rowsOf, listed, administrative}
+use Rattle.dictionary.specs.Held.{agree}
+use Rattle.dictionary.proofs.Lists.{agree-true}
+use Rattle.dictionary.proofs.Types.{one-byte, type-coded}
 use Rattle.writer.specs.Message.{own}
 use Rattle.writer.specs.Call.{required, ifAdministrative, admin}
 use Rattle.writer.specs.declared.fill.Admin.the-variants.{Is, Other}
@@ -22,25 +24,20 @@ use Rattle.writer.specs.declared.fill.Marks.{Marks}
 use Rattle.writer.specs.Held.{typeIn, bitOf, tagAt, Marked}
 
 -- THE TYPE
-pub one-list : (v : Bytes) (x : ℕ) → length v ≡ 1 → getD v 0 0 ≡ x → v ≡ x ∷ []
-one-list [] x n e = absurd (omega arith)
-one-list (y ∷ []) x n e = ap (λ (z : ℕ). z ∷ []) e
-one-list (y ∷ z ∷ v) x n e = absurd (omega arith)
-
 -- one of the others is none of the seven
 application : (b : Bool) (m : MsgType) → administrative m ≡ false → ifAdministrative (cond b (some m) none) ≡ none
 application true m a = rw a
 application false m a = refl
 
 pub typed : (v : Bytes) → length v ≡ 1 → (x : ℕ) (m : MsgType) → admin (x ∷ []) ≡ some m → getD v 0 0 ≡ x → typeIn (Is m) ≡ admin v
-typed v one x m a e = sym (ap admin (one-list v x one e) ∙ a)
+typed v one x m a e = sym (ap admin (sym (one-byte v one) ∙ ap (λ (z : ℕ). z ∷ []) e) ∙ a)
 
 pub type-other : (v : Bytes) → length v ≡ 1 → (getD v 0 0 ≡ 48 → ⊥) → (getD v 0 0 ≡ 49 → ⊥) → (getD v 0 0 ≡ 50 → ⊥) → (getD v 0 0 ≡ 51 → ⊥) → (getD v 0 0 ≡ 52 → ⊥)
     → (getD v 0 0 ≡ 53 → ⊥) → (getD v 0 0 ≡ 65 → ⊥) → typeIn Other ≡ admin v
 unfolding admin typeOf code35 administrative
 type-other v one a b c d e f g =
     sym
-    (ap admin (one-list v (getD v 0 0) one refl)
+    (ap admin (sym (one-byte v one))
     ∙ rw (ne-eqb _ 48 a, ne-eqb _ 49 b, ne-eqb _ 50 c, ne-eqb _ 51 d, ne-eqb _ 52 e, ne-eqb _ 53 f, ne-eqb _ 65 g)
     (application (eqb (getD v 0 0) 70 && true) OrderCancelRequest refl))
 
@@ -56,20 +53,12 @@ pub record Named (m : MsgType) (v : Bytes) : Type 0 where
   pub administers : administrative m ≡ true
   pub coded : v ≡ code35 m
 
-among-coded : (ms : List MsgType) (v : Bytes) (m : MsgType) → typeAmong ms v ≡ some m → v ≡ code35 m
-among-coded [] v m e = let z : _≡_ {A = ℕ} 0 1 = cc in absurd (omega arith)
-among-coded (n ∷ ms) v m e = go (same v (code35 n)) refl e (among-coded ms v m)
-  where
-    go : (b : Bool) → same v (code35 n) ≡ b → cond b (some n) (typeAmong ms v) ≡ some m → (typeAmong ms v ≡ some m → v ≡ code35 m) → v ≡ code35 m
-    go true k e f = let q : n ≡ m = cc in same-true v (code35 n) k ∙ ap code35 q
-    go false k e f = f e
-
 pub named-by : (v : Bytes) (m : MsgType) → some m ≡ admin v → Named m v
 unfolding admin typeOf
 named-by v m e = go (typeAmong theNine v) refl e
   where
     inner : (n : MsgType) (b : Bool) → administrative n ≡ b → typeAmong theNine v ≡ some n → some m ≡ cond b (some n) none → Named m v
-    inner n true a k e = let q : m ≡ n = cc in record { administers = ap administrative q ∙ a; coded = among-coded theNine v m (k ∙ ap some (sym q)) }
+    inner n true a k e = let q : m ≡ n = cc in record { administers = ap administrative q ∙ a; coded = type-coded v m (k ∙ ap some (sym q)) }
     inner n false a k e = let z : _≡_ {A = ℕ} 0 1 = cc in absurd (omega arith)
 
     go : (o : Option MsgType) → typeAmong theNine v ≡ o → some m ≡ ifAdministrative o → Named m v
@@ -77,15 +66,6 @@ named-by v m e = go (typeAmong theNine v) refl e
     go (some n) k e = inner n (administrative n) refl k e
 
 -- THE TABLES
-abbrev pub agree : Bool → Bool → Bool
-agree true b = b
-agree false b = not b
-
-pub agree-true : (a b : Bool) → agree a b ≡ true → a ≡ b
-agree-true true b h = sym h
-agree-true false true h = absurd (false≢true h)
-agree-true false false h = refl
-
 -- the marks of a message, by a test at each place
 unfoldable pub rightAt : MsgType → Marks → ℕ → Bool
 rightAt m r k = agree (bitOf (r .own) k) (listed (rowsOf m) (tagAt k)) && agree (bitOf (r .needed) k) (required m (tagAt k))

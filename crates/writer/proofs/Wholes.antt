@@ -1,5 +1,5 @@
 -- The test `good` says what the frame layer means by a good frame, and `bodyIn` is its body; so what is written determines the body.
-use Prim.Native.Nat.{ℕ, zero, suc, _+_, _-_, _≤_, _<_}
+use Prim.Native.Nat.{ℕ, zero, suc, _-_, _≤_, _<_}
 use native.Mathlib.Omega.{arith}
 use mathlib.Core.Path.{_≡_, refl, sym, ap, _∙_}
 use mathlib.Core.List.{[], _∷_, _++_, append-assoc}
@@ -12,13 +12,13 @@ use Rattle.frame.specs.Bytes.{Bytes, fix, starts, same, within, value, decimal,
 use Rattle.frame.specs.Frame.{fixt, Good, front, trailer, sumOf}
 use Rattle.frame.proofs.Numerals.{within-is, is-within}
 use Rattle.fields.specs.Field.{behind, isBody}
-use Rattle.frame.proofs.Numerals.{both, numeral-means}
+use Rattle.frame.proofs.Tests.{both, or-last}
+use Rattle.frame.proofs.Numerals.{numeral-means}
 use Rattle.frame.proofs.Decimals.{numeral-decimal}
 use Rattle.kinds.proofs.Values.{same-true, same-refl}
 use Rattle.writer.specs.Message.{framed}
 use Rattle.writer.specs.Whole.{occurs, bodyIn, good}
 use Rattle.writer.proofs.Rows.{Plain, plain-append, plain-decimal}
-use Rattle.writer.proofs.Accepted.{or-last}
 use Rattle.writer.proofs.Frames.{length-good, inside, framed-is}
 
 -- THE BODY OF WHAT IS WRITTEN

@@ -1,7 +1,8 @@
 -- The verdict: no body, no type, another type, or the walk.
 use borrow.Author.Needs.{needs}
 use native.Mathlib.Omega.{arith}
-use Rattle.dictionary.proofs.Types.{verdict-nobody, verdict-absent, verdict-other, verdict-walked, place-inside, body-short}
+use Rattle.fields.proofs.Firsts.{place-inside}
+use Rattle.dictionary.proofs.Types.{verdict-nobody, verdict-absent, verdict-other, verdict-walked, body-short}
 use Rattle.dictionary.proofs.walk.verdict_on.Statement.{statement}
 use Rattle.dictionary.proofs.walk.verdict_on.Tie as tie
 

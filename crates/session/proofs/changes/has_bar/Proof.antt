@@ -4,7 +4,7 @@ use Prim.Native.Nat.{_-_, _≤_}
 use mathlib.Core.Path.{_≡_, refl, sym, _∙_}
 use lib.ListN.{length, drop}
 use Rattle.frame.specs.Bytes.{has}
-use Rattle.session.proofs.Ranges.{bar-here, bar-next, bar-none}
+use Rattle.frame.proofs.Tests.{has-here, has-next, has-end}
 use Rattle.session.proofs.changes.has_bar.Statement.{statement}
 use Rattle.session.proofs.changes.has_bar.Tie as tie
 
@@ -23,7 +23,7 @@ shared-slice-read-if1 c = search needs
 returns : tie.Need-returns Inv-loop μ-loop
 returns c =
     let l = c .before .before .before in
-    sym (l .loop .inv .1 ∙ bar-here (l .before .args .s .now) (l .loop .i) (omega arith) (c .if1 .taken))
+    sym (l .loop .inv .1 ∙ has-here _ (l .loop .i) 1 (omega arith) (c .if1 .taken))
 
 add-i : tie.Need-add-i Inv-loop μ-loop
 add-i c = search needs
@@ -34,12 +34,12 @@ loop-less c = search needs
 loop-again : tie.Need-loop-again Inv-loop μ-loop
 loop-again c =
     let l = c .before .before .before in
-    (omega arith, l .loop .inv .1 ∙ bar-next (l .before .args .s .now) (l .loop .i) (omega arith) (c .if1 .left))
+    (omega arith, l .loop .inv .1 ∙ has-next _ (l .loop .i) 1 (omega arith) (c .if1 .left))
 
 returns-2 : tie.Need-returns-2 Inv-loop μ-loop
 returns-2 c =
     let l = c .before in
-    sym (l .loop .inv .1 ∙ bar-none (l .before .args .s .now) (l .loop .i) (omega arith))
+    sym (l .loop .inv .1 ∙ has-end _ (l .loop .i) 1 (omega arith))
 
 pub has-bar-spec : {M : Type 1} → statement M
 has-bar-spec =

@@ -1,6 +1,7 @@
 use borrow.Author.Needs.{needs}
 use native.Mathlib.Omega.{arith}
-use Rattle.session.proofs.Readings.{readings, place-inside}
+use Rattle.fields.proofs.Firsts.{place-inside}
+use Rattle.session.proofs.Readings.{readings}
 use Rattle.session.proofs.reads.holds.Statement.{statement}
 use Rattle.session.proofs.reads.holds.Tie as tie
 

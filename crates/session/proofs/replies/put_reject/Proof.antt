@@ -1,7 +1,7 @@
 -- `put_reject`: the Reject with the 34 and the type that stand in the body.
 use borrow.Author.Needs.{needs}
 use Rattle.session.proofs.Replying.{was-put, type-absent, type-named, type-other, type-short}
-use Rattle.session.proofs.Readings.{place-inside}
+use Rattle.fields.proofs.Firsts.{place-inside}
 use Rattle.writer.proofs.Replied.{is-rejectable}
 use native.Mathlib.Omega.{arith}
 use Rattle.session.proofs.replies.put_reject.Statement.{statement}

@@ -5,7 +5,7 @@ use Prim.Native.Nat.{_-_, _≤_}
 use mathlib.Core.Path.{_≡_, refl, sym, _∙_}
 use lib.ListN.{length, drop}
 use Rattle.frame.specs.Bytes.{has}
-use Rattle.writer.proofs.Fitness.{has-here, has-next, has-end}
+use Rattle.frame.proofs.Tests.{has-here, has-next, has-end}
 use Rattle.writer.proofs.fill.has_bar.Statement.{statement}
 use Rattle.writer.proofs.fill.has_bar.Tie as tie
 
@@ -24,7 +24,7 @@ shared-slice-read-if1 c = search needs
 returns : tie.Need-returns Inv-loop μ-loop
 returns c =
     let l = c .before .before .before .loop in
-    sym (l .inv .1 ∙ has-here _ (l .i) (omega arith) (c .if1 .taken))
+    sym (l .inv .1 ∙ has-here _ (l .i) 1 (omega arith) (c .if1 .taken))
 
 add-i : tie.Need-add-i Inv-loop μ-loop
 add-i c = search needs
@@ -35,12 +35,12 @@ loop-less c = search needs
 loop-again : tie.Need-loop-again Inv-loop μ-loop
 loop-again c =
     let l = c .before .before .before .loop in
-    (omega arith, l .inv .1 ∙ has-next _ (l .i) (omega arith) (c .if1 .left))
+    (omega arith, l .inv .1 ∙ has-next _ (l .i) 1 (omega arith) (c .if1 .left))
 
 returns-2 : tie.Need-returns-2 Inv-loop μ-loop
 returns-2 c =
     let l = c .before .loop in
-    sym (l .inv .1 ∙ has-end _ (l .i) (omega arith))
+    sym (l .inv .1 ∙ has-end _ (l .i) 1 (omega arith))
 
 pub has-bar-spec : {M : Type 1} → statement M
 has-bar-spec =
