@@ -1,3 +1,4 @@
+-- `is_body`: the length, the first three bytes and the last one, each by its test.
 use borrow.Author.Needs.{needs}
 use borrow.Author.Tests.{lt-leb, le-leb, eq-eqb, ne-eqb}
 use mathlib.Core.Path.{sym}

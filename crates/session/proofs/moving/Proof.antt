@@ -1,3 +1,4 @@
+-- `moving`: by the status, the move that the definition makes.
 use borrow.Author.Needs.{needs}
 use Rattle.session.proofs.Stepping.{ample, logon-clean, wait-shut, wait-open, act, stay}
 use Rattle.session.proofs.Fitting.{active-fit, waiting-fit}

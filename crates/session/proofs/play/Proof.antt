@@ -1,3 +1,4 @@
+-- `play`: the reply put and the record changed are what the deeds leave.
 use borrow.Author.Needs.{needs}
 use Rattle.session.specs.Held.{sessionOf}
 use Rattle.session.proofs.Playing.{carried-of, played}

@@ -1,3 +1,4 @@
+-- `tick`: 11, 7, 6, the status, 5, and whether a Heartbeat is due.
 use borrow.Author.Needs.{needs}
 use Rattle.session.proofs.Ticking.{tick-11, tick-7, tick-6, tick-idle, tick-5, tick-early, tick-beat}
 use Rattle.session.proofs.Stepping.{ranged-is, ready-by, ample}

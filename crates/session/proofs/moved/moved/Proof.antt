@@ -1,3 +1,4 @@
+-- `moved`: the record behind each move, case by case.
 use borrow.Author.Needs.{needs}
 use Rattle.session.proofs.Behind.{by-move, moved-reject, moved-both}
 use mathlib.Core.Path.{refl}

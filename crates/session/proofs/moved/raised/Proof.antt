@@ -1,3 +1,4 @@
+-- `raised`: E + 1 where the message counts.
 use borrow.Author.Needs.{needs}
 use Rattle.session.proofs.Behind.{raised-is, raised-not}
 use native.Mathlib.Omega.{arith}

@@ -1,3 +1,4 @@
+-- `type_in`: the type that the first field 35 names, as a byte.
 use borrow.Author.Needs.{needs}
 use native.Mathlib.Omega.{arith}
 use Rattle.fields.proofs.Firsts.{place-inside}

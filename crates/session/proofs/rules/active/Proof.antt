@@ -1,3 +1,4 @@
+-- `active`: the first of the six rules that fits.
 use borrow.Author.Needs.{needs}
 use Rattle.session.proofs.Choosing.{first-2, is-N}
 use Rattle.session.specs.Held.{sessionOf}

@@ -1,3 +1,4 @@
+-- `bare_reset`: rule 3.
 use borrow.Author.Needs.{needs}
 use native.Mathlib.Omega.{arith}
 use Rattle.session.proofs.Deciding.{deciding}

@@ -1,3 +1,4 @@
+-- `filled`: rule 6 for a gap fill.
 use borrow.Author.Needs.{needs}
 use native.Mathlib.Omega.{arith}
 use Rattle.session.proofs.Deciding.{deciding}

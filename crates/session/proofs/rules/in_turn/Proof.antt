@@ -1,3 +1,4 @@
+-- `in_turn`: rule 6, type by type behind the verdict.
 use borrow.Author.Needs.{needs}
 use Rattle.session.proofs.Choosing.{turn-other}
 use Rattle.session.specs.Held.{sessionOf}

@@ -1,3 +1,4 @@
+-- `rejected`: the Reject of a verdict, with its reason and tag.
 use borrow.Author.Needs.{needs}
 use native.Mathlib.Omega.{arith}
 use Rattle.session.proofs.Deciding.{deciding}

@@ -1,3 +1,4 @@
+-- `serve`: a Resend Request in turn, served or rejected.
 use borrow.Author.Needs.{needs}
 use native.Mathlib.Omega.{arith}
 use Rattle.session.proofs.Deciding.{deciding}

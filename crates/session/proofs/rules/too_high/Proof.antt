@@ -1,3 +1,4 @@
+-- `too_high`: rule 4.
 use borrow.Author.Needs.{needs}
 use native.Mathlib.Omega.{arith}
 use Rattle.session.proofs.Deciding.{deciding}

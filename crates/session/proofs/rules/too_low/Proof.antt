@@ -1,3 +1,4 @@
+-- `too_low`: rule 5.
 use borrow.Author.Needs.{needs}
 use native.Mathlib.Omega.{arith}
 use Rattle.session.proofs.Deciding.{deciding}

@@ -1,3 +1,4 @@
+-- `waiting`: a logon that comes to the moves.
 use borrow.Author.Needs.{needs}
 use native.Mathlib.Omega.{arith}
 use Rattle.session.proofs.Choosing.{choosing}
