@@ -18,8 +18,8 @@ use super::table::place_of;
 use super::table::table;
 use fields::Item;
 use fields::Place;
-use fields::first_field;
 use fields::is_body;
+use fields::type_field;
 use kinds::same;
 ghost use mathlib.Core.Path.{_≡_};
 ghost use Prim.Native.Nat.{_≤_};
@@ -167,7 +167,7 @@ pub fn verdict_on(body: &[u8]) -> Verdict
     if !is_body(body) {
         return Verdict::NoBody;
     }
-    let Place::At { start, end } = first_field(body, 35) else {
+    let Place::At { start, end } = type_field(body) else {
         return Verdict::Finding {
             reason: 11,
             tag: 35,

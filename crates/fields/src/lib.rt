@@ -3,6 +3,7 @@ use frame::digits;
 ghost use mathlib.Core.Path.{_≡_};
 ghost use Prim.Native.Nat.{_≤_};
 ghost use lib.ListN.{length};
+ghost use Rattle.frame.specs.Bytes.{fix, starts};
 ghost use Rattle.fields.specs.Field.{isBody};
 ghost use Rattle.fields.specs.Item.{Cut, fieldAt};
 ghost use Rattle.fields.specs.First.{First};
@@ -112,6 +113,25 @@ pub fn item_at(body: &[u8], at: usize) -> Item
     }
 }
 
+// Whether bytes begin with `35=`, as every body does.
+fn begins_with_type(b: &[u8]) -> bool
+    ensures { λ r. ⌜ r ≡ starts (fix "35=") (now (b .entry)) ⌝ }
+{
+    if b.len() < 3 {
+        return false;
+    }
+    if b[0] != 51 {
+        return false;
+    }
+    if b[1] != 53 {
+        return false;
+    }
+    if b[2] != 61 {
+        return false;
+    }
+    true
+}
+
 // 5 to 2,048 bytes that begin `35=` and end with `|`.
 pub fn is_body(b: &[u8]) -> bool
     ensures { λ r. ⌜ r ≡ isBody (now (b .entry)) ⌝ }
@@ -123,13 +143,7 @@ pub fn is_body(b: &[u8]) -> bool
     if 2048 < n {
         return false;
     }
-    if b[0] != 51 {
-        return false;
-    }
-    if b[1] != 53 {
-        return false;
-    }
-    if b[2] != 61 {
+    if !begins_with_type(b) {
         return false;
     }
     b[n - 1] == 1
@@ -183,6 +197,17 @@ pub fn first_field(body: &[u8], tag: u32) -> Place
             Item::NoBody => return Place::Absent,
         }
     }
+}
+
+// Where the first field 35 lies: in a body no part is looked at but the first.
+pub fn type_field(body: &[u8]) -> Place
+    ensures { λ r. ⌜ First 35 (now (body .entry)) r ⌝ }
+{
+    if !begins_with_type(body) {
+        return first_field(body, 35);
+    }
+    let end = bar(body, 3);
+    Place::At { start: 3, end }
 }
 
 // A reader over one body: it keeps its place in it.

@@ -1,5 +1,5 @@
 -- F2: any two outcomes that a reading's contract allows are equal; and what an outcome says of bytes that are one good frame.
-use Prim.Native.Nat.{ℕ, zero, suc, _≤_, _<_}
+use Prim.Native.Nat.{ℕ, zero, suc, _+_, _≤_, _<_}
 use native.Mathlib.Omega.{arith}
 use native.Mathlib.Decide.{decLt}
 use mathlib.Core.Path.{_≡_, refl, sym, ap, ap₂, _∙_, subst}
@@ -8,8 +8,9 @@ use mathlib.Core.Bool.{Bool, true, false}
 use mathlib.Core.List.{List, [], _∷_}
 use lib.ListN.{length, take, drop, length-take}
 use lib.Seq.{take-length}
-use Rattle.frame.specs.Bytes.{Bytes}
+use Rattle.frame.specs.Bytes.{Bytes, value}
 use Rattle.frame.specs.Frame.{Rule, Good, GoodAt, Live, BodyOf, its-body, no-frame}
+use Rattle.frame.specs.Leaf.{Number, Digits}
 use Rattle.frame.specs.Reading.{Answer, frame, refusal, numbers, Leftmost, Unfinished, Reads, answered, Handed}
 use Rattle.frame.specs.declared.Reading.{Reading}
 use Rattle.frame.specs.declared.Reading.the-variants.{Frame, NoFrame}
@@ -119,3 +120,30 @@ body-one R {f} (its-body G) (its-body H) = good-body R f G H
 body-one R (its-body G) (no-frame h) = absurd (h G)
 body-one R (no-frame h) (its-body G) = absurd (h G)
 body-one R (no-frame h) (no-frame k) = refl
+
+-- of asking whether bytes are one good frame
+pub whether-one : (R : Rule) {s : Bytes} (b b′ : Bool) → (b ≡ true → Good R s) × (Good R s → b ≡ true) → (b′ ≡ true → Good R s) × (Good R s → b′ ≡ true) → b ≡ b′
+whether-one R true b′ A B = sym (B .1 (A .0 refl))
+whether-one R false true A B = A .1 (B .0 refl)
+whether-one R false false A B = refl
+
+-- of reading digits
+number-one : {s : Bytes} {p most v c v′ c′ : ℕ} → Number s p most v c → Number s p most v′ c′ → (v ≡ v′) × (c ≡ c′)
+number-one {s} {p} {most} {c = c} {c′ = c′} A B =
+    let e : c ≡ c′ = omega (arith, not-more A B, not-more B A) in
+    (A .worth ∙ ap (λ (n : ℕ). value (take n (drop p s))) e ∙ sym (B .worth), e)
+  where
+    not-more : {v v′ c c′ : ℕ} → Number s p most v c → Number s p most v′ c′ → c′ ≤ c
+    not-more {c = c} {c′ = c′} X Y = go (decLt c c′)
+      where
+        go : Dec (c < c′) → c′ ≤ c
+        go (yes l) = absurd (X .stop (omega (arith, Y .few)) (omega (arith, Y .within)) (Y .digits c l))
+        go (no l) = omega arith
+
+pub digits-one : {s : Bytes} {p most v c v′ c′ : ℕ} → Digits s p most v c → Digits s p most v′ c′ → (v ≡ v′) × (c ≡ c′)
+digits-one {s} {p} {most} {v} {c} {v′} {c′} A B = go (decLt (length s) p) (decLt 12 most)
+  where
+    go : Dec (length s < p) → Dec (12 < most) → (v ≡ v′) × (c ≡ c′)
+    go (yes l) d = (A .behind l .0 ∙ sym (B .behind l .0), A .behind l .1 ∙ sym (B .behind l .1))
+    go (no l) (yes h) = (A .above h .0 ∙ sym (B .above h .0), A .above h .1 ∙ sym (B .above h .1))
+    go (no l) (no h) = number-one (A .inside (omega arith) (omega arith)) (B .inside (omega arith) (omega arith))

@@ -5,6 +5,7 @@ use dictionary::Named;
 use dictionary::type_of;
 use fields::Place;
 use fields::first_field;
+use fields::type_field;
 use writer::gap_fill;
 use writer::heartbeat;
 use writer::logon;
@@ -40,7 +41,7 @@ fn put_reject(
     ensures room { λ r. ⌜ r ≤ 173 ⌝ }
 {
     let refused = number_in(body, 34, 1);
-    let Place::At { start, end } = first_field(body, 35) else {
+    let Place::At { start, end } = type_field(body) else {
         return reject(buf, 0, us, them, n, stamp, refused, tag, false, b"", reason);
     };
     let v = &body[start..end];
