@@ -8,7 +8,7 @@ use mathlib.Core.List.{List, [], _∷_, _++_, append-assoc}
 use lib.ListN.{length, take, drop, getD, length-append, length-drop, take-append-drop, List·getD-eq-default}
 use lib.Seq.{getD-drop, getD-take, drop-drop}
 use Rattle.frame.specs.Bytes.{Bytes, value, At}
-use Rattle.frame.specs.Leaf.{Matched, Stands}
+use Rattle.frame.specs.Leaf.{Matched, Stands, Here}
 use Rattle.frame.specs.Frame.{Rule, Body, GoodAt, Live, trailer, sumOf}
 use Rattle.frame.specs.Walk.{SizeSeen, BodySeen, Open}
 use Rattle.frame.specs.Mark.{MarkOk}
@@ -34,7 +34,7 @@ module _ (R : Rule) (s : Bytes) (p a n : ℕ) (S : SizeSeen R s p a n) where
   pub size-range : (5 ≤ n) × (n ≤ 2048)
   size-range = omega (arith, S .worth, S .len .low, S .len .high)
 
-  body-place : a ≡ p + (length (R .mark) + (length ds + 1))
+  pub body-place : a ≡ p + (length (R .mark) + (length ds + 1))
   body-place =
       omega (arith, ap length (S .split), S .within, length-append (R .mark) (ds ++ (1 ∷ drop a s)), length-append ds (1 ∷ drop a s), length-drop p s, length-drop a s)
 
@@ -61,9 +61,8 @@ module _ (R : Rule) (s : Bytes) (p a n : ℕ) (S : SizeSeen R s p a n) where
       ∙ ap (λ (z : ℕ). getD (B .good .body) z 0) (sym (zero-add m))
       ∙ at-byte (B .good .body) 0 type-tag (B .good .inner .begins) m l)
 
-  pub mark-inside : (e : ℕ) → e ≤ a + n → Stands s a e (R .mark) → Live R s p → ⊥
-  mark-inside e k A w =
-      let q = A .place in
+  pub mark-inside : (e : ℕ) → e ≤ a + n → (q : ℕ) → Here s a e (R .mark) q → Live R s p → ⊥
+  mark-inside e k q A w =
       let t = w .more in
       let F : GoodAt R (s ++ t) p (w .size) = w .goodAt in
       let B = begun R s p before-end w in

@@ -10,7 +10,7 @@ use Rattle.frame.specs.Leaf.{Matched}
 use Rattle.frame.specs.Frame.{Rule, Good, Live, front, trailer, sumOf}
 use Rattle.frame.specs.Walk.{MarkSeen, Open}
 use Rattle.frame.specs.Mark.{MarkOk}
-use Rattle.frame.proofs.Lists.{matched-at}
+use Rattle.frame.proofs.Lists.{matched-at, bytes-at}
 use Rattle.frame.proofs.Numerals.{Digits, split-digits}
 use Rattle.frame.proofs.Good.{good-split, good-digits}
 use Rattle.frame.proofs.Complete.{Comp, open-of, comp-more, comp-mark}
@@ -87,6 +87,10 @@ module _ (R : Rule) where
       let l : m < length (R .mark) = omega (arith, M .most) in
       let n : p + m < length s = omega (arith, M .within) in
       M .stop l n (live-byte s p m n l w)
+
+  -- there is room for the mark, and it does not stand there
+  pub mark-unlike : (s : Bytes) (p : ℕ) → p + length (R .mark) ≤ length s → (At s p (R .mark) → ⊥) → Live R s p → ⊥
+  mark-unlike s p h none w = none (bytes-at s p (R .mark) h (λ i k. live-byte s p i (omega arith) k w))
 
   module _ (ok : MarkOk (R .mark)) where
     pub mark-short : (s : Bytes) (p m : ℕ) → 1 ≤ R .most → Matched s p (R .mark) m → p + m ≡ length s → Open R s p

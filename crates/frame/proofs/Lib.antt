@@ -1,5 +1,6 @@
 pub mod Tests
 pub mod Lists
+pub mod Words
 pub mod Numerals
 pub mod Good
 pub mod Unique
@@ -10,6 +11,7 @@ pub mod AtMark
 pub mod AtTrailer
 pub mod AtBody
 pub mod AtSize
+pub mod Past
 pub mod Search
 pub mod Lines
 pub mod Bodies

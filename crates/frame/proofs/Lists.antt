@@ -9,7 +9,7 @@ use mathlib.Core.List.{[], _∷_, _++_, append-assoc}
 use lib.ListN.{length, take, drop, getD, length-drop, length-append, List·getD-append}
 use lib.Seq.{take-suc, getD-drop, getD-take, ext-getD, length-take-le, drop-append-le, take-append-le}
 use Rattle.frame.specs.Bytes.{Bytes, sum, value, valueFrom, At}
-use Rattle.frame.specs.Leaf.{Matched, FirstByte, NextStart, Around, Stands}
+use Rattle.frame.specs.Leaf.{Matched, FirstByte, NextStart, Around, Stands, Searched}
 use native.Mathlib.Decide.{decLt}
 
 -- one more byte of a part
@@ -143,6 +143,13 @@ next-from s p x j F =
       none = λ q l h. F .none (q + 4) (omega (arith, F .low)) (omega arith);
     }
 
+-- the same where the first place is looked at by itself
+pub next-behind : (s : Bytes) (p x j : ℕ) → (getD s (p + 4) 0 ≡ x → ⊥) → FirstByte s (p + 4 + 1) (length s) x j → NextStart s p x (j - 4)
+next-behind s p x j f F = next-from s p x j (first-further s (p + 4) (p + 4 + 1) (length s) x j (omega arith) none F)
+  where
+    none : (q : ℕ) → q < p + 4 + 1 → p + 4 ≤ q → getD s q 0 ≡ x → ⊥
+    none q l h e = let w : p + 4 ≡ q = omega arith in f (ap (λ (z : ℕ). getD s z 0) w ∙ e)
+
 -- ---- a literal looked for by its fifth byte
 module _ (s : Bytes) (a e : ℕ) (lit : Bytes) (five : 5 ≤ length lit) where
   -- it stands nowhere between a and e with its fifth byte before i
@@ -163,5 +170,8 @@ module _ (s : Bytes) (a e : ℕ) (lit : Bytes) (five : 5 ≤ length lit) where
       go (yes y) = none q y k l A
       go (no y) = B .none t q (omega arith) k l A
 
-  pub none-at-all : (i : ℕ) → e ≤ i → NoneTo i → Stands s a e lit → ⊥
-  none-at-all i h none S = none (S .place) (omega (arith, S .high)) (S .low) (S .high) (S .there)
+  pub none-end : (i : ℕ) → e ≤ i → NoneTo i → (q : ℕ) → q < e → a ≤ q → q + length lit ≤ e → At s q lit → ⊥
+  none-end i h none q _ k l A = none q (omega arith) k l A
+
+  pub none-at-all : (r : ℕ) → Searched s a e lit r → (r < e → ⊥) → Stands s a e lit → ⊥
+  none-at-all r F h S = F .none (S .place) (omega (arith, S .high)) (S .low) (S .high) (S .there)

@@ -31,6 +31,7 @@ module _ (m : Bytes) where
   pub record MarkTest : Type 0 where
     pub bytes : allBelow (length m) a-byte ≡ true
     pub long : leb 8 (length m) ≡ true
+    pub short : leb (length m) 16 ≡ true
     pub first : not (true && eqb (getD m 0 0) 1) ≡ true
     pub second : not (true && eqb (getD m 1 0) 1) ≡ true
     pub second-digit : not (true && digit (getD m 1 0)) ≡ true
@@ -44,6 +45,7 @@ module _ (m : Bytes) where
       record {
         bytes = λ i l. ltb-true _ 256 (at-below (length m) a-byte (t .bytes) i l);
         long = leb-true 8 (length m) (t .long);
+        short = leb-true (length m) 16 (t .short);
         first = λ e. apart true _ (t .first) refl (eq-eqb _ _ e);
         second = λ e. apart true _ (t .second) refl (eq-eqb _ _ e);
         second-digit = λ h. apart true _ (t .second-digit) refl (is-digit _ h);
@@ -56,9 +58,9 @@ module _ (m : Bytes) where
 pub fixt-ok : MarkOk (fixt .mark)
 unfolding fixt
 fixt-ok =
-    mark-ok (fixt .mark) (record { bytes = refl; long = refl; first = refl; second = refl; second-digit = refl; last = refl; alone = refl; soh = refl; end = refl })
+    mark-ok (fixt .mark) (record { bytes = refl; long = refl; short = refl; first = refl; second = refl; second-digit = refl; last = refl; alone = refl; soh = refl; end = refl })
 
 pub fix42-ok : MarkOk (fix42 .mark)
 unfolding fix42
 fix42-ok =
-    mark-ok (fix42 .mark) (record { bytes = refl; long = refl; first = refl; second = refl; second-digit = refl; last = refl; alone = refl; soh = refl; end = refl })
+    mark-ok (fix42 .mark) (record { bytes = refl; long = refl; short = refl; first = refl; second = refl; second-digit = refl; last = refl; alone = refl; soh = refl; end = refl })

@@ -10,7 +10,7 @@ use Rattle.frame.specs.Bytes.{Bytes}
 use Rattle.frame.specs.Leaf.{NextStart}
 use Rattle.frame.specs.Frame.{Rule, GoodAt, Live}
 use Rattle.frame.specs.Reading.{frame, Leftmost, Unfinished, Reads, answered, Handed}
-use Rattle.frame.specs.Walk.{Open, Ended}
+use Rattle.frame.specs.Walk.{Open, Ended, Past}
 use Rattle.frame.specs.Mark.{MarkOk}
 use Rattle.frame.proofs.Lists.{part-length}
 use Rattle.frame.proofs.Good.{good-at-length, good-live, open-none}
@@ -28,6 +28,14 @@ module _ (R : Rule) (s : Bytes) where
       go : Dec (i < p) → ⊥
       go (yes y) = dead i y w
       go (no y) = F .none i l (omega arith) (live-byte R s i 4 (F .inside i l (omega arith)) (omega (arith, ok .long)) w)
+
+  -- nor are those that a wrong candidate leaves behind
+  pub dead-past : (p n : ℕ) → Past R s p n → Dead p → Dead n
+  dead-past p n F dead q l w = go (decLt q p)
+    where
+      go : Dec (q < p) → ⊥
+      go (yes y) = dead q y w
+      go (no y) = F .none q l (omega arith) w
 
   answered-frame : (at n : ℕ) → 0 < n → frame at n ≡ answered at n
   answered-frame at zero h = absurd (omega arith)

@@ -1,5 +1,5 @@
 -- What the leaves of the scan answer. Only the code's walk needs these: nothing here states document 01.
-use Prim.Native.Nat.{ℕ, _+_, _≤_, _<_}
+use Prim.Native.Nat.{ℕ, _+_, _-_, _*_, _≤_, _<_}
 use mathlib.Core.Path.{_≡_}
 use mathlib.Core.Bool.{Bool, true, false}
 use lib.ListN.{length, take, drop, getD}
@@ -8,6 +8,23 @@ use Rattle.frame.specs.Bytes.{Bytes, value, At}
 -- a decimal digit, as two orders
 abbrev pub Digit : ℕ → Type 0
 Digit d = (48 ≤ d) × (d ≤ 57)
+
+-- eight bytes as one number, the first one least
+abbrev pub wordAt : Bytes → ℕ → ℕ
+wordAt s i =
+    getD s i 0
+    + getD s (i + 1) 0 * 256
+    + getD s (i + 2) 0 * 65536
+    + getD s (i + 3) 0 * 16777216
+    + getD s (i + 4) 0 * 4294967296
+    + getD s (i + 5) 0 * 1099511627776
+    + getD s (i + 6) 0 * 281474976710656
+    + getD s (i + 7) 0 * 72057594037927936
+
+-- whether lit stands in s at p
+pub record Standing (s : Bytes) (p : ℕ) (lit : Bytes) (r : Bool) : Type 0 where
+  pub found : r ≡ true → At s p lit
+  pub none : r ≡ false → At s p lit → ⊥
 
 -- r bytes of lit, and not one more, stand in s from p on
 pub record Matched (s : Bytes) (p : ℕ) (lit : Bytes) (r : ℕ) : Type 0 where
@@ -60,12 +77,19 @@ pub record Stands (s : Bytes) (a e : ℕ) (lit : Bytes) : Type 0 where
   pub high : place + length lit ≤ e
   pub there : At s place lit
 
+-- it does at q
+pub record Here (s : Bytes) (a e : ℕ) (lit : Bytes) (q : ℕ) : Type 0 where
+  pub low : a ≤ q
+  pub high : q + length lit ≤ e
+  pub there : At s q lit
+
 -- whether it does with its fifth byte at j
 pub record Around (s : Bytes) (a e j : ℕ) (lit : Bytes) (r : Bool) : Type 0 where
-  pub found : r ≡ true → Stands s a e lit
+  pub found : r ≡ true → (4 ≤ j) × Here s a e lit (j - 4)
   pub none : r ≡ false → (q : ℕ) → q + 4 ≡ j → a ≤ q → q + length lit ≤ e → At s q lit → ⊥
 
--- whether it does at all
-pub record Searched (s : Bytes) (a e : ℕ) (lit : Bytes) (r : Bool) : Type 0 where
-  pub found : r ≡ true → Stands s a e lit
-  pub none : r ≡ false → Stands s a e lit → ⊥
+-- the first place at which it does, or e
+pub record Searched (s : Bytes) (a e : ℕ) (lit : Bytes) (r : ℕ) : Type 0 where
+  pub high : r ≤ e
+  pub found : r < e → Here s a e lit r
+  pub none : (q : ℕ) → q < r → a ≤ q → q + length lit ≤ e → At s q lit → ⊥

@@ -11,6 +11,8 @@ pub record MarkOk (m : Bytes) : Type 0 where
   pub bytes : (i : ℕ) → i < length m → getD m i 0 < 256
   -- it is longer than the trailer
   pub long : 8 ≤ length m
+  -- its first eight bytes and its last eight are all of it: two numbers to compare
+  pub short : length m ≤ 16
   -- its first byte is no `|` and does not come again: no mark begins inside a mark
   pub first : getD m 0 0 ≡ 1 → ⊥
   pub alone : (i : ℕ) → i < length m → 0 < i → getD m i 0 ≡ getD m 0 0 → ⊥

@@ -60,8 +60,14 @@ pub record Ended (R : Rule) (s : Bytes) (p e : ℕ) : Type 0 where
   pub to : e ≤ length s
   pub goodAt : GoodAt R s p (e - p)
 
+-- no position from p to n is live
+pub record Past (R : Rule) (s : Bytes) (p n : ℕ) : Type 0 where
+  pub from : p < n
+  pub to : n ≤ length s
+  pub none : (q : ℕ) → q < n → p ≤ q → Live R s q → ⊥
+
 abbrev pub Stepped : Rule → Bytes → ℕ → Part → Step → Type 0
 Stepped R s p x (Next y) = Seen R s p y × (rank y < rank x)
 Stepped R s p x (Whole e) = Ended R s p e
 Stepped R s p x Short = Open R s p
-Stepped R s p x Wrong = Live R s p → ⊥
+Stepped R s p x (Wrong n) = Past R s p n

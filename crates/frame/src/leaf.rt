@@ -1,10 +1,44 @@
 // The leaves of the scan: bytes compared, digits read, bytes summed, a byte and a row of bytes looked for.
 ghost use mathlib.Core.Path.{_≡_};
 ghost use mathlib.Core.Bool.{Bool, true, false};
-ghost use Prim.Native.Nat.{ℕ, _+_, _-_, _%_, _≤_, _<_};
+ghost use Prim.Native.Nat.{ℕ, _+_, _-_, _*_, _%_, _≤_, _<_};
 ghost use lib.ListN.{length, take, drop, getD};
 ghost use Rattle.frame.specs.Bytes.{sum};
-ghost use Rattle.frame.specs.Leaf.{Matched, Number, Digits, FirstByte, Calm, Free, NextStart, Around, Searched};
+ghost use Rattle.frame.specs.Leaf.{wordAt, Standing, Matched, Number, Digits, FirstByte, Calm, Free, NextStart, Around, Searched};
+
+// A byte as a wider number.
+pub fn wide(x: u8) -> u64
+    ensures { λ r. ⌜ (r ≡ x) × (r ≤ 255) ⌝ }
+{
+    x as u64
+}
+
+// Eight bytes as one number, the first one least: one load for the compiler.
+pub fn word(s: &[u8], i: usize) -> u64
+    requires { ⌜ i + 8 ≤ length (now s) ⌝ }
+    ensures { λ r. ⌜ r ≡ wordAt (now (s .entry)) i ⌝ }
+{
+    wide(s[i])
+        + wide(s[i + 1]) * 256
+        + wide(s[i + 2]) * 65536
+        + wide(s[i + 3]) * 16777216
+        + wide(s[i + 4]) * 4294967296
+        + wide(s[i + 5]) * 1099511627776
+        + wide(s[i + 6]) * 281474976710656
+        + wide(s[i + 7]) * 72057594037927936
+}
+
+// Whether lit, 8 to 16 bytes, stands in s at a place: its first eight bytes as one number, and its last eight.
+pub fn stands(s: &[u8], at: usize, lit: &[u8]) -> bool
+    requires { ⌜ (at + length (now lit) ≤ length (now s)) × ((8 ≤ length (now lit)) × (length (now lit) ≤ 16)) ⌝ }
+    ensures { λ r. ⌜ Standing (now (s .entry)) at (now (lit .entry)) r ⌝ }
+{
+    let k = lit.len() - 8;
+    if word(s, at) != word(lit, 0) {
+        return false;
+    }
+    word(s, at + k) == word(lit, k)
+}
 
 // How many bytes of lit stand in s from at on.
 pub fn matched(s: &[u8], at: usize, lit: &[u8]) -> usize
@@ -123,17 +157,17 @@ fn tail_free(s: &[u8], a: usize, i: usize, e: usize, x: u8) -> bool
     calm(s, e - 16, 16, x)
 }
 
-// The first place from a on at which x stands before e, or e: thirty-two bytes at a time, and then sixteen, as long as x is not among them.
+// The first place from a on at which x stands before e, or e: sixty-four bytes at a time, and then sixteen, as long as x is not among them.
 pub fn find_byte(s: &[u8], a: usize, e: usize, x: u8) -> usize
     requires { ⌜ (a ≤ e) × (e ≤ length (now s)) ⌝ }
     ensures { λ r. ⌜ FirstByte (now (s .entry)) a e x r ⌝ }
 {
     let mut i = a;
-    while 32 <= e - i {
-        if !calm(s, i, 32, x) {
+    while 64 <= e - i {
+        if !calm(s, i, 64, x) {
             return byte_from(s, i, e, x);
         }
-        i += 32;
+        i += 64;
     }
     while 16 <= e - i {
         if !calm(s, i, 16, x) {
@@ -147,7 +181,8 @@ pub fn find_byte(s: &[u8], a: usize, e: usize, x: u8) -> usize
     byte_from(s, i, e, x)
 }
 
-// The next place from p on at which a mark with the fifth byte x may begin. The last four places are left to the mark's own comparison.
+// The next place from p on at which a mark with the fifth byte x may begin: p itself in the usual case, which is therefore looked at first. The last
+// four places are left to the mark's own comparison.
 pub fn next_start(s: &[u8], p: usize, x: u8) -> usize
     requires { ⌜ p ≤ length (now s) ⌝ }
     ensures { λ r. ⌜ NextStart (now (s .entry)) p x r ⌝ }
@@ -156,13 +191,17 @@ pub fn next_start(s: &[u8], p: usize, x: u8) -> usize
     if n - p <= 4 {
         return p;
     }
-    let j = find_byte(s, p + 4, n, x);
-    j - 4
+    let j = p + 4;
+    if s[j] == x {
+        return p;
+    }
+    let k = find_byte(s, j + 1, n, x);
+    k - 4
 }
 
 // Whether lit stands whole between a and e with its fifth byte at j.
 fn stands_around(s: &[u8], a: usize, e: usize, j: usize, lit: &[u8]) -> bool
-    requires { ⌜ (j < e) × (e ≤ length (now s)) ⌝ }
+    requires { ⌜ ((j < e) × (e ≤ length (now s))) × ((8 ≤ length (now lit)) × (length (now lit) ≤ 16)) ⌝ }
     ensures { λ r. ⌜ Around (now (s .entry)) a e j (now (lit .entry)) r ⌝ }
 {
     if j < 4 {
@@ -175,13 +214,13 @@ fn stands_around(s: &[u8], a: usize, e: usize, j: usize, lit: &[u8]) -> bool
     if e - q < lit.len() {
         return false;
     }
-    matched(s, q, lit) == lit.len()
+    stands(s, q, lit)
 }
 
-// Whether lit stands whole between a and e. A mark's fifth byte, the `X` of FIX, is rare in a body, so that is what is looked for.
-// Each byte is passed by find_byte once, and each place of that byte costs at most one comparison with lit: linear whatever the bytes are.
-pub fn holds(s: &[u8], a: usize, e: usize, lit: &[u8]) -> bool
-    requires { ⌜ ((a ≤ e) × (e ≤ length (now s))) × (5 ≤ length (now lit)) ⌝ }
+// The first place from a on at which lit stands whole before e, or e. A mark's fifth byte, the `X` of FIX, is rare in a body, so that is what is
+// looked for. Each byte is passed by find_byte once, and each place of that byte costs at most one comparison with lit: linear whatever the bytes are.
+pub fn holds(s: &[u8], a: usize, e: usize, lit: &[u8]) -> usize
+    requires { ⌜ ((a ≤ e) × (e ≤ length (now s))) × ((8 ≤ length (now lit)) × (length (now lit) ≤ 16)) ⌝ }
     ensures { λ r. ⌜ Searched (now (s .entry)) a e (now (lit .entry)) r ⌝ }
 {
     let x = lit[4];
@@ -189,12 +228,12 @@ pub fn holds(s: &[u8], a: usize, e: usize, lit: &[u8]) -> bool
     while i < e {
         let j = find_byte(s, i, e, x);
         if j == e {
-            return false;
+            return e;
         }
         if stands_around(s, a, e, j, lit) {
-            return true;
+            return j - 4;
         }
         i = j + 1;
     }
-    false
+    e
 }

@@ -3,9 +3,15 @@ use crate::leaf::checksum;
 use crate::leaf::holds;
 use crate::leaf::matched;
 use crate::leaf::number;
+use crate::leaf::stands;
+use crate::leaf::wide;
+use crate::leaf::word;
+ghost use mathlib.Core.Path.{_≡_};
+ghost use mathlib.Core.List.{_∷_};
 ghost use Prim.Native.Nat.{_≤_};
 ghost use lib.ListN.{length};
-ghost use Rattle.frame.specs.Frame.{ruleOf};
+ghost use Rattle.frame.specs.Frame.{ruleOf, trailer};
+ghost use Rattle.frame.specs.Leaf.{wordAt};
 ghost use Rattle.frame.specs.Mark.{MarkOk};
 ghost use Rattle.frame.specs.Walk.{Seen, Stepped};
 
@@ -27,8 +33,8 @@ pub enum Step {
     Whole(usize),
     // The bytes run out: the position is live.
     Short,
-    // No good frame begins at this position, whatever follows.
-    Wrong,
+    // No good frame begins at this position, whatever follows, nor at any before this one.
+    Wrong(usize),
 }
 
 // "the start mark"
@@ -37,14 +43,18 @@ fn step_mark(s: &[u8], p: usize, mark: &[u8]) -> Step
     requires { ⌜ p ≤ length (now s) ⌝ }
     ensures { λ r. ⌜ Stepped (ruleOf (now (mark .entry))) (now (s .entry)) p Part.Mark r ⌝ }
 {
-    let m = matched(s, p, mark);
-    if m == mark.len() {
-        return Step::Next(Part::Size(p + m));
+    let n = mark.len();
+    if n <= s.len() - p {
+        if stands(s, p, mark) {
+            return Step::Next(Part::Size(p + n));
+        }
+        return Step::Wrong(p + 1);
     }
+    let m = matched(s, p, mark);
     if p + m == s.len() {
         return Step::Short;
     }
-    Step::Wrong
+    Step::Wrong(p + 1)
 }
 
 // "the body length, 1 to 4 digits, no leading zero, value 5 to 2,048; `|`"
@@ -61,22 +71,22 @@ fn step_size(s: &[u8], p: usize, a: usize, mark: &[u8]) -> Step
         if e == s.len() {
             return Step::Short;
         }
-        return Step::Wrong;
+        return Step::Wrong(a);
     }
     if s[a] == 48 {
-        return Step::Wrong;
+        return Step::Wrong(a);
     }
     if 2048 < value {
-        return Step::Wrong;
+        return Step::Wrong(a);
     }
     if e == s.len() {
         return Step::Short;
     }
     if s[e] != 1 {
-        return Step::Wrong;
+        return Step::Wrong(a);
     }
     if value < 5 {
-        return Step::Wrong;
+        return Step::Wrong(a);
     }
     Step::Next(Part::Fields(e + 1, value))
 }
@@ -93,22 +103,34 @@ fn step_fields(s: &[u8], p: usize, a: usize, n: usize, mark: &[u8]) -> Step
         if a + m == end {
             return Step::Short;
         }
-        return Step::Wrong;
+        return Step::Wrong(a);
     }
     if end - a < n {
-        if holds(s, a, end, mark) {
-            return Step::Wrong;
+        let q = holds(s, a, end, mark);
+        if q < end {
+            return Step::Wrong(q);
         }
         return Step::Short;
     }
     let e = a + n;
     if s[e - 1] != 1 {
-        return Step::Wrong;
+        return Step::Wrong(a);
     }
-    if holds(s, a, e, mark) {
-        return Step::Wrong;
+    let q = holds(s, a, e, mark);
+    if q < e {
+        return Step::Wrong(q);
     }
     Step::Next(Part::Tail(e))
+}
+
+// `|`, `10=`, the three digits and `|`, as one number.
+fn trailer_word(v: u8) -> u64
+    ensures { λ r. ⌜ r ≡ wordAt (1 ∷ trailer v) 0 ⌝ }
+{
+    85621376663171329
+        + wide(v / 100) * 4294967296
+        + wide(v / 10 % 10) * 1099511627776
+        + wide(v % 10) * 281474976710656
 }
 
 // "then `10=`, three digits, `|`. The three digits are the sum of all bytes before `10=`, modulo 256."
@@ -118,15 +140,18 @@ fn step_tail(s: &[u8], p: usize, a: usize, mark: &[u8]) -> Step
     ensures { λ r. ⌜ Stepped (ruleOf (now (mark .entry))) (now (s .entry)) p (Part.Tail a) r ⌝ }
 {
     let v = checksum(&s[p..a]);
+    if 7 <= s.len() - a {
+        if word(s, a - 1) == trailer_word(v) {
+            return Step::Whole(a + 7);
+        }
+        return Step::Wrong(a + 1 - mark.len());
+    }
     let t: [u8; 7] = [49, 48, 61, 48 + v / 100, 48 + v / 10 % 10, 48 + v % 10, 1];
     let m = matched(s, a, &t);
-    if m == 7 {
-        return Step::Whole(a + 7);
-    }
     if a + m == s.len() {
         return Step::Short;
     }
-    Step::Wrong
+    Step::Wrong(a + 1 - mark.len())
 }
 
 // The part in hand of a candidate at p.

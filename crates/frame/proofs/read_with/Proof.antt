@@ -1,6 +1,5 @@
 -- `read_with`: no position before the one in hand is live, and the parts before the one in hand are as they should be.
 use denote.Ref.{now}
-use borrow.Author.Count.{below-more}
 use borrow.Author.Needs.{needs}
 use native.Mathlib.Omega.{arith}
 use Prim.Native.Nat.{ℕ, _+_, _-_, _≤_, _<_}
@@ -9,15 +8,15 @@ use lib.ListN.{length}
 use Rattle.frame.specs.Frame.{ruleOf}
 use Rattle.frame.specs.Walk.{Seen, Stepped, rank}
 use Rattle.frame.specs.declared.parts.Step.{Step}
-use Rattle.frame.proofs.Search.{Dead, dead-further, hand-frame, hand-none, hand-open}
+use Rattle.frame.proofs.Search.{Dead, dead-further, dead-past, hand-frame, hand-none, hand-open}
 use Rattle.frame.proofs.read_with.Statement.{statement}
 use Rattle.frame.proofs.read_with.Tie as tie
 
 abbrev Inv-parts : tie.InvT-parts
-Inv-parts s mark at₀ n x p q part₀ at part = (q < length s) × (Seen (ruleOf mark) s q part × Dead (ruleOf mark) s q)
+Inv-parts s mark at₀ n x p₀ q part₀ at p part = (q < length s) × (Seen (ruleOf mark) s q part × Dead (ruleOf mark) s q)
 
 abbrev μ-parts : tie.MeasureT-parts
-μ-parts s mark at₀ n x p q part₀ at part = rank part
+μ-parts s mark at₀ n x p₀ q part₀ at p part = rank part
 
 abbrev Inv-positions : tie.InvT-positions
 Inv-positions s mark at₀ n x p₀ at p = (p ≤ length s) × Dead (ruleOf mark) s p
@@ -110,24 +109,28 @@ slice-aggregate-found-2 :
     tie.Need-slice-aggregate-found-2 Inv-parts μ-parts Inv-positions μ-positions
 slice-aggregate-found-2 c = search needs
 
-enum-told-2 : tie.Need-enum-told-2 Inv-parts μ-parts Inv-positions μ-positions
-enum-told-2 c = search needs
-
-add-p : tie.Need-add-p Inv-parts μ-parts Inv-positions μ-positions
-add-p c = search needs
+enum-known-next-2 : tie.Need-enum-known-next-2 Inv-parts μ-parts Inv-positions μ-positions
+enum-known-next-2 c = search needs
 
 positions-less : tie.Need-positions-less Inv-parts μ-parts Inv-positions μ-positions
-positions-less c = omega (arith, c .before .before .before .before .before .next-start .ensures .low)
+positions-less c =
+    let a = c .before .before .before .before .before .before .before .before .before .before .before .args in
+    let s = now (a .s) in
+    let R = ruleOf (now (a .mark)) in
+    let q = c .before .before .before .before .before .before .next-start .result in
+    let x = c .before .before .before .before .parts .part in
+    let w = subst (λ (y : Step). Stepped R s q x y) (c .before .next2 .given .1) (c .before .before .before .look .ensures) in
+    omega (arith, c .before .before .before .before .before .before .next-start .ensures .low, w .from, w .to)
 
 positions-again : tie.Need-positions-again Inv-parts μ-parts Inv-positions μ-positions
 positions-again c =
-    let a = c .before .before .before .before .before .before .before .before .before .before .args in
+    let a = c .before .before .before .before .before .before .before .before .before .before .before .args in
     let s = now (a .s) in
     let R = ruleOf (now (a .mark)) in
-    let q = c .before .before .before .before .before .next-start .result in
-    let x = c .before .before .before .parts .part in
-    let w = subst (λ (y : Step). Stepped R s q x y) (c .enum-told2 .given .1) (c .before .before .look .ensures) in
-    (omega arith, below-more _ _ (c .before .before .before .parts .inv .1 .1) w)
+    let q = c .before .before .before .before .before .before .next-start .result in
+    let x = c .before .before .before .before .parts .part in
+    let w = subst (λ (y : Step). Stepped R s q x y) (c .before .next2 .given .1) (c .before .before .before .look .ensures) in
+    (w .to, dead-past R s q _ w (c .before .before .before .before .parts .inv .1 .1))
 
 returns : tie.Need-returns Inv-parts μ-parts Inv-positions μ-positions
 returns c =
@@ -181,8 +184,7 @@ read-with-spec =
     part-found-end
     enum-told
     slice-aggregate-found-2
-    enum-told-2
-    add-p
+    enum-known-next-2
     positions-less
     positions-again
     returns

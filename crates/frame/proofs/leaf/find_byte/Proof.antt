@@ -47,7 +47,7 @@ loop-less c = search needs
 loop-again : tie.Need-loop-again Inv-loop μ-loop Inv-loop2 μ-loop2
 loop-again c =
     let l = c .before .before .before .loop in
-    (omega arith, (omega arith, none-further (now (c .before .before .before .before .before .args .s)) _ (l .i) 32 _ (l .inv .1 .1) (c .before .calm .ensures (not-false _ (c .if1 .left)))))
+    (omega arith, (omega arith, none-further (now (c .before .before .before .before .before .args .s)) _ (l .i) 64 _ (l .inv .1 .1) (c .before .calm .ensures (not-false _ (c .if1 .left)))))
 
 loop2-holds : tie.Need-loop2-holds Inv-loop μ-loop Inv-loop2 μ-loop2
 loop2-holds c = c .before .loop .inv

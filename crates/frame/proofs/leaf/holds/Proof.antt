@@ -3,12 +3,10 @@ use denote.Ref.{now}
 use borrow.Author.Needs.{needs}
 use native.Mathlib.Omega.{arith}
 use Prim.Native.Nat.{ℕ, _+_, _-_, _≤_, _<_}
-use mathlib.Core.Path.{_≡_, refl, sym, subst}
+use mathlib.Core.Path.{_≡_, refl}
 use lib.ListN.{length}
-use mathlib.Core.Bool.{true, false}
-use lib.Dec.{T}
 use Rattle.frame.specs.Bytes.{At}
-use Rattle.frame.proofs.Lists.{NoneTo, none-to, none-past, none-at-all}
+use Rattle.frame.proofs.Lists.{NoneTo, none-to, none-past, none-end}
 use Rattle.frame.proofs.leaf.holds.Statement.{statement}
 use Rattle.frame.proofs.leaf.holds.Tie as tie
 
@@ -34,15 +32,30 @@ returns c =
     let five : 5 ≤ length (now (a .lit)) = omega arith in
     let F = c .before .find-byte .ensures in
     record {
-      found = λ t. absurd (subst T (sym t) tt);
-      none = λ t. none-at-all (now (a .s)) (a .a) (a .e) (now (a .lit)) five _ (omega arith) (none-to (now (a .s)) (a .a) (a .e) (now (a .lit)) five (l .i) _ _ refl F (l .inv .1 .1));
+      high = omega arith;
+      found = λ h. absurd (omega arith);
+      none = none-end (now (a .s)) (a .a) (a .e) (now (a .lit)) five _ (omega arith) (none-to (now (a .s)) (a .a) (a .e) (now (a .lit)) five (l .i) _ _ refl F (l .inv .1 .1));
     }
 
 stands-around-requires : tie.Need-stands-around-requires Inv-loop μ-loop
 stands-around-requires c κs = search needs
 
+sub-result : tie.Need-sub-result Inv-loop μ-loop
+sub-result c = c .before .stands-around .ensures .found (c .if2 .taken) .0
+
 returns-2 : tie.Need-returns-2 Inv-loop μ-loop
-returns-2 c = record { found = λ t. c .before .stands-around .ensures .found (c .if2 .taken); none = λ t. absurd (subst T t tt) }
+returns-2 c =
+    let a = c .before .before .before .before .before .before .before .before .before .args in
+    let l = c .before .before .before .before .before .loop in
+    let five : 5 ≤ length (now (a .lit)) = omega arith in
+    let F = c .before .before .before .find-byte .ensures in
+    let w = c .before .stands-around .ensures .found (c .if2 .taken) in
+    let H = w .1 in
+    record {
+      high = omega (arith, H .high);
+      found = λ h. H;
+      none = λ q h. none-to (now (a .s)) (a .a) (a .e) (now (a .lit)) five (l .i) _ _ refl F (l .inv .1 .1) q (omega arith);
+    }
 
 add-i : tie.Need-add-i Inv-loop μ-loop
 add-i c = search needs
@@ -71,8 +84,9 @@ returns-3 c =
     let l = c .before .loop in
     let five : 5 ≤ length (now (a .lit)) = omega arith in
     record {
-      found = λ t. absurd (subst T (sym t) tt);
-      none = λ t. none-at-all (now (a .s)) (a .a) (a .e) (now (a .lit)) five (l .i) (omega arith) (l .inv .1 .1);
+      high = omega arith;
+      found = λ h. absurd (omega arith);
+      none = none-end (now (a .s)) (a .a) (a .e) (now (a .lit)) five (l .i) (omega arith) (l .inv .1 .1);
     }
 
 pub holds-spec : {M : Type 1} → statement M
@@ -86,6 +100,7 @@ holds-spec =
     find-byte-requires
     returns
     stands-around-requires
+    sub-result
     returns-2
     add-i
     loop-less

@@ -1,7 +1,7 @@
--- `next_start`: by the first place of the fifth byte.
+-- `next_start`: the first place by itself, the others by the first place of the fifth byte.
 use borrow.Author.Needs.{needs}
 use native.Mathlib.Omega.{arith}
-use Rattle.frame.proofs.Lists.{next-from}
+use Rattle.frame.proofs.Lists.{next-behind}
 use Rattle.frame.proofs.leaf.next_start.Statement.{statement}
 use Rattle.frame.proofs.leaf.next_start.Tie as tie
 
@@ -10,6 +10,16 @@ sub-if1 c = search needs
 
 returns : tie.Need-returns
 returns c =
+    record { low = omega arith; high = omega arith; inside = λ q l h. absurd (omega arith); none = λ q l h. absurd (omega arith) }
+
+add-j : tie.Need-add-j
+add-j c = search needs
+
+shared-slice-read-if2 : tie.Need-shared-slice-read-if2
+shared-slice-read-if2 c = search needs
+
+returns-2 : tie.Need-returns-2
+returns-2 c =
     record { low = omega arith; high = omega arith; inside = λ q l h. absurd (omega arith); none = λ q l h. absurd (omega arith) }
 
 add-find-byte : tie.Need-add-find-byte
@@ -21,9 +31,19 @@ find-byte-requires c κs = search needs
 sub-result : tie.Need-sub-result
 sub-result c = search needs
 
-returns-2 : tie.Need-returns-2
-returns-2 c = next-from _ _ _ _ (c .find-byte .ensures)
+returns-3 : tie.Need-returns-3
+returns-3 c = next-behind _ _ _ _ (c .before .if2 .left) (c .find-byte .ensures)
 
 pub next-start-spec : {M : Type 1} → statement M
 next-start-spec =
-    tie.close (tie.spec sub-if1 returns add-find-byte find-byte-requires sub-result returns-2)
+    tie.close
+    (tie.spec
+    sub-if1
+    returns
+    add-j
+    shared-slice-read-if2
+    returns-2
+    add-find-byte
+    find-byte-requires
+    sub-result
+    returns-3)

@@ -6,6 +6,8 @@ use Prim.Native.Nat.{ℕ, _+_, _-_, _≤_, _<_}
 use Rattle.frame.specs.Frame.{ruleOf}
 use lib.ListN.{length}
 use Rattle.frame.proofs.AtBody.{tag-wrong, tag-short, mark-inside, fields-short, last-wrong, fields-next}
+use Rattle.frame.proofs.Lists.{none-at-all}
+use Rattle.frame.proofs.Past.{past-size, past-inside}
 use Rattle.frame.proofs.parts.step_fields.Statement.{statement}
 use Rattle.frame.proofs.parts.step_fields.Tie as tie
 
@@ -32,7 +34,7 @@ returns-2 c =
     let R = ruleOf (now (a .mark)) in
     let s = now (a .s) in
     let S = c .before .before .before .before .before .before .pre .1 in
-    tag-wrong R s (a .p) (a .a) (a .n) S _ (c .before .before .matched .ensures) (omega arith) (c .if2 .left)
+    past-size R s (c .before .before .before .before .before .before .pre .0) (a .p) (a .a) (a .n) S (tag-wrong R s (a .p) (a .a) (a .n) S _ (c .before .before .matched .ensures) (omega arith) (c .if2 .left))
 
 sub-if3 : tie.Need-sub-if3
 sub-if3 c = search needs
@@ -46,7 +48,8 @@ returns-3 c =
     let R = ruleOf (now (a .mark)) in
     let s = now (a .s) in
     let S = c .before .before .before .before .before .before .before .before .pre .1 in
-    mark-inside R s (a .p) (a .a) (a .n) S (length s) (omega arith) (c .before .holds .ensures .found (c .if4 .taken))
+    let F = c .before .holds .ensures in
+    past-inside R s (c .before .before .before .before .before .before .before .before .pre .0) (a .p) (a .a) (a .n) S (length s) _ (omega arith) (c .if4 .taken) F (mark-inside R s (a .p) (a .a) (a .n) S (length s) (omega arith) _ (F .found (c .if4 .taken)))
 
 returns-4 : tie.Need-returns-4
 returns-4 c =
@@ -54,7 +57,7 @@ returns-4 c =
     let R = ruleOf (now (a .mark)) in
     let s = now (a .s) in
     let S = c .before .before .before .before .before .before .before .before .pre .1 in
-    fields-short R s (a .p) (a .a) (a .n) S (c .before .before .before .before .before .before .before .before .pre .0) _ (c .before .before .before .before .matched .ensures) (omega arith) (omega arith) (c .before .holds .ensures .none (c .if4 .left)) (λ i. omega (arith, c .before .before .before .before .before .before .before .shared-slice-known .given i))
+    fields-short R s (a .p) (a .a) (a .n) S (c .before .before .before .before .before .before .before .before .pre .0) _ (c .before .before .before .before .matched .ensures) (omega arith) (omega arith) (none-at-all s (a .a) (length s) (now (a .mark)) (omega arith) _ (c .before .holds .ensures) (λ l. omega (arith, c .if4 .left))) (λ i. omega (arith, c .before .before .before .before .before .before .before .shared-slice-known .given i))
 
 add-e : tie.Need-add-e
 add-e c = search needs
@@ -71,7 +74,7 @@ returns-5 c =
     let R = ruleOf (now (a .mark)) in
     let s = now (a .s) in
     let S = c .before .before .before .before .before .before .before .before .pre .1 in
-    last-wrong R s (a .p) (a .a) (a .n) S (omega arith) (c .if5 .taken)
+    past-size R s (c .before .before .before .before .before .before .before .before .pre .0) (a .p) (a .a) (a .n) S (last-wrong R s (a .p) (a .a) (a .n) S (omega arith) (c .if5 .taken))
 
 holds-requires-2 : tie.Need-holds-requires-2
 holds-requires-2 c κs = search needs
@@ -82,7 +85,8 @@ returns-6 c =
     let R = ruleOf (now (a .mark)) in
     let s = now (a .s) in
     let S = c .before .before .before .before .before .before .before .before .before .before .pre .1 in
-    mark-inside R s (a .p) (a .a) (a .n) S (a .a + a .n) (omega arith) (c .before .holds2 .ensures .found (c .if6 .taken))
+    let F = c .before .holds2 .ensures in
+    past-inside R s (c .before .before .before .before .before .before .before .before .before .before .pre .0) (a .p) (a .a) (a .n) S (a .a + a .n) _ (omega arith) (c .if6 .taken) F (mark-inside R s (a .p) (a .a) (a .n) S (a .a + a .n) (omega arith) _ (F .found (c .if6 .taken)))
 
 returns-7 : tie.Need-returns-7
 returns-7 c =
@@ -90,7 +94,7 @@ returns-7 c =
     let R = ruleOf (now (a .mark)) in
     let s = now (a .s) in
     let S = c .before .before .before .before .before .before .before .before .before .before .pre .1 in
-    (fields-next R s (a .p) (a .a) (a .n) S (omega arith) _ (c .before .before .before .before .before .before .matched .ensures) (omega arith) (λ i. omega (arith, c .before .before .before .before .before .before .before .before .before .shared-slice-known .given i)) (c .before .before .if5 .left) (c .before .holds2 .ensures .none (c .if6 .left)), omega arith)
+    (fields-next R s (a .p) (a .a) (a .n) S (omega arith) _ (c .before .before .before .before .before .before .matched .ensures) (omega arith) (λ i. omega (arith, c .before .before .before .before .before .before .before .before .before .shared-slice-known .given i)) (c .before .before .if5 .left) (none-at-all s (a .a) (a .a + a .n) (now (a .mark)) (omega arith) _ (c .before .holds2 .ensures) (λ l. omega (arith, c .if6 .left))), omega arith)
 
 pub step-fields-spec : {M : Type 1} → statement M
 step-fields-spec =

@@ -5,6 +5,7 @@ use native.Mathlib.Omega.{arith}
 use Prim.Native.Nat.{ℕ, _+_, _-_, _≤_, _<_}
 use Rattle.frame.specs.Frame.{ruleOf}
 use Rattle.frame.proofs.AtSize.{size-next, size-wrong-none, size-wrong-zero, size-wrong-high, size-wrong-next, size-wrong-low, size-short-none, size-short}
+use Rattle.frame.proofs.Past.{past-mark}
 use Rattle.frame.proofs.parts.step_size.Statement.{statement}
 use Rattle.frame.proofs.parts.step_size.Tie as tie
 
@@ -34,7 +35,7 @@ returns-2 c =
     let v = c .before .before .number .result .value in
     let k = c .before .before .number .result .count in
     let D = c .before .before .number .ensures in
-    λ w. size-wrong-none R s (a .p) (a .a) S v k D w (c .before .if1 .taken) (c .if2 .left) (omega arith)
+    past-mark R s (c .before .before .before .before .before .pre .0) (a .p) (a .a) S (λ w. size-wrong-none R s (a .p) (a .a) S v k D w (c .before .if1 .taken) (c .if2 .left) (omega arith))
 
 shared-slice-read-if3 : tie.Need-shared-slice-read-if3
 shared-slice-read-if3 c = search needs
@@ -48,7 +49,7 @@ returns-3 c =
     let v = c .before .before .before .number .result .value in
     let k = c .before .before .before .number .result .count in
     let D = c .before .before .before .number .ensures in
-    λ w. size-wrong-zero R s (a .p) (a .a) S v k D w (omega arith) (c .if3 .taken)
+    past-mark R s (c .before .before .before .before .before .before .pre .0) (a .p) (a .a) S (λ w. size-wrong-zero R s (a .p) (a .a) S v k D w (omega arith) (c .if3 .taken))
 
 returns-4 : tie.Need-returns-4
 returns-4 c =
@@ -59,7 +60,7 @@ returns-4 c =
     let v = c .before .before .before .before .number .result .value in
     let k = c .before .before .before .before .number .result .count in
     let D = c .before .before .before .before .number .ensures in
-    λ w. size-wrong-high R s (a .p) (a .a) S v k D w (omega arith)
+    past-mark R s (c .before .before .before .before .before .before .before .pre .0) (a .p) (a .a) S (λ w. size-wrong-high R s (a .p) (a .a) S v k D w (omega arith))
 
 returns-5 : tie.Need-returns-5
 returns-5 c =
@@ -84,7 +85,7 @@ returns-6 c =
     let v = c .before .before .before .before .before .before .before .number .result .value in
     let k = c .before .before .before .before .before .before .before .number .result .count in
     let D = c .before .before .before .before .before .before .before .number .ensures in
-    λ w. size-wrong-next R s (a .p) (a .a) S v k D w (omega arith) (c .if6 .taken)
+    past-mark R s (c .before .before .before .before .before .before .before .before .before .before .pre .0) (a .p) (a .a) S (λ w. size-wrong-next R s (a .p) (a .a) S v k D w (omega arith) (c .if6 .taken))
 
 returns-7 : tie.Need-returns-7
 returns-7 c =
@@ -95,7 +96,7 @@ returns-7 c =
     let v = c .before .before .before .before .before .before .before .before .number .result .value in
     let k = c .before .before .before .before .before .before .before .before .number .result .count in
     let D = c .before .before .before .before .before .before .before .before .number .ensures in
-    λ w. size-wrong-low R s (a .p) (a .a) S v k D w (omega arith) (c .before .if6 .left) (omega arith)
+    past-mark R s (c .before .before .before .before .before .before .before .before .before .before .before .pre .0) (a .p) (a .a) S (λ w. size-wrong-low R s (a .p) (a .a) S v k D w (omega arith) (c .before .if6 .left) (omega arith))
 
 add-t14 : tie.Need-add-t14
 add-t14 c = search needs

@@ -3,8 +3,12 @@ use denote.Ref.{now}
 use borrow.Author.Needs.{needs}
 use native.Mathlib.Omega.{arith}
 use Prim.Native.Nat.{ℕ, _+_, _-_, _≤_, _<_}
-use Rattle.frame.specs.Frame.{ruleOf}
-use Rattle.frame.proofs.AtTrailer.{tail-after, tail-wrong, tail-short, tail-whole}
+use mathlib.Core.Path.{_≡_, refl, sym, _∙_}
+use lib.ListN.{length}
+use Rattle.frame.specs.Frame.{ruleOf, trailer}
+use Rattle.frame.proofs.Words.{matched-whole}
+use Rattle.frame.proofs.AtTrailer.{tail-after, tail-behind, tail-at, tail-word, tail-unlike, tail-wrong, tail-short, tail-whole}
+use Rattle.frame.proofs.Past.{past-room, past-body}
 use Rattle.frame.proofs.parts.step_tail.Statement.{statement}
 use Rattle.frame.proofs.parts.step_tail.Tie as tie
 
@@ -27,34 +31,43 @@ part-checksum-end c = search needs
 checksum-requires : tie.Need-checksum-requires
 checksum-requires c κs = search needs
 
-add-t13 : tie.Need-add-t13
-add-t13 c = search needs
+sub-if1 : tie.Need-sub-if1
+sub-if1 c = search needs
 
-add-t16 : tie.Need-add-t16
-add-t16 c = search needs
+sub-word : tie.Need-sub-word
+sub-word c =
+    let a = c .before .before .before .before .before .args in
+    tail-behind (ruleOf (now (a .mark))) (now (a .s)) (a .p) (a .a) (c .before .before .before .before .before .pre .1)
+
+word-requires : tie.Need-word-requires
+word-requires c κs =
+    let a = c .before .before .before .before .before .args in
+    omega (arith, tail-behind (ruleOf (now (a .mark))) (now (a .s)) (a .p) (a .a) (c .before .before .before .before .before .pre .1))
+
+trailer-word-requires : tie.Need-trailer-word-requires
+trailer-word-requires c κs = search needs
 
 add-t18 : tie.Need-add-t18
 add-t18 c = search needs
 
-slice-aggregate-matched : tie.Need-slice-aggregate-matched
-slice-aggregate-matched c = search needs
-
-matched-requires : tie.Need-matched-requires
-matched-requires c κs = search needs
-
-add-t22 : tie.Need-add-t22
-add-t22 c = search needs
-
 returns : tie.Need-returns
 returns c =
-    let a = c .before .before .before .before .before .before .before .args in
+    let a = c .before .before .before .before .before .before .before .before .args in
     let R = ruleOf (now (a .mark)) in
     let s = now (a .s) in
-    let S = c .before .before .before .before .before .before .before .pre .1 in
-    tail-whole R s (a .p) (a .a) S _ (c .before .before .before .checksum .ensures) _ (c .before .matched .ensures) (c .before .before .before .before .before .before .before .pre .0) (c .if1 .taken)
+    let S = c .before .before .before .before .before .before .before .before .pre .1 in
+    let hv = c .before .before .before .before .checksum .ensures in
+    let e = sym (c .before .before .word .ensures) ∙ c .if2 .taken ∙ c .before .trailer-word .ensures in
+    let A = tail-at R s (a .p) (a .a) S _ hv (λ i. omega (arith, c .before .before .before .before .before .before .before .shared-slice-known .given i)) (omega arith) e in
+    tail-whole R s (a .p) (a .a) S _ hv _ (matched-whole s (a .a) (trailer (c .before .before .before .before .checksum .result)) A) (c .before .before .before .before .before .before .before .before .pre .0) refl
 
-add-if2 : tie.Need-add-if2
-add-if2 c = search needs
+add-t15 : tie.Need-add-t15
+add-t15 c = search needs
+
+sub-t20 : tie.Need-sub-t20
+sub-t20 c =
+    let a = c .before .before .before .before .before .before .before .before .args in
+    past-room (ruleOf (now (a .mark))) (now (a .s)) (c .before .before .before .before .before .before .before .before .pre .0) (a .p) (a .a) (c .before .before .before .before .before .before .before .before .pre .1)
 
 returns-2 : tie.Need-returns-2
 returns-2 c =
@@ -62,7 +75,26 @@ returns-2 c =
     let R = ruleOf (now (a .mark)) in
     let s = now (a .s) in
     let S = c .before .before .before .before .before .before .before .before .pre .1 in
-    tail-short R s (a .p) (a .a) S _ (c .before .before .before .before .checksum .ensures) _ (c .before .before .matched .ensures) (c .before .before .before .before .before .before .before .before .pre .0) (c .before .if1 .left) (c .if2 .taken)
+    let hv = c .before .before .before .before .checksum .ensures in
+    past-body R s (c .before .before .before .before .before .before .before .before .pre .0) (a .p) (a .a) S (tail-unlike R s (a .p) (a .a) S _ hv (omega arith) (λ A. c .if2 .left (c .before .before .word .ensures ∙ tail-word R s (a .p) (a .a) S _ hv A ∙ sym (c .before .trailer-word .ensures))))
+
+add-t22 : tie.Need-add-t22
+add-t22 c = search needs
+
+add-t25 : tie.Need-add-t25
+add-t25 c = search needs
+
+add-t27 : tie.Need-add-t27
+add-t27 c = search needs
+
+slice-aggregate-matched : tie.Need-slice-aggregate-matched
+slice-aggregate-matched c = search needs
+
+matched-requires : tie.Need-matched-requires
+matched-requires c κs = search needs
+
+add-if3 : tie.Need-add-if3
+add-if3 c = search needs
 
 returns-3 : tie.Need-returns-3
 returns-3 c =
@@ -70,7 +102,25 @@ returns-3 c =
     let R = ruleOf (now (a .mark)) in
     let s = now (a .s) in
     let S = c .before .before .before .before .before .before .before .before .pre .1 in
-    tail-wrong R s (a .p) (a .a) S _ (c .before .before .before .before .checksum .ensures) _ (c .before .before .matched .ensures) (c .before .if1 .left) (c .if2 .left)
+    let M = c .before .matched .ensures in
+    tail-short R s (a .p) (a .a) S _ (c .before .before .before .before .checksum .ensures) _ M (c .before .before .before .before .before .before .before .before .pre .0) (λ e. omega (arith, M .within)) (c .if3 .taken)
+
+add-t9 : tie.Need-add-t9
+add-t9 c = search needs
+
+sub-t30 : tie.Need-sub-t30
+sub-t30 c =
+    let a = c .before .before .before .before .before .before .before .before .args in
+    past-room (ruleOf (now (a .mark))) (now (a .s)) (c .before .before .before .before .before .before .before .before .pre .0) (a .p) (a .a) (c .before .before .before .before .before .before .before .before .pre .1)
+
+returns-4 : tie.Need-returns-4
+returns-4 c =
+    let a = c .before .before .before .before .before .before .before .before .args in
+    let R = ruleOf (now (a .mark)) in
+    let s = now (a .s) in
+    let S = c .before .before .before .before .before .before .before .before .pre .1 in
+    let M = c .before .matched .ensures in
+    past-body R s (c .before .before .before .before .before .before .before .before .pre .0) (a .p) (a .a) S (tail-wrong R s (a .p) (a .a) S _ (c .before .before .before .before .checksum .ensures) _ M (λ e. omega (arith, M .within)) (c .if3 .left))
 
 pub step-tail-spec : {M : Type 1} → statement M
 step-tail-spec =
@@ -80,13 +130,22 @@ step-tail-spec =
     part-checksum-start
     part-checksum-end
     checksum-requires
-    add-t13
-    add-t16
+    sub-if1
+    sub-word
+    word-requires
+    trailer-word-requires
     add-t18
+    returns
+    add-t15
+    sub-t20
+    returns-2
+    add-t22
+    add-t25
+    add-t27
     slice-aggregate-matched
     matched-requires
-    add-t22
-    returns
-    add-if2
-    returns-2
-    returns-3)
+    add-if3
+    returns-3
+    add-t9
+    sub-t30
+    returns-4)
