@@ -8,6 +8,7 @@ pub mod Clean
 pub mod Sizes
 pub mod ReadBack
 pub mod Writes
+pub mod Leftward
 pub mod Types
 pub mod Fitness
 pub mod Entries

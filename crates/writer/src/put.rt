@@ -29,16 +29,52 @@ fn put_bytes(buf: &mut [u8], at: usize, s: &[u8]) -> usize
     at + i
 }
 
-// The digits of a number that has at most nine.
+// How many digits a number has that has at most nine.
+fn width(n: u64) -> usize
+    requires { ⌜ n < 1_000_000_000 ⌝ }
+    ensures { λ r. ⌜ r ≡ length (decimal n) ⌝ }
+{
+    if n < 10 {
+        return 1;
+    }
+    if n < 100 {
+        return 2;
+    }
+    if n < 1_000 {
+        return 3;
+    }
+    if n < 10_000 {
+        return 4;
+    }
+    if n < 100_000 {
+        return 5;
+    }
+    if n < 1_000_000 {
+        return 6;
+    }
+    if n < 10_000_000 {
+        return 7;
+    }
+    if n < 100_000_000 {
+        return 8;
+    }
+    9
+}
+
+// The digits of a number that has at most nine, the last one first.
 pub fn put_decimal(buf: &mut [u8], at: usize, n: u64) -> usize
     requires { ⌜ (n < 1_000_000_000) × (at + length (decimal n) ≤ length (now buf)) ⌝ }
     ensures { λ r. ⌜ Wrote (now (buf .entry)) (now (buf .exit)) at r (decimal n) ⌝ }
 {
-    if n < 10 {
-        return put_byte(buf, at, (48 + n) as u8);
+    let k = width(n);
+    let mut rest = n;
+    let mut i = k;
+    while 0 < i {
+        i -= 1;
+        buf[at + i] = (48 + rest % 10) as u8;
+        rest = rest / 10;
     }
-    let a = put_decimal(buf, at, n / 10);
-    put_byte(buf, a, (48 + n % 10) as u8)
+    at + k
 }
 
 // `tag=`

@@ -1,0 +1,79 @@
+-- `put_decimal`: the digits from the right; those that are still to come are the digits of what is left of the number.
+use denote.Ref.{now}
+use borrow.Author.Needs.{needs}
+use native.Mathlib.Omega.{arith}
+use Prim.Native.Nat.{_+_, _-_, _≤_}
+use mathlib.Core.Path.{_≡_, refl}
+use lib.ListN.{length, length-set}
+use Rattle.frame.specs.Bytes.{decimal}
+use Rattle.writer.proofs.Leftward.{Left, left-all, left-more, left-none}
+use Rattle.writer.proofs.put.put_decimal.Statement.{statement}
+use Rattle.writer.proofs.put.put_decimal.Tie as tie
+
+abbrev Inv-loop : tie.InvT-loop
+Inv-loop buf₀ at n k rest₀ i₀ buf rest i = (i ≤ k) × ((length buf ≡ length buf₀) × Left buf₀ buf (decimal n) at i rest)
+
+abbrev μ-loop : tie.MeasureT-loop
+μ-loop buf₀ at n k rest₀ i₀ buf rest i = i
+
+width-requires : tie.Need-width-requires Inv-loop μ-loop
+width-requires c κs = search needs
+
+loop-holds : tie.Need-loop-holds Inv-loop μ-loop
+loop-holds c =
+    let s = c .before .before in
+    (omega arith, (refl, left-all _ (s .args .at) (s .args .n) _ (s .pre .0) (c .width .ensures)))
+
+sub-i : tie.Need-sub-i Inv-loop μ-loop
+sub-i c = search needs
+
+add-buf : tie.Need-add-buf Inv-loop μ-loop
+add-buf c = search needs
+
+cast-buf : tie.Need-cast-buf Inv-loop μ-loop
+cast-buf c = search needs
+
+add-buf-2 : tie.Need-add-buf-2 Inv-loop μ-loop
+add-buf-2 c = search needs
+
+slice-write-buf : tie.Need-slice-write-buf Inv-loop μ-loop
+slice-write-buf c = search needs
+
+loop-less : tie.Need-loop-less Inv-loop μ-loop
+loop-less c = search needs
+
+loop-again : tie.Need-loop-again Inv-loop μ-loop
+loop-again c =
+    let l = c .before .loop in
+    let a = c .before .before .before .before .args in
+    (omega arith, (simp length-set (l .inv .1 .0), left-more _ _ (decimal (a .n)) (a .at) (l .i) _ (l .rest) (omega arith) (l .inv .1 .1)))
+
+add-result : tie.Need-add-result Inv-loop μ-loop
+add-result c = search needs
+
+same-length : tie.Need-same-length Inv-loop μ-loop
+same-length c = search needs
+
+returns : tie.Need-returns Inv-loop μ-loop
+returns c =
+    let l = c .before .loop in
+    left-none _ _ _ _ (l .i) (l .rest) (omega arith) (l .inv .1 .1) _ (c .before .before .width .ensures)
+
+pub put-decimal-spec : {M : Type 1} → statement M
+put-decimal-spec =
+    tie.close
+    (tie.spec
+    Inv-loop
+    μ-loop
+    width-requires
+    loop-holds
+    sub-i
+    add-buf
+    cast-buf
+    add-buf-2
+    slice-write-buf
+    loop-less
+    loop-again
+    add-result
+    same-length
+    returns)
