@@ -7,6 +7,7 @@ mod replies;
 mod rules;
 
 use calendar::utc;
+use changes::changed;
 use changes::in_range;
 use changes::is_comp_id;
 use changes::turned;
@@ -16,22 +17,26 @@ use gates::is_spent;
 use gates::logon_gate;
 use gates::step_gate;
 use moved::answer_of;
-use moved::moved;
-use replies::put_reply;
-use rules::Move;
+use moved::is_quiet;
+use moved::next_after;
+use replies::put_both;
+use rules::Letter;
+use rules::Plan;
 use rules::active;
+use rules::beating;
 use rules::waiting;
 ghost use mathlib.Core.Path.{_≡_};
-ghost use mathlib.Core.List.{[]};
+ghost use mathlib.Core.List.{[], _++_};
 ghost use Prim.Native.Nat.{_≤_, _<_};
-ghost use lib.ListN.{length};
+ghost use lib.ListN.{length, take};
 ghost use Rattle.frame.specs.Bytes.{Bytes};
-ghost use Rattle.calendar.specs.Time.{limit};
+ghost use Rattle.frame.specs.Stream.{joined};
+ghost use Rattle.calendar.specs.Time.{utc, limit};
 ghost use Rattle.writer.specs.Wrote.{Wrote};
 ghost use Rattle.session.specs.Session.{No, turned, fresh};
 ghost use Rattle.session.specs.Calls.{making, refusing, movesOn, due, step, tick, new, reconnect};
 ghost use Rattle.session.specs.Held.{sessionOf, Leaves, answeredBy, recordOf, answeredNew, padded};
-ghost use Rattle.session.specs.Plan.{deedsOf, replied, Carried, Ready};
+ghost use Rattle.session.specs.Plan.{lettersOf, behind, bytesOf, planned, outcomeOf, AllPut, Ready};
 ghost use Rattle.session.specs.Fit.{Byted, AllFit};
 
 // Waiting for a logon, active, or closed.
@@ -137,11 +142,18 @@ fn unchanged(r: Record, answer: Answer) -> Answered
     }
 }
 
-// The reply to a move that writes, from the record as it was.
-fn stamped(r: Record, m: Move, body: &[u8], time: u64, buf: &mut [u8]) -> usize
+// The messages of a plan, from the record as it was.
+fn stamped(
+    r: Record,
+    first: Letter,
+    second: Letter,
+    body: &[u8],
+    time: u64,
+    buf: &mut [u8],
+) -> usize
     requires { ⌜ Ready r ⌝ }
-    requires { ⌜ (512 ≤ length (now buf)) × (time < limit) × Carried (now body) m ⌝ }
-    ensures bytes { λ n. ⌜ Wrote (now (buf .entry)) (now (buf .exit)) 0 n (replied r time (now (body .entry)) m) ⌝ }
+    requires { ⌜ (512 ≤ length (now buf)) × (time < limit) × AllPut (lettersOf (now body) (r .next) first ++ lettersOf (now body) (behind (r .next) first) second) ⌝ }
+    ensures bytes { λ n. ⌜ Wrote (now (buf .entry)) (now (buf .exit)) 0 n (joined (bytesOf (take (r .oursLen) (r .ours)) (take (r .peerLen) (r .peer)) (utc time) (lettersOf (now (body .entry)) (r .next) first ++ lettersOf (now (body .entry)) (behind (r .next) first) second))) ⌝ }
     ensures room { λ n. ⌜ n ≤ 512 ⌝ }
 {
     let stamp = utc(time);
@@ -149,42 +161,37 @@ fn stamped(r: Record, m: Move, body: &[u8], time: u64, buf: &mut [u8]) -> usize
     let o = r.oursLen;
     let peer = r.peer;
     let p = r.peerLen;
-    put_reply(
-        m,
+    put_both(
+        first,
+        second,
         buf,
         &ours[..o],
         &peer[..p],
         r.next,
-        r.expected,
         &stamp,
         body,
     )
 }
 
-// The reply to a move. One that writes nothing needs no time in words.
-fn reply(r: Record, m: Move, body: &[u8], time: u64, buf: &mut [u8]) -> usize
+// A plan, carried out: its messages are put, and the record changed. One that writes nothing needs no time in words.
+fn play(r: Record, p: Plan, body: &[u8], time: u64, buf: &mut [u8]) -> Answered
     requires { ⌜ Ready r ⌝ }
-    requires { ⌜ (512 ≤ length (now buf)) × (time < limit) × Carried (now body) m ⌝ }
-    ensures bytes { λ n. ⌜ Wrote (now (buf .entry)) (now (buf .exit)) 0 n (replied r time (now (body .entry)) m) ⌝ }
-    ensures room { λ n. ⌜ n ≤ 512 ⌝ }
+    requires { ⌜ (512 ≤ length (now buf)) × (time < limit) × AllPut (planned (now body) (sessionOf r) p .letters) ⌝ }
+    ensures { λ a. ⌜ Leaves r (outcomeOf time (sessionOf r) (planned (now (body .entry)) (sessionOf r) p) (now (buf .entry))) a (now (buf .exit)) ⌝ }
 {
-    match m {
-        Move::Quiet { expected: _ } => 0,
-        Move::Ignore => 0,
-        Move::Deliver => 0,
-        _ => stamped(r, m, body, time, buf),
+    let first = p.first;
+    let second = p.second;
+    let st = p.status;
+    let answer = answer_of(p.delivered);
+    let next = next_after(second, next_after(first, r.next));
+    if is_quiet(first, second) {
+        return unchanged(
+            changed(r, st, p.expected, next, p.heartbeat, r.sent),
+            answer,
+        );
     }
-}
-
-// A move, made: the reply is put, and the record changed.
-fn play(r: Record, m: Move, body: &[u8], time: u64, buf: &mut [u8]) -> Answered
-    requires { ⌜ Ready r ⌝ }
-    requires { ⌜ (512 ≤ length (now buf)) × (time < limit) × AllFit time (sessionOf r) (deedsOf (sessionOf r) (now body) m) ⌝ }
-    ensures { λ a. ⌜ Leaves r (making time (sessionOf r) (deedsOf (sessionOf r) (now (body .entry)) m) (now (buf .entry))) a (now (buf .exit)) ⌝ }
-{
-    let len = reply(r, m, body, time, buf);
-    let after = moved(r, m, time);
-    let answer = answer_of(m);
+    let len = stamped(r, first, second, body, time, buf);
+    let after = changed(r, st, p.expected, next, p.heartbeat, time);
     Answered { answer, after, len }
 }
 
@@ -201,14 +208,14 @@ fn moving(r: Record, body: &[u8], time: u64, buf: &mut [u8]) -> Answered
             match gate {
                 Gate::Shut(k) => refused(r, k),
                 Gate::Open => {
-                    let m = waiting(r, body);
-                    play(r, m, body, time, buf)
+                    let p = waiting(r, body);
+                    play(r, p, body, time, buf)
                 }
             }
         }
         Status::Active => {
-            let m = active(r, body);
-            play(r, m, body, time, buf)
+            let p = active(r, body);
+            play(r, p, body, time, buf)
         }
         Status::Closed => unchanged(r, Answer::Done),
     }
@@ -270,7 +277,7 @@ pub fn tick(r: Record, time: u64, buf: &mut [u8]) -> Answered
     if !is_due(r, time) {
         return unchanged(r, Answer::NothingDue);
     }
-    play(r, Move::Beat, b"", time, buf)
+    play(r, beating(r), b"", time, buf)
 }
 
 // A CompID in eleven bytes, with zeros behind it.

@@ -1,128 +1,208 @@
 // The moves: what a session does with the body of a good frame, decided rule by rule.
 use crate::Record;
+use crate::Status;
 use crate::reads::holds;
+use crate::reads::holds_at;
 use crate::reads::is_clean;
 use crate::reads::is_there;
+use crate::reads::number_at;
 use crate::reads::number_in;
 use crate::reads::type_in;
 use dictionary::Verdict;
 use dictionary::verdict_on;
+use fields::Place;
+use fields::heads_of;
 ghost use mathlib.Core.Path.{_≡_};
+ghost use mathlib.Core.Bool.{true, false};
+ghost use Prim.Native.Nat.{_+_};
+ghost use lib.Dec.{eqb};
+ghost use Rattle.fields.specs.First.{First};
+ghost use Rattle.dictionary.specs.Verdict.{msgType};
 ghost use Rattle.session.specs.Words.{_otherwise_};
 ghost use Rattle.session.specs.Moves.{N, counted, unserved, served, waiting, active, bare-reset, too-high, too-low, filled, in-turn};
 ghost use Rattle.session.specs.Held.{sessionOf};
-ghost use Rattle.session.specs.Plan.{deedsOf, rejectedBy, strangeTag, unservedTag, fillTo, isBareReset, Ready};
+ghost use Rattle.session.specs.Plan.{planned, summed, says, counts, expects, closes, delivers, accepts, raised, rejectedBy, strangeTag, unservedTag, fillTo, isBareReset, typeByte, Ready};
 
-// A move, in numbers. Where `counted` holds, E rises by one; elsewhere the comment says so.
-pub enum Move {
-    // E becomes this number, and nothing is written.
-    Quiet {
-        expected: u64,
-    },
-    Ignore,
-    // The frame is delivered; E + 1.
-    Deliver,
-    // Our Logout, with 1409=101.
-    LogOut,
-    // The answer to a Logout, with 1409=4; E + 1.
-    ConfirmLogOut,
-    Reject {
-        reason: u64,
-        tag: u64,
-        counted: bool,
-    },
-    // Reject 9 with the tag, then our Logout.
-    RejectAndLogOut {
-        tag: u64,
-        counted: bool,
-    },
-    // A Resend Request from E.
-    Ask,
-    // A gap fill from begin to new, and then a Resend Request from E.
-    FillAndAsk {
-        begin: u64,
-        new: u64,
-    },
-    // A gap fill; E + 1.
-    Fill {
-        begin: u64,
-        new: u64,
-    },
-    // A Heartbeat with the 112 of a Test Request; E + 1.
-    Echo,
-    // Our Logon; E + 1.
-    Accept {
-        seconds: u64,
-    },
-    // Our Logon with 141=Y as number 1; E is 2.
-    AcceptAnew {
-        seconds: u64,
-    },
-    // Our Logon, and then a Resend Request from E.
-    AcceptAndAsk {
-        seconds: u64,
-    },
+// A message of ours, in numbers.
+pub enum Letter {
+    Nothing,
     // The Heartbeat of a tick.
-    Beat,
+    Heartbeat,
+    // A Heartbeat with the 112 of a Test Request.
+    Echo,
+    // Our Logon; anew with 141=Y and as number 1.
+    Logon { anew: bool },
+    // A Resend Request.
+    Ask { from: u64 },
+    // A Reject of the message that came.
+    Reject { reason: u64, tag: u64 },
+    // A gap fill, which has its own number and uses no new one.
+    Fill { begin: u64, new: u64 },
+    Logout { why: u64 },
 }
 
-fn rejected(v: Verdict, counted: bool) -> Move
-    ensures { λ m. ⌜ m ≡ rejectedBy v counted ⌝ }
+// A move: at most two messages, one behind the other, and what becomes of the record.
+pub struct Plan {
+    pub delivered: bool,
+    pub first: Letter,
+    pub second: Letter,
+    pub status: Status,
+    pub expected: u64,
+    pub heartbeat: u64,
+}
+
+// Messages that change nothing but our numbers.
+pub fn saying(r: Record, first: Letter, second: Letter) -> Plan
+    ensures { λ p. ⌜ p ≡ says (sessionOf r) first second ⌝ }
+{
+    let st = r.status;
+    Plan {
+        delivered: false,
+        first,
+        second,
+        status: st,
+        expected: r.expected,
+        heartbeat: r.heartbeat,
+    }
+}
+
+// A message, and E + 1.
+fn counting(r: Record, first: Letter) -> Plan
+    requires { ⌜ Ready r ⌝ }
+    ensures { λ p. ⌜ p ≡ counts (sessionOf r) first ⌝ }
+{
+    let st = r.status;
+    Plan {
+        delivered: false,
+        first,
+        second: Letter::Nothing,
+        status: st,
+        expected: r.expected + 1,
+        heartbeat: r.heartbeat,
+    }
+}
+
+// No message; E becomes e.
+fn expecting(r: Record, e: u64) -> Plan
+    ensures { λ p. ⌜ p ≡ expects (sessionOf r) e ⌝ }
+{
+    let st = r.status;
+    Plan {
+        delivered: false,
+        first: Letter::Nothing,
+        second: Letter::Nothing,
+        status: st,
+        expected: e,
+        heartbeat: r.heartbeat,
+    }
+}
+
+// Messages of which the last is our Logout; E becomes e.
+fn closing(r: Record, first: Letter, second: Letter, e: u64) -> Plan
+    ensures { λ p. ⌜ p ≡ closes (sessionOf r) first second e ⌝ }
+{
+    Plan {
+        delivered: false,
+        first,
+        second,
+        status: Status::Closed,
+        expected: e,
+        heartbeat: r.heartbeat,
+    }
+}
+
+// The frame is delivered; E + 1.
+fn delivering(r: Record) -> Plan
+    requires { ⌜ Ready r ⌝ }
+    ensures { λ p. ⌜ p ≡ delivers (sessionOf r) ⌝ }
+{
+    let st = r.status;
+    Plan {
+        delivered: true,
+        first: Letter::Nothing,
+        second: Letter::Nothing,
+        status: st,
+        expected: r.expected + 1,
+        heartbeat: r.heartbeat,
+    }
+}
+
+// The Heartbeat of a tick.
+pub fn beating(r: Record) -> Plan
+    ensures { λ p. ⌜ p ≡ says (sessionOf r) Letter.Heartbeat Letter.Nothing ⌝ }
+{
+    saying(r, Letter::Heartbeat, Letter::Nothing)
+}
+
+fn rejected(v: Verdict) -> Letter
+    ensures { λ l. ⌜ l ≡ rejectedBy v ⌝ }
 {
     match v {
-        Verdict::Clean => Move::Reject {
-            reason: 0,
-            tag: 0,
-            counted,
-        },
-        Verdict::Finding { reason, tag } => Move::Reject {
+        Verdict::Clean => Letter::Reject { reason: 0, tag: 0 },
+        Verdict::Finding { reason, tag } => Letter::Reject {
             reason: reason as u64,
             tag: tag as u64,
-            counted,
         },
-        Verdict::NoBody => Move::Reject {
-            reason: 0,
-            tag: 0,
-            counted,
-        },
+        Verdict::NoBody => Letter::Reject { reason: 0, tag: 0 },
     }
 }
 
 // Rule 2: the tag of the CompID that is missing or not as it should be, or 0.
-pub fn strange_tag(r: Record, body: &[u8]) -> u64
-    requires { ⌜ Ready r ⌝ }
+pub fn strange_at(r: Record, body: &[u8], sender: Place, target: Place) -> u64
+    requires { ⌜ Ready r × First 49 (now body) sender × First 56 (now body) target ⌝ }
     ensures { λ t. ⌜ t ≡ strangeTag (sessionOf r) (now (body .entry)) ⌝ }
 {
     let peer = r.peer;
     let p = r.peerLen;
-    if !holds(body, 49, &peer[..p]) {
+    if !holds_at(body, 49, sender, &peer[..p]) {
         return 49;
     }
     let ours = r.ours;
     let o = r.oursLen;
-    if !holds(body, 56, &ours[..o]) {
+    if !holds_at(body, 56, target, &ours[..o]) {
         return 56;
     }
     0
 }
 
+// The same, looked for in the body.
+pub fn strange_tag(r: Record, body: &[u8]) -> u64
+    requires { ⌜ Ready r ⌝ }
+    ensures { λ t. ⌜ t ≡ strangeTag (sessionOf r) (now (body .entry)) ⌝ }
+{
+    let h = heads_of(body);
+    let sender = h.sender;
+    let target = h.target;
+    strange_at(r, body, sender, target)
+}
+
+// Rule 2: Reject 9 with the tag, then Logout; E + 1 if N = E.
+fn stranger(r: Record, n: u64, tag: u64) -> Plan
+    requires { ⌜ Ready r ⌝ }
+    ensures { λ p. ⌜ p ≡ closes (sessionOf r) (Letter.Reject 9 tag) (Letter.Logout 101) (raised (eqb n (r .expected)) (r .expected)) ⌝ }
+{
+    let e = r.expected;
+    let reject = Letter::Reject { reason: 9, tag };
+    let logout = Letter::Logout { why: 101 };
+    if n == e {
+        return closing(r, reject, logout, e + 1);
+    }
+    closing(r, reject, logout, e)
+}
+
 // Rule 3: type 4 without 123=Y.
-fn bare_reset(r: Record, body: &[u8]) -> Move
-    ensures { λ m. ⌜ deedsOf (sessionOf r) (now (body .entry)) m ≡ bare-reset (sessionOf r) (now (body .entry)) ⌝ }
+fn bare_reset(r: Record, body: &[u8]) -> Plan
+    ensures { λ p. ⌜ planned (now (body .entry)) (sessionOf r) p ≡ summed (sessionOf r) (bare-reset (sessionOf r) (now (body .entry))) ⌝ }
 {
     let v = verdict_on(body);
     if !is_clean(v) {
-        return rejected(v, false);
+        return saying(r, rejected(v), Letter::Nothing);
     }
     let new = number_in(body, 36, 0);
     if new < r.expected {
-        return Move::Reject {
-            reason: 5,
-            tag: 36,
-            counted: false,
-        };
+        return saying(r, Letter::Reject { reason: 5, tag: 36 }, Letter::Nothing);
     }
-    Move::Quiet { expected: new }
+    expecting(r, new)
 }
 
 // Why a Resend Request is not served: the tag, or 0.
@@ -160,88 +240,84 @@ fn fill_to(r: Record, body: &[u8]) -> u64
 }
 
 // Rule 4: N > E.
-fn too_high(r: Record, body: &[u8]) -> Move
-    requires { ⌜ Ready r ⌝ }
-    ensures { λ m. ⌜ deedsOf (sessionOf r) (now (body .entry)) m ≡ too-high (sessionOf r) (now (body .entry)) ⌝ }
+fn too_high(r: Record, t: u8, body: &[u8]) -> Plan
+    requires { ⌜ Ready r × (t ≡ typeByte (msgType (now body))) ⌝ }
+    ensures { λ p. ⌜ planned (now (body .entry)) (sessionOf r) p ≡ summed (sessionOf r) (too-high (sessionOf r) (now (body .entry))) ⌝ }
 {
-    if type_in(body) != b'2' {
-        return Move::Ask;
+    let ask = Letter::Ask { from: r.expected };
+    if t != b'2' {
+        return saying(r, ask, Letter::Nothing);
     }
     let v = verdict_on(body);
     if !is_clean(v) {
-        return Move::Ask;
+        return saying(r, ask, Letter::Nothing);
     }
     if unserved_tag(r, body) != 0 {
-        return Move::Ask;
+        return saying(r, ask, Letter::Nothing);
     }
     let begin = number_in(body, 7, 0);
     let new = fill_to(r, body);
-    Move::FillAndAsk { begin, new }
+    saying(r, Letter::Fill { begin, new }, ask)
 }
 
 // Rule 5: N < E.
-fn too_low(r: Record, body: &[u8]) -> Move
-    ensures { λ m. ⌜ deedsOf (sessionOf r) (now (body .entry)) m ≡ too-low (sessionOf r) (now (body .entry)) ⌝ }
+fn too_low(r: Record, body: &[u8]) -> Plan
+    ensures { λ p. ⌜ planned (now (body .entry)) (sessionOf r) p ≡ summed (sessionOf r) (too-low (sessionOf r) (now (body .entry))) ⌝ }
 {
     if !holds(body, 43, b"Y") {
-        return Move::LogOut;
+        return closing(r, Letter::Logout { why: 101 }, Letter::Nothing, r.expected);
     }
     if !is_there(body, 122) {
-        return Move::Reject {
-            reason: 1,
-            tag: 122,
-            counted: false,
-        };
+        return saying(
+            r,
+            Letter::Reject {
+                reason: 1,
+                tag: 122,
+            },
+            Letter::Nothing,
+        );
     }
-    Move::Ignore
+    saying(r, Letter::Nothing, Letter::Nothing)
 }
 
 // Rule 6, type 2: "Serving 7=b, 16=e".
-fn serve(r: Record, body: &[u8]) -> Move
+fn serve(r: Record, body: &[u8]) -> Plan
     requires { ⌜ Ready r ⌝ }
-    ensures { λ m. ⌜ deedsOf (sessionOf r) (now (body .entry)) m ≡ counted (sessionOf r) (now (body .entry)) (unserved (sessionOf r) (now (body .entry)) otherwise served (sessionOf r) (now (body .entry))) ⌝ }
+    ensures { λ p. ⌜ planned (now (body .entry)) (sessionOf r) p ≡ summed (sessionOf r) (counted (sessionOf r) (now (body .entry)) (unserved (sessionOf r) (now (body .entry)) otherwise served (sessionOf r) (now (body .entry)))) ⌝ }
 {
     let tag = unserved_tag(r, body);
     if tag != 0 {
-        return Move::Reject {
-            reason: 5,
-            tag,
-            counted: true,
-        };
+        return counting(r, Letter::Reject { reason: 5, tag });
     }
     let begin = number_in(body, 7, 0);
     let new = fill_to(r, body);
-    Move::Fill { begin, new }
+    counting(r, Letter::Fill { begin, new })
 }
 
 // Rule 6, type 4: a gap fill.
-fn filled(r: Record, n: u64, body: &[u8]) -> Move
-    requires { ⌜ n ≡ N (sessionOf r) (now body) ⌝ }
-    ensures { λ m. ⌜ deedsOf (sessionOf r) (now (body .entry)) m ≡ filled (sessionOf r) (now (body .entry)) ⌝ }
+fn filled(r: Record, n: u64, body: &[u8]) -> Plan
+    requires { ⌜ Ready r × (n ≡ N (sessionOf r) (now body)) ⌝ }
+    ensures { λ p. ⌜ planned (now (body .entry)) (sessionOf r) p ≡ summed (sessionOf r) (filled (sessionOf r) (now (body .entry))) ⌝ }
 {
     let new = number_in(body, 36, 0);
     if new <= n {
-        return Move::Reject {
-            reason: 5,
-            tag: 36,
-            counted: true,
-        };
+        return counting(r, Letter::Reject { reason: 5, tag: 36 });
     }
-    Move::Quiet { expected: new }
+    expecting(r, new)
 }
 
 // Rule 6: N = E.
-fn in_turn(r: Record, n: u64, body: &[u8]) -> Move
-    requires { ⌜ Ready r × (n ≡ N (sessionOf r) (now body)) ⌝ }
-    ensures { λ m. ⌜ deedsOf (sessionOf r) (now (body .entry)) m ≡ in-turn (sessionOf r) (now (body .entry)) ⌝ }
+fn in_turn(r: Record, n: u64, t: u8, body: &[u8]) -> Plan
+    requires { ⌜ Ready r × (n ≡ N (sessionOf r) (now body)) × (t ≡ typeByte (msgType (now body))) ⌝ }
+    ensures { λ p. ⌜ planned (now (body .entry)) (sessionOf r) p ≡ summed (sessionOf r) (in-turn (sessionOf r) (now (body .entry))) ⌝ }
 {
+    let up = r.expected + 1;
     let v = verdict_on(body);
     if !is_clean(v) {
-        return rejected(v, true);
+        return counting(r, rejected(v));
     }
-    let t = type_in(body);
     if t == b'1' {
-        return Move::Echo;
+        return counting(r, Letter::Echo);
     }
     if t == b'2' {
         return serve(r, body);
@@ -250,83 +326,102 @@ fn in_turn(r: Record, n: u64, body: &[u8]) -> Move
         return filled(r, n, body);
     }
     if t == b'5' {
-        return Move::ConfirmLogOut;
+        return closing(r, Letter::Logout { why: 4 }, Letter::Nothing, up);
     }
     if t == b'A' {
-        return Move::Reject {
-            reason: 99,
-            tag: 35,
-            counted: true,
-        };
+        return counting(
+            r,
+            Letter::Reject {
+                reason: 99,
+                tag: 35,
+            },
+        );
     }
     if t == b'D' {
-        return Move::Deliver;
+        return delivering(r);
     }
     if t == b'F' {
-        return Move::Deliver;
+        return delivering(r);
     }
-    Move::Quiet {
-        expected: r.expected + 1,
-    }
+    expecting(r, up)
 }
 
 // Whether a body is a Sequence Reset without 123=Y.
-fn is_bare_reset(body: &[u8]) -> bool
+fn is_bare_reset(t: u8, body: &[u8]) -> bool
+    requires { ⌜ t ≡ typeByte (msgType (now body)) ⌝ }
     ensures { λ b. ⌜ b ≡ isBareReset (now (body .entry)) ⌝ }
 {
-    if type_in(body) != b'4' {
+    if t != b'4' {
         return false;
     }
     !holds(body, 123, b"Y")
 }
 
 // While Active: the first rule that fits. Rule 1, 34 unreadable, stands here; a number that can be read is not 0.
-pub fn active(r: Record, body: &[u8]) -> Move
+pub fn active(r: Record, body: &[u8]) -> Plan
     requires { ⌜ Ready r ⌝ }
-    ensures { λ m. ⌜ deedsOf (sessionOf r) (now (body .entry)) m ≡ active (sessionOf r) (now (body .entry)) ⌝ }
+    ensures { λ p. ⌜ planned (now (body .entry)) (sessionOf r) p ≡ summed (sessionOf r) (active (sessionOf r) (now (body .entry))) ⌝ }
 {
-    let n = number_in(body, 34, 1);
+    let h = heads_of(body);
+    let number = h.number;
+    let sender = h.sender;
+    let target = h.target;
+    let n = number_at(body, 34, number, 1);
     let e = r.expected;
     if n == 0 {
-        return Move::LogOut;
+        return closing(r, Letter::Logout { why: 101 }, Letter::Nothing, r.expected);
     }
-    let tag = strange_tag(r, body);
+    let tag = strange_at(r, body, sender, target);
     if tag != 0 {
-        return Move::RejectAndLogOut {
-            tag,
-            counted: n == e,
-        };
+        return stranger(r, n, tag);
     }
-    if is_bare_reset(body) {
+    let t = type_in(body);
+    if is_bare_reset(t, body) {
         return bare_reset(r, body);
     }
     if e < n {
-        return too_high(r, body);
+        return too_high(r, t, body);
     }
     if n < e {
         return too_low(r, body);
     }
-    in_turn(r, n, body)
+    in_turn(r, n, t, body)
+}
+
+// Our Logon, and perhaps a Resend Request behind it; the session is Active.
+fn accepting(anew: bool, second: Letter, e: u64, seconds: u64) -> Plan
+    ensures { λ p. ⌜ p ≡ accepts anew second e seconds ⌝ }
+{
+    Plan {
+        delivered: false,
+        first: Letter::Logon { anew },
+        second,
+        status: Status::Active,
+        expected: e,
+        heartbeat: seconds,
+    }
 }
 
 // While Waiting: a logon that is accepted, or is answered by our Logout.
-pub fn waiting(r: Record, body: &[u8]) -> Move
-    ensures { λ m. ⌜ deedsOf (sessionOf r) (now (body .entry)) m ≡ waiting (sessionOf r) (now (body .entry)) ⌝ }
+pub fn waiting(r: Record, body: &[u8]) -> Plan
+    requires { ⌜ Ready r ⌝ }
+    ensures { λ p. ⌜ planned (now (body .entry)) (sessionOf r) p ≡ summed (sessionOf r) (waiting (sessionOf r) (now (body .entry))) ⌝ }
 {
     let n = number_in(body, 34, 1);
     let e = r.expected;
+    let up = e + 1;
     let seconds = number_in(body, 108, 0);
     if holds(body, 141, b"Y") {
         if n == 1 {
-            return Move::AcceptAnew { seconds };
+            return accepting(true, Letter::Nothing, 2, seconds);
         }
-        return Move::LogOut;
+        return closing(r, Letter::Logout { why: 101 }, Letter::Nothing, r.expected);
     }
     if n < e {
-        return Move::LogOut;
+        return closing(r, Letter::Logout { why: 101 }, Letter::Nothing, r.expected);
     }
     if n == e {
-        return Move::Accept { seconds };
+        return accepting(false, Letter::Nothing, up, seconds);
     }
-    Move::AcceptAndAsk { seconds }
+    accepting(false, Letter::Ask { from: e }, e, seconds)
 }
