@@ -5,14 +5,8 @@ use Rattle.calendar.proofs.Texts.{utc-by}
 use Rattle.calendar.proofs.before_limit.Statement.{statement}
 use Rattle.calendar.proofs.before_limit.Tie as tie
 
-date-of-requires : tie.Need-date-of-requires
-date-of-requires c κs = search needs
-
-written-requires : tie.Need-written-requires
-written-requires c κs = search needs
-
 returns : tie.Need-returns
 returns c = c .written .ensures ∙ utc-by (c .before .before .args .t) (c .before .date-of .ensures)
 
 pub before-limit-spec : {M : Type 1} → statement M
-before-limit-spec = tie.close (tie.spec date-of-requires written-requires returns)
+before-limit-spec = tie.close (tie.spec (λ c κs. search needs) (λ c κs. search needs) returns)

@@ -5,17 +5,11 @@ use Rattle.calendar.proofs.Texts.{utc-before, utc-past}
 use Rattle.calendar.proofs.utc.Statement.{statement}
 use Rattle.calendar.proofs.utc.Tie as tie
 
-before-limit-requires : tie.Need-before-limit-requires
-before-limit-requires c κs = search needs
-
 returns : tie.Need-returns
 returns c = c .before-limit .ensures ∙ sym (utc-before (c .before .before .args .micros) (c .before .if1 .taken))
-
-before-limit-requires-2 : tie.Need-before-limit-requires-2
-before-limit-requires-2 c κs = search needs
 
 returns-2 : tie.Need-returns-2
 returns-2 c = c .before-limit2 .ensures ∙ sym (utc-past (c .before .before .args .micros) (c .before .if1 .left))
 
 pub utc-spec : {M : Type 1} → statement M
-utc-spec = tie.close (tie.spec before-limit-requires returns before-limit-requires-2 returns-2)
+utc-spec = tie.close (tie.spec (λ c κs. search needs) returns (λ c κs. search needs) returns-2)

@@ -4,36 +4,6 @@ use Rattle.calendar.proofs.Texts.{text-joined}
 use Rattle.calendar.proofs.written.Statement.{statement}
 use Rattle.calendar.proofs.written.Tie as tie
 
-two-requires : tie.Need-two-requires
-two-requires c κs = search needs
-
-two-requires-2 : tie.Need-two-requires-2
-two-requires-2 c κs = search needs
-
-two-requires-3 : tie.Need-two-requires-3
-two-requires-3 c κs = search needs
-
-two-requires-4 : tie.Need-two-requires-4
-two-requires-4 c κs = search needs
-
-two-requires-5 : tie.Need-two-requires-5
-two-requires-5 c κs = search needs
-
-two-requires-6 : tie.Need-two-requires-6
-two-requires-6 c κs = search needs
-
-two-requires-7 : tie.Need-two-requires-7
-two-requires-7 c κs = search needs
-
-two-requires-8 : tie.Need-two-requires-8
-two-requires-8 c κs = search needs
-
-two-requires-9 : tie.Need-two-requires-9
-two-requires-9 c κs = search needs
-
-two-requires-10 : tie.Need-two-requires-10
-two-requires-10 c κs = search needs
-
 returns : tie.Need-returns
 returns c =
     let s = c .before .before .before .before .before .before .before .before .before .before .before .args in
@@ -43,14 +13,14 @@ pub written-spec : {M : Type 1} → statement M
 written-spec =
     tie.close
     (tie.spec
-    two-requires
-    two-requires-2
-    two-requires-3
-    two-requires-4
-    two-requires-5
-    two-requires-6
-    two-requires-7
-    two-requires-8
-    two-requires-9
-    two-requires-10
+    (λ c κs. search needs)
+    (λ c κs. search needs)
+    (λ c κs. search needs)
+    (λ c κs. search needs)
+    (λ c κs. search needs)
+    (λ c κs. search needs)
+    (λ c κs. search needs)
+    (λ c κs. search needs)
+    (λ c κs. search needs)
+    (λ c κs. search needs)
     returns)

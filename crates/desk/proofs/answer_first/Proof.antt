@@ -7,18 +7,9 @@ use lib.Seq.{length-take-le}
 use Rattle.desk.proofs.answer_first.Statement.{statement}
 use Rattle.desk.proofs.answer_first.Tie as tie
 
-returns : tie.Need-returns
-returns c = search needs
-
 slice-aggregate-answer-all : tie.Need-slice-aggregate-answer-all
 slice-aggregate-answer-all c = sym (length-take-le (c .before .before .before .args .n) (now (c .before .before .before .args .s)) (omega arith))
 
-answer-all-requires : tie.Need-answer-all-requires
-answer-all-requires c κs = search needs
-
-returns-2 : tie.Need-returns-2
-returns-2 c = search needs
-
 pub answer-first-spec : {M : Type 1} → statement M
 answer-first-spec =
-    tie.close (tie.spec returns slice-aggregate-answer-all answer-all-requires returns-2)
+    tie.close (tie.spec (λ c. search needs) slice-aggregate-answer-all (λ c κs. search needs) (λ c. search needs))

@@ -12,18 +12,9 @@ use Rattle.frame.proofs.Bodies.{body-fits, body-is}
 use Rattle.frame.proofs.body_of.Statement.{statement}
 use Rattle.frame.proofs.body_of.Tie as tie
 
-is-frame-requires : tie.Need-is-frame-requires
-is-frame-requires c κs = search needs
-
 number-requires : tie.Need-number-requires
 unfolding fixt
 number-requires c κs = let G = c .before .is-frame .ensures .0 (c .if1 .taken) in omega (arith, good-shortest fixt _ G)
-
-add-a : tie.Need-add-a
-add-a c = search needs
-
-sub-e : tie.Need-sub-e
-sub-e c = search needs
 
 sub-result : tie.Need-sub-result
 unfolding fixt
@@ -35,9 +26,6 @@ unfolding fixt
 part-result-start c =
     let G = c .before .before .is-frame .ensures .0 (c .before .if1 .taken) in omega (arith, (body-fits fixt _ G _ _ (c .number .ensures)) .0)
 
-part-result-end : tie.Need-part-result-end
-part-result-end c = search needs
-
 returns : tie.Need-returns
 unfolding fixt
 returns c =
@@ -47,9 +35,6 @@ returns c =
     let e : 13 + (n + 1) ≡ 14 + n = omega arith in
     subst (λ (k : ℕ). BodyOf fixt f (take (length f - 7 - k) (drop k f))) e (body-is fixt f G _ _ (c .before .number .ensures))
 
-slice-aggregate-result : tie.Need-slice-aggregate-result
-slice-aggregate-result c = search needs
-
 returns-2 : tie.Need-returns-2
 returns-2 c = no-frame (λ G. absurd (subst T (sym (c .before .before .is-frame .ensures .1 G) ∙ c .before .if1 .left) tt))
 
@@ -57,13 +42,13 @@ pub body-of-spec : {M : Type 1} → statement M
 body-of-spec =
     tie.close
     (tie.spec
-    is-frame-requires
+    (λ c κs. search needs)
     number-requires
-    add-a
-    sub-e
+    (λ c. search needs)
+    (λ c. search needs)
     sub-result
     part-result-start
-    part-result-end
+    (λ c. search needs)
     returns
-    slice-aggregate-result
+    (λ c. search needs)
     returns-2)

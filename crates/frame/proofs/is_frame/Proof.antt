@@ -10,9 +10,6 @@ use Rattle.frame.proofs.Unique.{whole-handed, handed-whole}
 use Rattle.frame.proofs.is_frame.Statement.{statement}
 use Rattle.frame.proofs.is_frame.Tie as tie
 
-read-requires : tie.Need-read-requires
-read-requires c κs = search needs
-
 returns : tie.Need-returns
 returns c =
     ((λ e. absurd (subst T (sym e) tt)), λ G. absurd (omega (arith, good-shortest fixt _ G, (whole-handed fixt _ _ _ (c .before .read .ensures) G) .1)))
@@ -28,4 +25,4 @@ returns-3 c = (
 )
 
 pub is-frame-spec : {M : Type 1} → statement M
-is-frame-spec = tie.close (tie.spec read-requires returns returns-2 returns-3)
+is-frame-spec = tie.close (tie.spec (λ c κs. search needs) returns returns-2 returns-3)

@@ -5,9 +5,6 @@ use Rattle.frame.proofs.Marks.{fixt-ok}
 use Rattle.frame.proofs.read.Statement.{statement}
 use Rattle.frame.proofs.read.Tie as tie
 
-slice-aggregate-read-with : tie.Need-slice-aggregate-read-with
-slice-aggregate-read-with c = search needs
-
 read-with-requires : tie.Need-read-with-requires
 unfolding fixt
 read-with-requires c κs = fixt-ok
@@ -17,4 +14,4 @@ unfolding fixt
 returns c = c .read-with .ensures
 
 pub read-spec : {M : Type 1} → statement M
-read-spec = tie.close (tie.spec slice-aggregate-read-with read-with-requires returns)
+read-spec = tie.close (tie.spec (λ c. search needs) read-with-requires returns)

@@ -31,12 +31,6 @@ shared-slice-read-x c = let k = c .before .before .before .pre .long in omega ar
 positions-holds : tie.Need-positions-holds Inv-parts μ-parts Inv-positions μ-positions
 positions-holds c = (omega arith, λ q l. absurd (omega arith))
 
-next-start-requires : tie.Need-next-start-requires Inv-parts μ-parts Inv-positions μ-positions
-next-start-requires c κs = search needs
-
-slice-aggregate-found : tie.Need-slice-aggregate-found Inv-parts μ-parts Inv-positions μ-positions
-slice-aggregate-found c = search needs
-
 parts-holds : tie.Need-parts-holds Inv-parts μ-parts Inv-positions μ-positions
 parts-holds c =
     let a = c .before .before .before .before .before .before .args in
@@ -45,9 +39,6 @@ parts-holds c =
 
 look-requires : tie.Need-look-requires Inv-parts μ-parts Inv-positions μ-positions
 look-requires c κs = (c .before .before .before .before .before .before .before .pre, c .parts .inv .1 .0)
-
-enum-known-next : tie.Need-enum-known-next Inv-parts μ-parts Inv-positions μ-positions
-enum-known-next c = search needs
 
 parts-less : tie.Need-parts-less Inv-parts μ-parts Inv-positions μ-positions
 parts-less c =
@@ -68,9 +59,6 @@ parts-again c =
     let x = c .before .before .before .before .parts .part in
     let w = subst (λ (y : Step). Stepped R s q x y) (c .before .next .given .1) (c .before .before .before .look .ensures) in
     (c .before .before .before .before .parts .inv .0, (w .0, c .before .before .before .before .parts .inv .1 .1))
-
-enum-known-e : tie.Need-enum-known-e Inv-parts μ-parts Inv-positions μ-positions
-enum-known-e c = search needs
 
 sub-found : tie.Need-sub-found Inv-parts μ-parts Inv-positions μ-positions
 sub-found c =
@@ -102,15 +90,9 @@ part-found-end c =
     let w = subst (λ (y : Step). Stepped R s q x y) (c .before .e .given .1) (c .before .before .before .look .ensures) in
     w .to
 
-enum-told : tie.Need-enum-told Inv-parts μ-parts Inv-positions μ-positions
-enum-told c = search needs
-
 slice-aggregate-found-2 :
     tie.Need-slice-aggregate-found-2 Inv-parts μ-parts Inv-positions μ-positions
 slice-aggregate-found-2 c = search needs
-
-enum-known-next-2 : tie.Need-enum-known-next-2 Inv-parts μ-parts Inv-positions μ-positions
-enum-known-next-2 c = search needs
 
 positions-less : tie.Need-positions-less Inv-parts μ-parts Inv-positions μ-positions
 positions-less c =
@@ -171,20 +153,20 @@ read-with-spec =
     μ-positions
     shared-slice-read-x
     positions-holds
-    next-start-requires
-    slice-aggregate-found
+    (λ c κs. search needs)
+    (λ c. search needs)
     parts-holds
     look-requires
-    enum-known-next
+    (λ c. search needs)
     parts-less
     parts-again
-    enum-known-e
+    (λ c. search needs)
     sub-found
     part-found-start
     part-found-end
-    enum-told
+    (λ c. search needs)
     slice-aggregate-found-2
-    enum-known-next-2
+    (λ c. search needs)
     positions-less
     positions-again
     returns

@@ -4,18 +4,9 @@ use Rattle.gateway.proofs.Records.{new-left}
 use Rattle.gateway.proofs.fixgw_new.Statement.{statement}
 use Rattle.gateway.proofs.fixgw_new.Tie as tie
 
-new-requires : tie.Need-new-requires
-new-requires c κs = search needs
-
-save-requires : tie.Need-save-requires
-save-requires c κs = search needs
-
-number-of-requires : tie.Need-number-of-requires
-number-of-requires c κs = search needs
-
 returns : tie.Need-returns
 returns c =
     new-left (c .before .before .before .before .before .before .before .before .before .args .us .now) (c .before .before .before .before .before .before .before .before .before .args .them .now) (c .before .before .before .before .before .before .new .ensures) (c .number-of .ensures) (c .before .save .ensures)
 
 pub fixgw-new-spec : {M : Type 1} → statement M
-fixgw-new-spec = tie.close (tie.spec new-requires save-requires number-of-requires returns)
+fixgw-new-spec = tie.close (tie.spec (λ c κs. search needs) (λ c κs. search needs) (λ c κs. search needs) returns)

@@ -4,37 +4,10 @@ use Rattle.gateway.proofs.Records.{tick-unread, tick-left}
 use Rattle.gateway.proofs.fixgw_tick.Statement.{statement}
 use Rattle.gateway.proofs.fixgw_tick.Tie as tie
 
-element-copy-out-status-of : tie.Need-element-copy-out-status-of
-element-copy-out-status-of c = search needs
-
-status-of-requires : tie.Need-status-of-requires
-status-of-requires c κs = search needs
-
-enum-known-named : tie.Need-enum-known-named
-enum-known-named c = search needs
-
-enum-told : tie.Need-enum-told
-enum-told c = search needs
-
 returns : tie.Need-returns
 returns c =
     let a = c .before .before .before .before .before .before .args in
     tick-unread (a .words .now) (a .ours .now) (a .peer .now) (c .before .before .before .status-of .ensures) (c .before .enum-told .given .1) (a .time) (a .buf .now)
-
-load-requires : tie.Need-load-requires
-load-requires c κs = search needs
-
-tick-requires : tie.Need-tick-requires
-tick-requires c κs = search needs
-
-save-requires : tie.Need-save-requires
-save-requires c κs = search needs
-
-number-of-requires : tie.Need-number-of-requires
-number-of-requires c κs = search needs
-
-same-length : tie.Need-same-length
-same-length c = search needs
 
 returns-2 : tie.Need-returns-2
 returns-2 c =
@@ -45,14 +18,14 @@ pub fixgw-tick-spec : {M : Type 1} → statement M
 fixgw-tick-spec =
     tie.close
     (tie.spec
-    element-copy-out-status-of
-    status-of-requires
-    enum-known-named
-    enum-told
+    (λ c. search needs)
+    (λ c κs. search needs)
+    (λ c. search needs)
+    (λ c. search needs)
     returns
-    load-requires
-    tick-requires
-    save-requires
-    number-of-requires
-    same-length
+    (λ c κs. search needs)
+    (λ c κs. search needs)
+    (λ c κs. search needs)
+    (λ c κs. search needs)
+    (λ c. search needs)
     returns-2)

@@ -8,48 +8,6 @@ use Rattle.kinds.specs.Judged.{choices, judged}
 use Rattle.kinds.proofs.judge_choice.Statement.{statement}
 use Rattle.kinds.proofs.judge_choice.Tie as tie
 
-enum-told : tie.Need-enum-told
-enum-told c = search needs
-
-judge-one-requires : tie.Need-judge-one-requires
-judge-one-requires c κs = search needs
-
-enum-told-2 : tie.Need-enum-told-2
-enum-told-2 c = search needs
-
-judge-one-requires-2 : tie.Need-judge-one-requires-2
-judge-one-requires-2 c κs = search needs
-
-enum-told-3 : tie.Need-enum-told-3
-enum-told-3 c = search needs
-
-judge-one-requires-3 : tie.Need-judge-one-requires-3
-judge-one-requires-3 c κs = search needs
-
-enum-told-4 : tie.Need-enum-told-4
-enum-told-4 c = search needs
-
-judge-one-requires-4 : tie.Need-judge-one-requires-4
-judge-one-requires-4 c κs = search needs
-
-enum-told-5 : tie.Need-enum-told-5
-enum-told-5 c = search needs
-
-judge-one-or-two-requires : tie.Need-judge-one-or-two-requires
-judge-one-or-two-requires c κs = search needs
-
-enum-told-6 : tie.Need-enum-told-6
-enum-told-6 c = search needs
-
-judge-zero-or-54-requires : tie.Need-judge-zero-or-54-requires
-judge-zero-or-54-requires c κs = search needs
-
-enum-told-7 : tie.Need-enum-told-7
-enum-told-7 c = search needs
-
-judge-role-requires : tie.Need-judge-role-requires
-judge-role-requires c κs = search needs
-
 returns : tie.Need-returns
 returns c = c .judge-one .ensures ∙ sym (ap (λ (l : Choice). judged (among (choices l)) (now (c .before .before .before .before .args .v))) (c .before .enum-told .given .1))
 
@@ -75,20 +33,20 @@ pub judge-choice-spec : {M : Type 1} → statement M
 judge-choice-spec =
     tie.close
     (tie.spec
-    enum-told
-    judge-one-requires
-    enum-told-2
-    judge-one-requires-2
-    enum-told-3
-    judge-one-requires-3
-    enum-told-4
-    judge-one-requires-4
-    enum-told-5
-    judge-one-or-two-requires
-    enum-told-6
-    judge-zero-or-54-requires
-    enum-told-7
-    judge-role-requires
+    (λ c. search needs)
+    (λ c κs. search needs)
+    (λ c. search needs)
+    (λ c κs. search needs)
+    (λ c. search needs)
+    (λ c κs. search needs)
+    (λ c. search needs)
+    (λ c κs. search needs)
+    (λ c. search needs)
+    (λ c κs. search needs)
+    (λ c. search needs)
+    (λ c κs. search needs)
+    (λ c. search needs)
+    (λ c κs. search needs)
     returns
     returns-2
     returns-3

@@ -20,9 +20,6 @@ put-values-requires c κs =
     let s = c .before .before .before .before .before .before .before .before in
     (s .pre .0, omega (arith, ap length (s .pre .1), one-byte (s .args .m) (s .pre .0)))
 
-same-length : tie.Need-same-length
-same-length c = search needs
-
 returns : tie.Need-returns
 returns c =
     let s = c .before .before .before .before .before .before .before .before .before .before .before in
@@ -31,4 +28,4 @@ returns c =
     body-put (s .args .m) (s .pre .0) (valueIn (s .args .values) (now (s .args .text))) (now (s .args .code)) (now (s .args .body)) (t .last .0) (p .last .0) (t .result) (s .pre .1) (t .ensures .0) (p .result) (p .ensures)
 
 pub put-body-spec : {M : Type 1} → statement M
-put-body-spec = tie.close (tie.spec put-text-requires put-values-requires same-length returns)
+put-body-spec = tie.close (tie.spec put-text-requires put-values-requires (λ c. search needs) returns)

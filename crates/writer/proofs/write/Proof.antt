@@ -13,23 +13,11 @@ use Rattle.writer.proofs.Calls.{body-told, other-type, unfit-values, fi
 use Rattle.writer.proofs.write.Statement.{statement}
 use Rattle.writer.proofs.write.Tie as tie
 
-admin-of-requires : tie.Need-admin-of-requires
-admin-of-requires c κs = search needs
-
-enum-known-named : tie.Need-enum-known-named
-enum-known-named c = search needs
-
-enum-told : tie.Need-enum-told
-enum-told c = search needs
-
 returns : tie.Need-returns
 returns c =
     let s = c .before .before .before .before .before .before in
     let a = c .before .before .admin-of in
     other-type (now (s .args .code)) (s .args .values) (now (s .args .text)) (now (s .args .buf)) (a .result) (a .ensures) (c .enum-told .given .1)
-
-slice-aggregate-put-body : tie.Need-slice-aggregate-put-body
-slice-aggregate-put-body c = search needs
 
 put-body-requires : tie.Need-put-body-requires
 put-body-requires c κs =
@@ -38,12 +26,6 @@ put-body-requires c κs =
     let m = c .before .before .named .given in
     let N = named-by (now (s .args .code)) (m .0 .0) (sym (ap typeIn (m .1)) ∙ a .ensures) in
     (N .administers, N .coded, search needs)
-
-enum-known-filled : tie.Need-enum-known-filled
-enum-known-filled c = search needs
-
-enum-told-2 : tie.Need-enum-told-2
-enum-told-2 c = search needs
 
 returns-2 : tie.Need-returns-2
 returns-2 c =
@@ -83,9 +65,6 @@ put-message-requires c κs =
     let e = front-of (f .2) (omega (arith, f .1)) in
     omega (arith, ap length e, f .2 .next, f .1)
 
-same-length : tie.Need-same-length
-same-length c = search needs
-
 returns-3 : tie.Need-returns-3
 returns-3 c =
     let s = c .before .before .before .before .before .before .before .before .before .before .before .before .before .before .before .before .before .before in
@@ -99,17 +78,17 @@ pub write-spec : {M : Type 1} → statement M
 write-spec =
     tie.close
     (tie.spec
-    admin-of-requires
-    enum-known-named
-    enum-told
+    (λ c κs. search needs)
+    (λ c. search needs)
+    (λ c. search needs)
     returns
-    slice-aggregate-put-body
+    (λ c. search needs)
     put-body-requires
-    enum-known-filled
-    enum-told-2
+    (λ c. search needs)
+    (λ c. search needs)
     returns-2
     array-share-prefix-body
     slice-aggregate-put-message
     put-message-requires
-    same-length
+    (λ c. search needs)
     returns-3)

@@ -5,17 +5,8 @@ use Rattle.calendar.proofs.Years.{date-found}
 use Rattle.calendar.proofs.days.date_of.Statement.{statement}
 use Rattle.calendar.proofs.days.date_of.Tie as tie
 
-add-year-of : tie.Need-add-year-of
-add-year-of c = search needs
-
-year-of-requires : tie.Need-year-of-requires
-year-of-requires c κs = search needs
-
-month-of-requires : tie.Need-month-of-requires
-month-of-requires c κs = search needs
-
 returns : tie.Need-returns
 returns c = c .month-of .ensures ∙ date-found (c .before .before .args .d) _ _ (c .before .year-of .ensures)
 
 pub date-of-spec : {M : Type 1} → statement M
-date-of-spec = tie.close (tie.spec add-year-of year-of-requires month-of-requires returns)
+date-of-spec = tie.close (tie.spec (λ c. search needs) (λ c κs. search needs) (λ c κs. search needs) returns)

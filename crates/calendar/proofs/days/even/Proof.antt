@@ -10,9 +10,6 @@ returns : tie.Need-returns
 unfolding evened
 returns c = record { is = rw (lt-ltb _ _ (c .if1 .taken)); small = omega arith }
 
-add-result : tie.Need-add-result
-add-result c = search needs
-
 returns-2 : tie.Need-returns-2
 unfolding evened
 returns-2 c = record { is = rw (le-ltb _ _ (c .before .if1 .left), not-true (c .before .before .args .leap) (c .if2 .taken)); small = omega arith }
@@ -21,12 +18,9 @@ returns-3 : tie.Need-returns-3
 unfolding evened
 returns-3 c = record { is = rw (le-ltb _ _ (c .before .before .if1 .left), not-false (c .before .before .before .args .leap) (c .before .if2 .left), lt-ltb _ _ (c .if3 .taken)); small = omega arith }
 
-add-result-2 : tie.Need-add-result-2
-add-result-2 c = search needs
-
 returns-4 : tie.Need-returns-4
 unfolding evened
 returns-4 c = record { is = rw (le-ltb _ _ (c .before .before .if1 .left), not-false (c .before .before .before .args .leap) (c .before .if2 .left), le-ltb _ _ (c .if3 .left)); small = omega arith }
 
 pub even-spec : {M : Type 1} → statement M
-even-spec = tie.close (tie.spec returns add-result returns-2 returns-3 add-result-2 returns-4)
+even-spec = tie.close (tie.spec returns (λ c. search needs) returns-2 returns-3 (λ c. search needs) returns-4)

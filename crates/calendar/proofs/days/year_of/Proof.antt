@@ -5,24 +5,6 @@ use Rattle.calendar.proofs.Years.{year-found, year-fits}
 use Rattle.calendar.proofs.days.year_of.Statement.{statement}
 use Rattle.calendar.proofs.days.year_of.Tie as tie
 
-split-requires : tie.Need-split-requires
-split-requires c κs = search needs
-
-split-requires-2 : tie.Need-split-requires-2
-split-requires-2 c κs = search needs
-
-mul-t6 : tie.Need-mul-t6
-mul-t6 c = search needs
-
-mul-t7 : tie.Need-mul-t7
-mul-t7 c = search needs
-
-add-t8 : tie.Need-add-t8
-add-t8 c = search needs
-
-mul-t9 : tie.Need-mul-t9
-mul-t9 c = search needs
-
 add-t10 : tie.Need-add-t10
 add-t10 c = omega (arith, year-fits (c .before .before .before .before .before .args .d) _ _ _ (c .before .before .before .before .before .pre) (c .before .before .before .before .split .ensures .few) (c .before .before .before .before .split .ensures .short) (c .before .split2 .ensures .few))
 
@@ -41,12 +23,12 @@ pub year-of-spec : {M : Type 1} → statement M
 year-of-spec =
     tie.close
     (tie.spec
-    split-requires
-    split-requires-2
-    mul-t6
-    mul-t7
-    add-t8
-    mul-t9
+    (λ c κs. search needs)
+    (λ c κs. search needs)
+    (λ c. search needs)
+    (λ c. search needs)
+    (λ c. search needs)
+    (λ c. search needs)
     add-t10
     add-t11
     add-t12

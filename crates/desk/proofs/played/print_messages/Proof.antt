@@ -28,24 +28,6 @@ Inv-loop reply at₀ t7 at = at ≤ length reply
 abbrev μ-loop : tie.MeasureT-loop
 μ-loop reply at₀ t7 at = length reply - at
 
-loop-holds : tie.Need-loop-holds Inv-loop μ-loop
-loop-holds c = search needs
-
-sub-reading-of : tie.Need-sub-reading-of Inv-loop μ-loop
-sub-reading-of c = search needs
-
-part-reading-of-start : tie.Need-part-reading-of-start Inv-loop μ-loop
-part-reading-of-start c = search needs
-
-part-reading-of-end : tie.Need-part-reading-of-end Inv-loop μ-loop
-part-reading-of-end c = search needs
-
-reading-of-requires : tie.Need-reading-of-requires Inv-loop μ-loop
-reading-of-requires c κs = search needs
-
-enum-known-skip : tie.Need-enum-known-skip Inv-loop μ-loop
-enum-known-skip c = search needs
-
 add-start : tie.Need-add-start Inv-loop μ-loop
 add-start c =
     let l = c .before .before .before .before .before .before in
@@ -56,25 +38,10 @@ add-end c =
     let l = c .before .before .before .before .before .before in
     omega (arith, lies (l .before .before .args .reply .now) (l .loop .at) _ _ _ (l .loop .inv) (c .before .skip .given .1) (c .before .before .before .reading-of .ensures))
 
-slice-aggregate-write-all : tie.Need-slice-aggregate-write-all Inv-loop μ-loop
-slice-aggregate-write-all c = search needs
-
-write-all-requires : tie.Need-write-all-requires Inv-loop μ-loop
-write-all-requires c κs = search needs
-
-sub-print-bytes : tie.Need-sub-print-bytes Inv-loop μ-loop
-sub-print-bytes c = search needs
-
-part-print-bytes-start : tie.Need-part-print-bytes-start Inv-loop μ-loop
-part-print-bytes-start c = search needs
-
 part-print-bytes-end : tie.Need-part-print-bytes-end Inv-loop μ-loop
 part-print-bytes-end c =
     let l = c .before .before .before .before .before .before .before .before in
     omega (arith, lies (l .before .before .args .reply .now) (l .loop .at) _ _ _ (l .loop .inv) (c .before .before .before .skip .given .1) (c .before .before .before .before .before .reading-of .ensures))
-
-print-bytes-requires : tie.Need-print-bytes-requires Inv-loop μ-loop
-print-bytes-requires c κs = search needs
 
 loop-less : tie.Need-loop-less Inv-loop μ-loop
 loop-less c =
@@ -86,37 +53,28 @@ loop-again c =
     let l = c .before .before .before .before .before .before .before .before .before .before in
     omega (arith, lies (l .before .before .args .reply .now) (l .loop .at) _ _ _ (l .loop .inv) (c .before .before .before .before .before .skip .given .1) (c .before .before .before .before .before .before .before .reading-of .ensures))
 
-enum-told : tie.Need-enum-told Inv-loop μ-loop
-enum-told c = search needs
-
-returns : tie.Need-returns Inv-loop μ-loop
-returns c = search needs
-
-returns-2 : tie.Need-returns-2 Inv-loop μ-loop
-returns-2 c = search needs
-
 pub print-messages-spec : {M : Type 1} → statement M
 print-messages-spec =
     tie.close
     (tie.spec
     Inv-loop
     μ-loop
-    loop-holds
-    sub-reading-of
-    part-reading-of-start
-    part-reading-of-end
-    reading-of-requires
-    enum-known-skip
+    (λ c. search needs)
+    (λ c. search needs)
+    (λ c. search needs)
+    (λ c. search needs)
+    (λ c κs. search needs)
+    (λ c. search needs)
     add-start
     add-end
-    slice-aggregate-write-all
-    write-all-requires
-    sub-print-bytes
-    part-print-bytes-start
+    (λ c. search needs)
+    (λ c κs. search needs)
+    (λ c. search needs)
+    (λ c. search needs)
     part-print-bytes-end
-    print-bytes-requires
+    (λ c κs. search needs)
     loop-less
     loop-again
-    enum-told
-    returns
-    returns-2)
+    (λ c. search needs)
+    (λ c. search needs)
+    (λ c. search needs))

@@ -7,15 +7,6 @@ use Rattle.dictionary.proofs.rules.closing.Tie as tie
 returns : tie.Need-returns
 returns c = record { is = closing-none (c .if1 .taken) }
 
-incomplete-requires : tie.Need-incomplete-requires
-incomplete-requires c κs = search needs
-
-enum-told : tie.Need-enum-told
-enum-told c = search needs
-
-enum-told-2 : tie.Need-enum-told-2
-enum-told-2 c = search needs
-
 returns-2 : tie.Need-returns-2
 returns-2 c = record { is = let i = c .before .before in closing-lacks (i .before .if1 .left) (i .incomplete .ensures) (c .enum-told2 .given .1) }
 
@@ -28,4 +19,4 @@ returns-4 c = record { is = let i = c .before .before .before .before in closing
 pub closing-spec : {M : Type 1} → statement M
 closing-spec =
     tie.close
-    (tie.spec returns incomplete-requires enum-told enum-told-2 returns-2 returns-3 returns-4)
+    (tie.spec returns (λ c κs. search needs) (λ c. search needs) (λ c. search needs) returns-2 returns-3 returns-4)

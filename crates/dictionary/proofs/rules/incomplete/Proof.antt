@@ -7,11 +7,8 @@ use Rattle.dictionary.proofs.rules.incomplete.Tie as tie
 returns : tie.Need-returns
 returns c = record { is = none-began (c .if1 .taken) }
 
-missing-requires : tie.Need-missing-requires
-missing-requires c κs = search needs
-
 returns-2 : tie.Need-returns-2
 returns-2 c = record { is = one-began (c .before .if1 .left) (c .missing .ensures) }
 
 pub incomplete-spec : {M : Type 1} → statement M
-incomplete-spec = tie.close (tie.spec returns missing-requires returns-2)
+incomplete-spec = tie.close (tie.spec returns (λ c κs. search needs) returns-2)

@@ -4,15 +4,6 @@ use Rattle.dictionary.proofs.Opening.{noted-count, noted-other}
 use Rattle.dictionary.proofs.rules.noted.Statement.{statement}
 use Rattle.dictionary.proofs.rules.noted.Tie as tie
 
-over-with-requires : tie.Need-over-with-requires
-over-with-requires c κs = search needs
-
-bit-requires : tie.Need-bit-requires
-bit-requires c κs = search needs
-
-count-of-requires : tie.Need-count-of-requires
-count-of-requires c κs = search needs
-
 returns : tie.Need-returns
 returns c = noted-count (c .before .before .before .before .before .pre) (c .before .before .before .over-with .ensures) (c .before .before .bit .ensures) (c .before .if1 .taken) (c .count-of .ensures)
 
@@ -21,4 +12,4 @@ returns-2 c = noted-other (c .before .before .before .before .pre) (c .before .b
 
 pub noted-spec : {M : Type 1} → statement M
 noted-spec =
-    tie.close (tie.spec over-with-requires bit-requires count-of-requires returns returns-2)
+    tie.close (tie.spec (λ c κs. search needs) (λ c κs. search needs) (λ c κs. search needs) returns returns-2)

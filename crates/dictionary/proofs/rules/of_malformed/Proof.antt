@@ -6,15 +6,6 @@ use mathlib.Core.Path.{refl}
 use Rattle.dictionary.proofs.rules.of_malformed.Statement.{statement}
 use Rattle.dictionary.proofs.rules.of_malformed.Tie as tie
 
-rule-1-requires : tie.Need-rule-1-requires
-rule-1-requires c κs = search needs
-
-enum-told : tie.Need-enum-told
-enum-told c = search needs
-
-enum-told-2 : tie.Need-enum-told-2
-enum-told-2 c = search needs
-
 returns : tie.Need-returns
 returns c = record { is = λ m w S. said-malformed m w _ (stops (c .before .before .rule-1 .ensures .is (w .place) malformed S malformed-belongs) (c .enum-told2 .given .1)) }
 
@@ -22,4 +13,4 @@ returns-2 : tie.Need-returns-2
 returns-2 c = record { is = λ m w S. said-malformed m w _ (passes (c .before .before .rule-1 .ensures .is (w .place) malformed S malformed-belongs) (c .enum-told .given .1) (record { is = refl })) }
 
 pub of-malformed-spec : {M : Type 1} → statement M
-of-malformed-spec = tie.close (tie.spec rule-1-requires enum-told enum-told-2 returns returns-2)
+of-malformed-spec = tie.close (tie.spec (λ c κs. search needs) (λ c. search needs) (λ c. search needs) returns returns-2)

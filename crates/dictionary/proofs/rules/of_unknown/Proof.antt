@@ -5,20 +5,8 @@ use mathlib.Core.Path.{sym, _∙_}
 use Rattle.dictionary.proofs.rules.of_unknown.Statement.{statement}
 use Rattle.dictionary.proofs.rules.of_unknown.Tie as tie
 
-rule-1-requires : tie.Need-rule-1-requires
-rule-1-requires c κs = search needs
-
-enum-told : tie.Need-enum-told
-enum-told c = search needs
-
-enum-told-2 : tie.Need-enum-told-2
-enum-told-2 c = search needs
-
 returns : tie.Need-returns
 returns c = record { is = λ w v S n. said-unknown _ w _ v _ (unknown-tag _ n) (stops (c .before .before .rule-1 .ensures .is (w .place) _ S (unknown-belongs _ n v)) (c .enum-told2 .given .1)) }
-
-is-administrative-requires : tie.Need-is-administrative-requires
-is-administrative-requires c κs = search needs
 
 returns-2 : tie.Need-returns-2
 returns-2 c =
@@ -40,10 +28,10 @@ pub of-unknown-spec : {M : Type 1} → statement M
 of-unknown-spec =
     tie.close
     (tie.spec
-    rule-1-requires
-    enum-told
-    enum-told-2
+    (λ c κs. search needs)
+    (λ c. search needs)
+    (λ c. search needs)
     returns
-    is-administrative-requires
+    (λ c κs. search needs)
     returns-2
     returns-3)

@@ -7,14 +7,8 @@ use Rattle.dictionary.proofs.rules.rule_1.Tie as tie
 returns : tie.Need-returns
 returns c = record { is = rule1-outside (c .if1 .taken) }
 
-closing-requires : tie.Need-closing-requires
-closing-requires c κs = search needs
-
 returns-2 : tie.Need-returns-2
 returns-2 c = record { is = rule1-ends (c .before .before .before .if1 .left) (c .before .if2 .taken) (c .closing .ensures) }
-
-incomplete-requires : tie.Need-incomplete-requires
-incomplete-requires c κs = search needs
 
 returns-3 : tie.Need-returns-3
 returns-3 c = record { is = rule1-begins (c .before .before .before .before .if1 .left) (c .before .before .if2 .left) (c .before .if3 .taken) (c .incomplete .ensures) }
@@ -24,4 +18,4 @@ returns-4 c = record { is = rule1-goes-on (c .before .before .before .if1 .left)
 
 pub rule-1-spec : {M : Type 1} → statement M
 rule-1-spec =
-    tie.close (tie.spec returns closing-requires returns-2 incomplete-requires returns-3 returns-4)
+    tie.close (tie.spec returns (λ c κs. search needs) returns-2 (λ c κs. search needs) returns-3 returns-4)

@@ -4,9 +4,6 @@ use Rattle.dictionary.proofs.Saying.{judged-well, judged-ill}
 use Rattle.dictionary.proofs.rules.rules_9_and_10.Statement.{statement}
 use Rattle.dictionary.proofs.rules.rules_9_and_10.Tie as tie
 
-judge-requires : tie.Need-judge-requires
-judge-requires c κs = search needs
-
 returns : tie.Need-returns
 returns c = judged-well (c .before .before .before .pre) (c .before .judge .ensures) (c .if1 .taken)
 
@@ -14,4 +11,4 @@ returns-2 : tie.Need-returns-2
 returns-2 c = judged-ill (c .before .before .before .pre) (c .before .judge .ensures) (c .if1 .left)
 
 pub rules-9-and-10-spec : {M : Type 1} → statement M
-rules-9-and-10-spec = tie.close (tie.spec judge-requires returns returns-2)
+rules-9-and-10-spec = tie.close (tie.spec (λ c κs. search needs) returns returns-2)

@@ -18,20 +18,8 @@ Inv-loop marks t to k₀ k = (k ≤ to) × ((to ≤ 28) × ((met : List ℕ) →
 abbrev μ-loop : tie.MeasureT-loop
 μ-loop marks t to k₀ k = to - k
 
-required-requires : tie.Need-required-requires Inv-loop μ-loop
-required-requires c κs = search needs
-
-span-of-requires : tie.Need-span-of-requires Inv-loop μ-loop
-span-of-requires c κs = search needs
-
 loop-holds : tie.Need-loop-holds Inv-loop μ-loop
 loop-holds c = (search needs, (search needs, λ met M. refl))
-
-array-read-place : tie.Need-array-read-place Inv-loop μ-loop
-array-read-place c = search needs
-
-cast-place : tie.Need-cast-place Inv-loop μ-loop
-cast-place c = search needs
 
 element-copy-out-if1 : tie.Need-element-copy-out-if1 Inv-loop μ-loop
 element-copy-out-if1 c =
@@ -52,12 +40,6 @@ returns c = record {
       ap (Reason 1) (c .tag-at .ensures)
       ∙ sym (all-missing _ R (l .before .before .before .args .rows) _ _ met (S .first) (S .last) ∙ l .loop .inv .1 .1 met M ∙ needed-not _ R _ _ _ (c .before .before .before .loop-test .taken) (l .loop .inv .1 .0) (now (l .before .before .before .args .marks)) met M (not-true _ (c .before .if1 .taken)));
 }
-
-add-k : tie.Need-add-k Inv-loop μ-loop
-add-k c = search needs
-
-loop-less : tie.Need-loop-less Inv-loop μ-loop
-loop-less c = search needs
 
 loop-again : tie.Need-loop-again Inv-loop μ-loop
 loop-again c =
@@ -80,15 +62,15 @@ missing-spec =
     (tie.spec
     Inv-loop
     μ-loop
-    required-requires
-    span-of-requires
+    (λ c κs. search needs)
+    (λ c κs. search needs)
     loop-holds
-    array-read-place
-    cast-place
+    (λ c. search needs)
+    (λ c. search needs)
     element-copy-out-if1
     tag-at-requires
     returns
-    add-k
-    loop-less
+    (λ c. search needs)
+    (λ c. search needs)
     loop-again
     returns-2)

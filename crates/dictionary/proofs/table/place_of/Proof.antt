@@ -16,26 +16,11 @@ Inv-loop tag t i₀ i = (i ≤ 44) × (has tags tag ≡ has (drop i tags) tag)
 abbrev μ-loop : tie.MeasureT-loop
 μ-loop tag t i₀ i = 44 - i
 
-table-requires : tie.Need-table-requires Inv-loop μ-loop
-table-requires c κs = search needs
-
 loop-holds : tie.Need-loop-holds Inv-loop μ-loop
 loop-holds c = (search needs, refl)
 
-mul-line : tie.Need-mul-line Inv-loop μ-loop
-mul-line c = search needs
-
-array-copy-out-line : tie.Need-array-copy-out-line Inv-loop μ-loop
-array-copy-out-line c = search needs
-
 returns : tie.Need-returns Inv-loop μ-loop
 returns c = place-here _ _ _ _ (c .before .before .before .before .before .table .ensures) (omega arith) (c .if1 .taken)
-
-add-i : tie.Need-add-i Inv-loop μ-loop
-add-i c = search needs
-
-loop-less : tie.Need-loop-less Inv-loop μ-loop
-loop-less c = search needs
 
 loop-again : tie.Need-loop-again Inv-loop μ-loop
 loop-again c =
@@ -51,12 +36,12 @@ place-of-spec =
     (tie.spec
     Inv-loop
     μ-loop
-    table-requires
+    (λ c κs. search needs)
     loop-holds
-    mul-line
-    array-copy-out-line
+    (λ c. search needs)
+    (λ c. search needs)
     returns
-    add-i
-    loop-less
+    (λ c. search needs)
+    (λ c. search needs)
     loop-again
     returns-2)

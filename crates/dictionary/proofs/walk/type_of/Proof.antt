@@ -6,20 +6,8 @@ use mathlib.Core.Path.{ap, _∙_}
 use Rattle.dictionary.proofs.walk.type_of.Statement.{statement}
 use Rattle.dictionary.proofs.walk.type_of.Tie as tie
 
-shared-slice-read-type-of-one : tie.Need-shared-slice-read-type-of-one
-shared-slice-read-type-of-one c = search needs
-
-type-of-one-requires : tie.Need-type-of-one-requires
-type-of-one-requires c κs = search needs
-
 returns : tie.Need-returns
 returns c = c .type-of-one .ensures ∙ ap typeOf (one-byte _ (c .before .before .if1 .taken))
-
-slice-aggregate-same : tie.Need-slice-aggregate-same
-slice-aggregate-same c = search needs
-
-same-requires : tie.Need-same-requires
-same-requires c κs = search needs
 
 returns-2 : tie.Need-returns-2
 returns-2 c = two-bytes _ (c .before .same .ensures) (c .if2 .taken)
@@ -31,10 +19,10 @@ pub type-of-spec : {M : Type 1} → statement M
 type-of-spec =
     tie.close
     (tie.spec
-    shared-slice-read-type-of-one
-    type-of-one-requires
+    (λ c. search needs)
+    (λ c κs. search needs)
     returns
-    slice-aggregate-same
-    same-requires
+    (λ c. search needs)
+    (λ c κs. search needs)
     returns-2
     returns-3)

@@ -17,41 +17,14 @@ Inv-loop m body t seen₀ met₀ st₀ at₀ seen met st at = At m body seen met
 abbrev μ-loop : tie.MeasureT-loop
 μ-loop m body t seen₀ met₀ st₀ at₀ seen met st at = length body + 1 - at
 
-table-requires : tie.Need-table-requires Inv-loop μ-loop
-table-requires c κs = search needs
-
 loop-holds : tie.Need-loop-holds Inv-loop μ-loop
 loop-holds c = begins _ _
-
-item-at-requires : tie.Need-item-at-requires Inv-loop μ-loop
-item-at-requires c κs = search needs
-
-enum-known-item : tie.Need-enum-known-item Inv-loop μ-loop
-enum-known-item c = search needs
-
-place-of-requires : tie.Need-place-of-requires Inv-loop μ-loop
-place-of-requires c κs = search needs
-
-of-unknown-requires : tie.Need-of-unknown-requires Inv-loop μ-loop
-of-unknown-requires c κs = search needs
-
-enum-told : tie.Need-enum-told Inv-loop μ-loop
-enum-told c = search needs
-
-enum-told-2 : tie.Need-enum-told-2 Inv-loop μ-loop
-enum-told-2 c = search needs
-
-finding-requires : tie.Need-finding-requires Inv-loop μ-loop
-finding-requires c κs = search needs
 
 returns : tie.Need-returns Inv-loop μ-loop
 returns c =
     let A = c .before .before .before .before .before .before .before .before .before .before .before .loop .inv in
     let P = c .before .before .before .before .before .before .place-of .ensures in
     ends-with A _ _ _ _ _ _ _ (field-step (c .before .before .before .before .before .before .before .before .before .before .item-at .ensures) (c .before .before .before .before .before .before .before .before .item .given .1) refl) (c .before .before .before .of-unknown .ensures .is (A .past) _ (A .stands .stood) (P .absent (c .before .before .before .before .before .if1 .taken))) (c .before .enum-told2 .given .1) (c .finding .ensures)
-
-left-requires : tie.Need-left-requires Inv-loop μ-loop
-left-requires c κs = search needs
 
 loop-less : tie.Need-loop-less Inv-loop μ-loop
 loop-less c = omega (arith, field-lies (c .before .before .before .before .before .before .before .before .before .before .item-at .ensures) (c .before .before .before .before .before .before .before .before .item .given .1))
@@ -62,15 +35,6 @@ loop-again c =
     let L = field-lies (c .before .before .before .before .before .before .before .before .before .before .item-at .ensures) (c .before .before .before .before .before .before .before .before .item .given .1) in
     let u = c .before .before .before .before .before .before .place-of .ensures .absent (c .before .before .before .before .before .if1 .taken) in
     rw (c .left .ensures) (skips A (field-step (c .before .before .before .before .before .before .before .before .before .before .item-at .ensures) (c .before .before .before .before .before .before .before .before .item .given .1) refl) (c .before .before .before .of-unknown .ensures .is (A .past) _ (A .stands .stood) u) (c .before .enum-told .given .1) (omega arith) u)
-
-mul-line : tie.Need-mul-line Inv-loop μ-loop
-mul-line c = search needs
-
-array-copy-out-line : tie.Need-array-copy-out-line Inv-loop μ-loop
-array-copy-out-line c = search needs
-
-entry-of-requires : tie.Need-entry-of-requires Inv-loop μ-loop
-entry-of-requires c κs = search needs
 
 sub-v : tie.Need-sub-v Inv-loop μ-loop
 sub-v c = omega (arith, field-lies (c .before .before .before .before .before .before .before .item-at .ensures) (c .before .before .before .before .before .item .given .1))
@@ -84,27 +48,12 @@ part-v-end c = omega (arith, field-lies (c .before .before .before .before .befo
 of-known-requires : tie.Need-of-known-requires Inv-loop μ-loop
 of-known-requires c κs = looked _ (c .before .before .before .before .before .before .before .before .before .before .before .before .table .ensures) (c .before .before .before .before .before .before .place-of .ensures) (c .before .before .before .before .before .if1 .left) (c .before .before .before .entry-of .ensures)
 
-enum-told-3 : tie.Need-enum-told-3 Inv-loop μ-loop
-enum-told-3 c = search needs
-
-enum-told-4 : tie.Need-enum-told-4 Inv-loop μ-loop
-enum-told-4 c = search needs
-
-finding-requires-2 : tie.Need-finding-requires-2 Inv-loop μ-loop
-finding-requires-2 c κs = search needs
-
 returns-2 : tie.Need-returns-2 Inv-loop μ-loop
 returns-2 c =
     let A = c .before .before .before .before .before .before .before .before .before .before .before .before .before .before .before .loop .inv in
     let S = field-step (c .before .before .before .before .before .before .before .before .before .before .before .before .before .before .item-at .ensures) (c .before .before .before .before .before .before .before .before .before .before .before .before .item .given .1) (entry-is _ (c .before .before .before .before .before .before .before .before .before .before .before .before .before .before .before .before .table .ensures) (c .before .before .before .before .before .before .before .before .before .before .place-of .ensures) (c .before .before .before .before .before .before .before .before .before .if1 .left) (c .before .before .before .before .before .before .before .entry-of .ensures)) in
     let s = c .before .before .before .of-known .ensures .is (A .past) (A .stands) in
     ends-with A _ _ _ _ _ _ _ S s (c .before .enum-told4 .given .1) (c .finding2 .ensures)
-
-is-inside-requires : tie.Need-is-inside-requires Inv-loop μ-loop
-is-inside-requires c κs = search needs
-
-array-write-seen : tie.Need-array-write-seen Inv-loop μ-loop
-array-write-seen c = search needs
 
 noted-requires : tie.Need-noted-requires Inv-loop μ-loop
 noted-requires c κs = looked _ (c .before .before .before .before .before .before .before .before .before .before .before .before .before .before .before .before .before .table .ensures) (c .before .before .before .before .before .before .before .before .before .before .before .place-of .ensures) (c .before .before .before .before .before .before .before .before .before .before .if1 .left) (c .before .before .before .before .before .before .before .before .entry-of .ensures) .right
@@ -121,9 +70,6 @@ loop-again-2 c =
     let l = field-lies (c .before .before .before .before .before .before .before .before .before .before .before .before .before .before .before .before .item-at .ensures) (c .before .before .before .before .before .before .before .before .before .before .before .before .before .before .item .given .1) in
     notes A L S s (c .before .before .before .enum-told3 .given .1) (omega arith) (c .before .before .is-inside .ensures) (c .before .if2 .taken) (c .noted .ensures)
 
-array-write-met : tie.Need-array-write-met Inv-loop μ-loop
-array-write-met c = search needs
-
 begun-requires : tie.Need-begun-requires Inv-loop μ-loop
 begun-requires c κs = omega (arith, c .before .before .before .before .before .before .before .before .before .before .before .before .before .before .before .before .before .loop .inv .few, field-lies (c .before .before .before .before .before .before .before .before .before .before .before .before .before .before .before .before .item-at .ensures) (c .before .before .before .before .before .before .before .before .before .before .before .before .before .before .item .given .1), c .before .before .before .before .before .before .before .before .before .before .before .before .before .before .before .before .before .before .before .before .pre)
 
@@ -139,9 +85,6 @@ loop-again-3 c =
     let l = field-lies (c .before .before .before .before .before .before .before .before .before .before .before .before .before .before .before .before .before .item-at .ensures) (c .before .before .before .before .before .before .before .before .before .before .before .before .before .before .before .item .given .1) in
     rw (c .begun .ensures) (begins-instance A L S s (c .before .before .before .before .enum-told3 .given .1) (omega arith) (c .before .before .before .is-inside .ensures) (c .before .before .if2 .left) (c .before .if3 .taken))
 
-array-write-met-2 : tie.Need-array-write-met-2 Inv-loop μ-loop
-array-write-met-2 c = search needs
-
 loop-less-4 : tie.Need-loop-less-4 Inv-loop μ-loop
 loop-less-4 c = omega (arith, field-lies (c .before .before .before .before .before .before .before .before .before .before .before .before .before .before .before .before .item-at .ensures) (c .before .before .before .before .before .before .before .before .before .before .before .before .before .before .item .given .1))
 
@@ -154,33 +97,15 @@ loop-again-4 c =
     let l = field-lies (c .before .before .before .before .before .before .before .before .before .before .before .before .before .before .before .before .item-at .ensures) (c .before .before .before .before .before .before .before .before .before .before .before .before .before .before .item .given .1) in
     joins-instance A L S s (c .before .before .before .enum-told3 .given .1) (omega arith) (c .before .before .is-inside .ensures) (c .before .if2 .left) (c .if3 .left)
 
-enum-told-5 : tie.Need-enum-told-5 Inv-loop μ-loop
-enum-told-5 c = search needs
-
-of-malformed-requires : tie.Need-of-malformed-requires Inv-loop μ-loop
-of-malformed-requires c κs = search needs
-
-finding-requires-3 : tie.Need-finding-requires-3 Inv-loop μ-loop
-finding-requires-3 c κs = search needs
-
 returns-3 : tie.Need-returns-3 Inv-loop μ-loop
 returns-3 c =
     let A = c .before .before .before .before .before .before .loop .inv in
     malformed-ends A (malformed-step (c .before .before .before .before .before .item-at .ensures) (c .before .before .before .enum-told5 .given .1)) (c .before .of-malformed .ensures .is _ (A .past) (A .stands .stood)) (c .finding3 .ensures)
 
-enum-told-6 : tie.Need-enum-told-6 Inv-loop μ-loop
-enum-told-6 c = search needs
-
-finish-requires : tie.Need-finish-requires Inv-loop μ-loop
-finish-requires c κs = search needs
-
 returns-4 : tie.Need-returns-4 Inv-loop μ-loop
 returns-4 c =
     let A = c .before .before .before .before .before .before .loop .inv in
     c .finish .ensures .is (A .past) (A .stands) ∙ sym (A .rest ∙ ap (walk _ (A .past)) (end-row (c .before .before .before .before .before .item-at .ensures) (c .before .before .before .enum-told6 .given .1)))
-
-enum-told-7 : tie.Need-enum-told-7 Inv-loop μ-loop
-enum-told-7 c = search needs
 
 returns-5 : tie.Need-returns-5 Inv-loop μ-loop
 returns-5 c = absurd (never-none (c .before .before .item-at .ensures) (c .enum-told7 .given .1))
@@ -191,48 +116,48 @@ walk-spec =
     (tie.spec
     Inv-loop
     μ-loop
-    table-requires
+    (λ c κs. search needs)
     loop-holds
-    item-at-requires
-    enum-known-item
-    place-of-requires
-    of-unknown-requires
-    enum-told
-    enum-told-2
-    finding-requires
+    (λ c κs. search needs)
+    (λ c. search needs)
+    (λ c κs. search needs)
+    (λ c κs. search needs)
+    (λ c. search needs)
+    (λ c. search needs)
+    (λ c κs. search needs)
     returns
-    left-requires
+    (λ c κs. search needs)
     loop-less
     loop-again
-    mul-line
-    array-copy-out-line
-    entry-of-requires
+    (λ c. search needs)
+    (λ c. search needs)
+    (λ c κs. search needs)
     sub-v
     part-v-start
     part-v-end
     of-known-requires
-    enum-told-3
-    enum-told-4
-    finding-requires-2
+    (λ c. search needs)
+    (λ c. search needs)
+    (λ c κs. search needs)
     returns-2
-    is-inside-requires
-    array-write-seen
+    (λ c κs. search needs)
+    (λ c. search needs)
     noted-requires
     loop-less-2
     loop-again-2
-    array-write-met
+    (λ c. search needs)
     begun-requires
     loop-less-3
     loop-again-3
-    array-write-met-2
+    (λ c. search needs)
     loop-less-4
     loop-again-4
-    enum-told-5
-    of-malformed-requires
-    finding-requires-3
+    (λ c. search needs)
+    (λ c κs. search needs)
+    (λ c κs. search needs)
     returns-3
-    enum-told-6
-    finish-requires
+    (λ c. search needs)
+    (λ c κs. search needs)
     returns-4
-    enum-told-7
+    (λ c. search needs)
     returns-5)

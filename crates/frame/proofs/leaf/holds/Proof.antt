@@ -16,14 +16,8 @@ Inv-loop s a e lit x i₀ i = (a ≤ i) × ((i ≤ e) × ((q : ℕ) → q + 4 < 
 abbrev μ-loop : tie.MeasureT-loop
 μ-loop s a e lit x i₀ i = e - i
 
-shared-slice-read-x : tie.Need-shared-slice-read-x Inv-loop μ-loop
-shared-slice-read-x c = search needs
-
 loop-holds : tie.Need-loop-holds Inv-loop μ-loop
 loop-holds c = (omega arith, (omega arith, λ q h k. absurd (omega arith)))
-
-find-byte-requires : tie.Need-find-byte-requires Inv-loop μ-loop
-find-byte-requires c κs = search needs
 
 returns : tie.Need-returns Inv-loop μ-loop
 returns c =
@@ -36,9 +30,6 @@ returns c =
       found = λ h. absurd (omega arith);
       none = none-end (now (a .s)) (a .a) (a .e) (now (a .lit)) five _ (omega arith) (none-to (now (a .s)) (a .a) (a .e) (now (a .lit)) five (l .i) _ _ refl F (l .inv .1 .1));
     }
-
-stands-around-requires : tie.Need-stands-around-requires Inv-loop μ-loop
-stands-around-requires c κs = search needs
 
 sub-result : tie.Need-sub-result Inv-loop μ-loop
 sub-result c = c .before .stands-around .ensures .found (c .if2 .taken) .0
@@ -56,12 +47,6 @@ returns-2 c =
       found = λ h. H;
       none = λ q h. none-to (now (a .s)) (a .a) (a .e) (now (a .lit)) five (l .i) _ _ refl F (l .inv .1 .1) q (omega arith);
     }
-
-add-i : tie.Need-add-i Inv-loop μ-loop
-add-i c = search needs
-
-loop-less : tie.Need-loop-less Inv-loop μ-loop
-loop-less c = search needs
 
 loop-again : tie.Need-loop-again Inv-loop μ-loop
 loop-again c =
@@ -95,14 +80,14 @@ holds-spec =
     (tie.spec
     Inv-loop
     μ-loop
-    shared-slice-read-x
+    (λ c. search needs)
     loop-holds
-    find-byte-requires
+    (λ c κs. search needs)
     returns
-    stands-around-requires
+    (λ c κs. search needs)
     sub-result
     returns-2
-    add-i
-    loop-less
+    (λ c. search needs)
+    (λ c. search needs)
     loop-again
     returns-3)

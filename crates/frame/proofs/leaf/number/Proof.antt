@@ -19,20 +19,8 @@ Inv-loop s at most v₀ c₀ v c =
 abbrev μ-loop : tie.MeasureT-loop
 μ-loop s at most v₀ c₀ v c = most - c
 
-loop-holds : tie.Need-loop-holds Inv-loop μ-loop
-loop-holds c = search needs
-
-add-if1 : tie.Need-add-if1 Inv-loop μ-loop
-add-if1 c = search needs
-
 returns : tie.Need-returns Inv-loop μ-loop
 returns c = let l = c .before .before .loop in let h = few-digits 12 (l .c) (l .v) (omega arith) (l .inv .1 .1 .1 .1) in search needs
-
-add-d : tie.Need-add-d Inv-loop μ-loop
-add-d c = search needs
-
-shared-slice-read-d : tie.Need-shared-slice-read-d Inv-loop μ-loop
-shared-slice-read-d c = search needs
 
 returns-2 : tie.Need-returns-2 Inv-loop μ-loop
 returns-2 c = let l = c .before .before .before .before .loop in let h = few-digits 12 (l .c) (l .v) (omega arith) (l .inv .1 .1 .1 .1) in search needs
@@ -43,17 +31,8 @@ returns-3 c = let l = c .before .before .before .before .before .loop in let h =
 mul-v : tie.Need-mul-v Inv-loop μ-loop
 mul-v c = let l = c .before .before .before .before .before .loop in omega (arith, few-digits 11 (l .c) (l .v) (omega arith) (l .inv .1 .1 .1 .1))
 
-cast-v : tie.Need-cast-v Inv-loop μ-loop
-cast-v c = search needs
-
 add-v : tie.Need-add-v Inv-loop μ-loop
 add-v c = let l = c .before .before .before .before .before .loop in omega (arith, few-digits 11 (l .c) (l .v) (omega arith) (l .inv .1 .1 .1 .1))
-
-add-c : tie.Need-add-c Inv-loop μ-loop
-add-c c = search needs
-
-loop-less : tie.Need-loop-less Inv-loop μ-loop
-loop-less c = search needs
 
 loop-again : tie.Need-loop-again Inv-loop μ-loop
 loop-again c =
@@ -81,17 +60,17 @@ number-spec =
     (tie.spec
     Inv-loop
     μ-loop
-    loop-holds
-    add-if1
+    (λ c. search needs)
+    (λ c. search needs)
     returns
-    add-d
-    shared-slice-read-d
+    (λ c. search needs)
+    (λ c. search needs)
     returns-2
     returns-3
     mul-v
-    cast-v
+    (λ c. search needs)
     add-v
-    add-c
-    loop-less
+    (λ c. search needs)
+    (λ c. search needs)
     loop-again
     returns-4)

@@ -11,15 +11,6 @@ use Rattle.frame.proofs.Words.{at-words, words-first, words-last}
 use Rattle.frame.proofs.leaf.stands.Statement.{statement}
 use Rattle.frame.proofs.leaf.stands.Tie as tie
 
-sub-k : tie.Need-sub-k
-sub-k c = search needs
-
-word-requires : tie.Need-word-requires
-word-requires c κs = search needs
-
-word-requires-2 : tie.Need-word-requires-2
-word-requires-2 c κs = search needs
-
 returns : tie.Need-returns
 returns c =
     let a = c .before .before .before .before .before .args in
@@ -28,15 +19,6 @@ returns c =
       found = λ t. absurd (subst T (sym t) tt);
       none = λ t A. c .if1 .taken (c .before .before .word .ensures ∙ words-first (now (a .s)) (now (a .lit)) (a .at) long A ∙ sym (c .before .word2 .ensures));
     }
-
-add-word : tie.Need-add-word
-add-word c = search needs
-
-word-requires-3 : tie.Need-word-requires-3
-word-requires-3 c κs = search needs
-
-word-requires-4 : tie.Need-word-requires-4
-word-requires-4 c κs = search needs
 
 returns-2 : tie.Need-returns-2
 returns-2 c =
@@ -56,11 +38,11 @@ pub stands-spec : {M : Type 1} → statement M
 stands-spec =
     tie.close
     (tie.spec
-    sub-k
-    word-requires
-    word-requires-2
+    (λ c. search needs)
+    (λ c κs. search needs)
+    (λ c κs. search needs)
     returns
-    add-word
-    word-requires-3
-    word-requires-4
+    (λ c. search needs)
+    (λ c κs. search needs)
+    (λ c κs. search needs)
     returns-2)

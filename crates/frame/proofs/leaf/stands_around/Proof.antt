@@ -17,14 +17,8 @@ returns c = record { found = λ t. absurd (subst T (sym t) tt); none = λ t q h 
 returns-2 : tie.Need-returns-2
 returns-2 c = record { found = λ t. absurd (subst T (sym t) tt); none = λ t q h k l A. omega arith }
 
-sub-if3 : tie.Need-sub-if3
-sub-if3 c = search needs
-
 returns-3 : tie.Need-returns-3
 returns-3 c = record { found = λ t. absurd (subst T (sym t) tt); none = λ t q h k l A. omega arith }
-
-stands-requires : tie.Need-stands-requires
-stands-requires c κs = search needs
 
 returns-4 : tie.Need-returns-4
 returns-4 c =
@@ -39,4 +33,4 @@ returns-4 c =
 
 pub stands-around-spec : {M : Type 1} → statement M
 stands-around-spec =
-    tie.close (tie.spec returns returns-2 sub-if3 returns-3 stands-requires returns-4)
+    tie.close (tie.spec returns returns-2 (λ c. search needs) returns-3 (λ c κs. search needs) returns-4)

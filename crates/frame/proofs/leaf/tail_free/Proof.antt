@@ -8,20 +8,11 @@ use Rattle.frame.proofs.Lists.{free-tail}
 use Rattle.frame.proofs.leaf.tail_free.Statement.{statement}
 use Rattle.frame.proofs.leaf.tail_free.Tie as tie
 
-sub-if1 : tie.Need-sub-if1
-sub-if1 c = search needs
-
 returns : tie.Need-returns
 returns c = λ t. absurd (subst T (sym t) tt)
-
-sub-calm : tie.Need-sub-calm
-sub-calm c = search needs
-
-calm-requires : tie.Need-calm-requires
-calm-requires c κs = search needs
 
 returns-2 : tie.Need-returns-2
 returns-2 c = λ t. free-tail (now (c .before .before .before .args .s)) _ _ 16 _ (omega arith) (omega arith) (c .calm .ensures t)
 
 pub tail-free-spec : {M : Type 1} → statement M
-tail-free-spec = tie.close (tie.spec sub-if1 returns sub-calm calm-requires returns-2)
+tail-free-spec = tie.close (tie.spec (λ c. search needs) returns (λ c. search needs) (λ c κs. search needs) returns-2)

@@ -11,25 +11,16 @@ use Rattle.frame.proofs.Lines.{drop-none, drop-some, drop-zero, lesser-
 use Rattle.frame.proofs.line.drop_front.Statement.{statement}
 use Rattle.frame.proofs.line.drop_front.Tie as tie
 
-lesser-requires : tie.Need-lesser-requires
-lesser-requires c κs = search needs
-
 returns : tie.Need-returns
 returns c = drop-none _ _ _ _ (c .before .lesser .ensures) (c .if1 .taken)
 
 returns-2 : tie.Need-returns-2
 returns-2 c = drop-zero _ _ _ _ (c .before .before .lesser .ensures) (omega arith) (c .if2 .taken)
 
-sub-k : tie.Need-sub-k
-sub-k c = search needs
-
 move-down-requires : tie.Need-move-down-requires
 move-down-requires c κs =
     let a = c .before .before .before .before .before .args in
     omega (arith, lesser-bounds (a .held) (length (now (a .buf))) _ (c .before .before .before .lesser .ensures))
-
-same-length : tie.Need-same-length
-same-length c = search needs
 
 returns-3 : tie.Need-returns-3
 returns-3 c =
@@ -39,4 +30,4 @@ returns-3 c =
 
 pub drop-front-spec : {M : Type 1} → statement M
 drop-front-spec =
-    tie.close (tie.spec lesser-requires returns returns-2 sub-k move-down-requires same-length returns-3)
+    tie.close (tie.spec (λ c κs. search needs) returns returns-2 (λ c. search needs) move-down-requires (λ c. search needs) returns-3)

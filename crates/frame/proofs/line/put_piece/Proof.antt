@@ -14,19 +14,10 @@ use Rattle.frame.proofs.line.put_piece.Tie as tie
 returns : tie.Need-returns
 returns c = put-none _ (now (c .before .before .before .args .piece)) _ (c .if1 .taken)
 
-sub-lesser : tie.Need-sub-lesser
-sub-lesser c = search needs
-
-lesser-requires : tie.Need-lesser-requires
-lesser-requires c κs = search needs
-
 copy-in-requires : tie.Need-copy-in-requires
 copy-in-requires c κs =
     let a = c .before .before .before .before .before .args in
     omega (arith, lesser-bounds (length (now (a .piece))) (length (now (a .buf)) - a .held) _ (c .before .lesser .ensures))
-
-same-length : tie.Need-same-length
-same-length c = search needs
 
 returns-2 : tie.Need-returns-2
 returns-2 c =
@@ -36,4 +27,4 @@ returns-2 c =
 
 pub put-piece-spec : {M : Type 1} → statement M
 put-piece-spec =
-    tie.close (tie.spec returns sub-lesser lesser-requires copy-in-requires same-length returns-2)
+    tie.close (tie.spec returns (λ c. search needs) (λ c κs. search needs) copy-in-requires (λ c. search needs) returns-2)

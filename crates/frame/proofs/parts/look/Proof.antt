@@ -8,29 +8,17 @@ use Rattle.frame.specs.declared.parts.Part.{Part}
 use Rattle.frame.proofs.parts.look.Statement.{statement}
 use Rattle.frame.proofs.parts.look.Tie as tie
 
-enum-told : tie.Need-enum-told
-enum-told c = search needs
-
 step-mark-requires : tie.Need-step-mark-requires
 step-mark-requires c κs =
     (c .before .before .before .before .pre .0, subst (λ (y : Part). Seen (ruleOf (now (c .before .before .before .before .args .mark))) (now (c .before .before .before .before .args .s)) (c .before .before .before .before .args .p) y) (c .enum-told .given .1) (c .before .before .before .before .pre .1))
-
-enum-known-x : tie.Need-enum-known-x
-enum-known-x c = search needs
 
 step-size-requires : tie.Need-step-size-requires
 step-size-requires c κs =
     (c .before .before .before .before .before .pre .0, subst (λ (y : Part). Seen (ruleOf (now (c .before .before .before .before .before .args .mark))) (now (c .before .before .before .before .before .args .s)) (c .before .before .before .before .before .args .p) y) (c .before .x .given .1) (c .before .before .before .before .before .pre .1))
 
-enum-known-x-2 : tie.Need-enum-known-x-2
-enum-known-x-2 c = search needs
-
 step-fields-requires : tie.Need-step-fields-requires
 step-fields-requires c κs =
     (c .before .before .before .before .before .pre .0, subst (λ (y : Part). Seen (ruleOf (now (c .before .before .before .before .before .args .mark))) (now (c .before .before .before .before .before .args .s)) (c .before .before .before .before .before .args .p) y) (c .before .x2 .given .1) (c .before .before .before .before .before .pre .1))
-
-enum-known-x-3 : tie.Need-enum-known-x-3
-enum-known-x-3 c = search needs
 
 step-tail-requires : tie.Need-step-tail-requires
 step-tail-requires c κs =
@@ -56,13 +44,13 @@ pub look-spec : {M : Type 1} → statement M
 look-spec =
     tie.close
     (tie.spec
-    enum-told
+    (λ c. search needs)
     step-mark-requires
-    enum-known-x
+    (λ c. search needs)
     step-size-requires
-    enum-known-x-2
+    (λ c. search needs)
     step-fields-requires
-    enum-known-x-3
+    (λ c. search needs)
     step-tail-requires
     returns
     returns-2

@@ -11,15 +11,6 @@ use Rattle.frame.proofs.Past.{past-size, past-inside}
 use Rattle.frame.proofs.parts.step_fields.Statement.{statement}
 use Rattle.frame.proofs.parts.step_fields.Tie as tie
 
-slice-aggregate-matched : tie.Need-slice-aggregate-matched
-slice-aggregate-matched c = search needs
-
-matched-requires : tie.Need-matched-requires
-matched-requires c κs = search needs
-
-add-if2 : tie.Need-add-if2
-add-if2 c = search needs
-
 returns : tie.Need-returns
 returns c =
     let a = c .before .before .before .before .before .before .args in
@@ -35,12 +26,6 @@ returns-2 c =
     let s = now (a .s) in
     let S = c .before .before .before .before .before .before .pre .1 in
     past-size R s (c .before .before .before .before .before .before .pre .0) (a .p) (a .a) (a .n) S (tag-wrong R s (a .p) (a .a) (a .n) S _ (c .before .before .matched .ensures) (omega arith) (c .if2 .left))
-
-sub-if3 : tie.Need-sub-if3
-sub-if3 c = search needs
-
-holds-requires : tie.Need-holds-requires
-holds-requires c κs = search needs
 
 returns-3 : tie.Need-returns-3
 returns-3 c =
@@ -59,15 +44,6 @@ returns-4 c =
     let S = c .before .before .before .before .before .before .before .before .pre .1 in
     fields-short R s (a .p) (a .a) (a .n) S (c .before .before .before .before .before .before .before .before .pre .0) _ (c .before .before .before .before .matched .ensures) (omega arith) (omega arith) (none-at-all s (a .a) (length s) (now (a .mark)) (omega arith) _ (c .before .holds .ensures) (λ l. omega (arith, c .if4 .left))) (λ i. omega (arith, c .before .before .before .before .before .before .before .shared-slice-known .given i))
 
-add-e : tie.Need-add-e
-add-e c = search needs
-
-sub-if5 : tie.Need-sub-if5
-sub-if5 c = search needs
-
-shared-slice-read-if5 : tie.Need-shared-slice-read-if5
-shared-slice-read-if5 c = search needs
-
 returns-5 : tie.Need-returns-5
 returns-5 c =
     let a = c .before .before .before .before .before .before .before .before .args in
@@ -75,9 +51,6 @@ returns-5 c =
     let s = now (a .s) in
     let S = c .before .before .before .before .before .before .before .before .pre .1 in
     past-size R s (c .before .before .before .before .before .before .before .before .pre .0) (a .p) (a .a) (a .n) S (last-wrong R s (a .p) (a .a) (a .n) S (omega arith) (c .if5 .taken))
-
-holds-requires-2 : tie.Need-holds-requires-2
-holds-requires-2 c κs = search needs
 
 returns-6 : tie.Need-returns-6
 returns-6 c =
@@ -100,19 +73,19 @@ pub step-fields-spec : {M : Type 1} → statement M
 step-fields-spec =
     tie.close
     (tie.spec
-    slice-aggregate-matched
-    matched-requires
-    add-if2
+    (λ c. search needs)
+    (λ c κs. search needs)
+    (λ c. search needs)
     returns
     returns-2
-    sub-if3
-    holds-requires
+    (λ c. search needs)
+    (λ c κs. search needs)
     returns-3
     returns-4
-    add-e
-    sub-if5
-    shared-slice-read-if5
+    (λ c. search needs)
+    (λ c. search needs)
+    (λ c. search needs)
     returns-5
-    holds-requires-2
+    (λ c κs. search needs)
     returns-6
     returns-7)

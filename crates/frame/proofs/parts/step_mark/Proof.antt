@@ -12,23 +12,11 @@ use Rattle.frame.proofs.Past.{past-one}
 use Rattle.frame.proofs.parts.step_mark.Statement.{statement}
 use Rattle.frame.proofs.parts.step_mark.Tie as tie
 
-sub-if1 : tie.Need-sub-if1
-sub-if1 c = search needs
-
-stands-requires : tie.Need-stands-requires
-stands-requires c κs = search needs
-
-add-t10 : tie.Need-add-t10
-add-t10 c = search needs
-
 returns : tie.Need-returns
 returns c =
     let a = c .before .before .before .before .before .args in
     let R = ruleOf (now (a .mark)) in
     (mark-next R _ _ _ (matched-whole (now (a .s)) (a .p) (now (a .mark)) (c .before .stands .ensures .found (c .if2 .taken))) refl, omega arith)
-
-add-t12 : tie.Need-add-t12
-add-t12 c = search needs
 
 returns-2 : tie.Need-returns-2
 returns-2 c =
@@ -36,20 +24,11 @@ returns-2 c =
     let R = ruleOf (now (a .mark)) in
     past-one R (now (a .s)) (a .p) (omega (arith, c .before .before .before .before .before .pre .0 .long)) (mark-unlike R (now (a .s)) (a .p) (omega arith) (c .before .stands .ensures .none (c .if2 .left)))
 
-matched-requires : tie.Need-matched-requires
-matched-requires c κs = search needs
-
-add-if3 : tie.Need-add-if3
-add-if3 c = search needs
-
 returns-3 : tie.Need-returns-3
 returns-3 c =
     let a = c .before .before .before .before .before .args in
     let R = ruleOf (now (a .mark)) in
     mark-short R (c .before .before .before .before .before .pre .0) _ _ _ (omega arith) (c .before .matched .ensures) (c .if3 .taken)
-
-add-t6 : tie.Need-add-t6
-add-t6 c = search needs
 
 returns-4 : tie.Need-returns-4
 returns-4 c =
@@ -62,14 +41,14 @@ pub step-mark-spec : {M : Type 1} → statement M
 step-mark-spec =
     tie.close
     (tie.spec
-    sub-if1
-    stands-requires
-    add-t10
+    (λ c. search needs)
+    (λ c κs. search needs)
+    (λ c. search needs)
     returns
-    add-t12
+    (λ c. search needs)
     returns-2
-    matched-requires
-    add-if3
+    (λ c κs. search needs)
+    (λ c. search needs)
     returns-3
-    add-t6
+    (λ c. search needs)
     returns-4)

@@ -9,12 +9,6 @@ use Rattle.frame.proofs.Past.{past-mark}
 use Rattle.frame.proofs.parts.step_size.Statement.{statement}
 use Rattle.frame.proofs.parts.step_size.Tie as tie
 
-number-requires : tie.Need-number-requires
-number-requires c κs = (search needs)
-
-add-e : tie.Need-add-e
-add-e c = search needs
-
 returns : tie.Need-returns
 returns c =
     let a = c .before .before .before .before .before .args in
@@ -36,9 +30,6 @@ returns-2 c =
     let k = c .before .before .number .result .count in
     let D = c .before .before .number .ensures in
     past-mark R s (c .before .before .before .before .before .pre .0) (a .p) (a .a) S (λ w. size-wrong-none R s (a .p) (a .a) S v k D w (c .before .if1 .taken) (c .if2 .left) (omega arith))
-
-shared-slice-read-if3 : tie.Need-shared-slice-read-if3
-shared-slice-read-if3 c = search needs
 
 returns-3 : tie.Need-returns-3
 returns-3 c =
@@ -73,9 +64,6 @@ returns-5 c =
     let D = c .before .before .before .before .before .number .ensures in
     size-short R s (a .p) (a .a) S v k D (c .before .before .before .before .before .before .before .before .pre .0) (c .if5 .taken) (omega arith) (c .before .before .if3 .left) (omega arith) (omega arith)
 
-shared-slice-read-if6 : tie.Need-shared-slice-read-if6
-shared-slice-read-if6 c = search needs
-
 returns-6 : tie.Need-returns-6
 returns-6 c =
     let a = c .before .before .before .before .before .before .before .before .before .before .args in
@@ -98,9 +86,6 @@ returns-7 c =
     let D = c .before .before .before .before .before .before .before .before .number .ensures in
     past-mark R s (c .before .before .before .before .before .before .before .before .before .before .before .pre .0) (a .p) (a .a) S (λ w. size-wrong-low R s (a .p) (a .a) S v k D w (omega arith) (c .before .if6 .left) (omega arith))
 
-add-t14 : tie.Need-add-t14
-add-t14 c = search needs
-
 returns-8 : tie.Need-returns-8
 returns-8 c =
     let a = c .before .before .before .before .before .before .before .before .before .before .before .args in
@@ -116,16 +101,16 @@ pub step-size-spec : {M : Type 1} → statement M
 step-size-spec =
     tie.close
     (tie.spec
-    number-requires
-    add-e
+    (λ c κs. search needs)
+    (λ c. search needs)
     returns
     returns-2
-    shared-slice-read-if3
+    (λ c. search needs)
     returns-3
     returns-4
     returns-5
-    shared-slice-read-if6
+    (λ c. search needs)
     returns-6
     returns-7
-    add-t14
+    (λ c. search needs)
     returns-8)

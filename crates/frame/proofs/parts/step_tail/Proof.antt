@@ -25,15 +25,6 @@ part-checksum-start c =
     let w = S .within in
     search needs
 
-part-checksum-end : tie.Need-part-checksum-end
-part-checksum-end c = search needs
-
-checksum-requires : tie.Need-checksum-requires
-checksum-requires c κs = search needs
-
-sub-if1 : tie.Need-sub-if1
-sub-if1 c = search needs
-
 sub-word : tie.Need-sub-word
 sub-word c =
     let a = c .before .before .before .before .before .args in
@@ -43,12 +34,6 @@ word-requires : tie.Need-word-requires
 word-requires c κs =
     let a = c .before .before .before .before .before .args in
     omega (arith, tail-behind (ruleOf (now (a .mark))) (now (a .s)) (a .p) (a .a) (c .before .before .before .before .before .pre .1))
-
-trailer-word-requires : tie.Need-trailer-word-requires
-trailer-word-requires c κs = search needs
-
-add-t18 : tie.Need-add-t18
-add-t18 c = search needs
 
 returns : tie.Need-returns
 returns c =
@@ -60,9 +45,6 @@ returns c =
     let e = sym (c .before .before .word .ensures) ∙ c .if2 .taken ∙ c .before .trailer-word .ensures in
     let A = tail-at R s (a .p) (a .a) S _ hv (λ i. omega (arith, c .before .before .before .before .before .before .before .shared-slice-known .given i)) (omega arith) e in
     tail-whole R s (a .p) (a .a) S _ hv _ (matched-whole s (a .a) (trailer (c .before .before .before .before .checksum .result)) A) (c .before .before .before .before .before .before .before .before .pre .0) refl
-
-add-t15 : tie.Need-add-t15
-add-t15 c = search needs
 
 sub-t20 : tie.Need-sub-t20
 sub-t20 c =
@@ -78,24 +60,6 @@ returns-2 c =
     let hv = c .before .before .before .before .checksum .ensures in
     past-body R s (c .before .before .before .before .before .before .before .before .pre .0) (a .p) (a .a) S (tail-unlike R s (a .p) (a .a) S _ hv (omega arith) (λ A. c .if2 .left (c .before .before .word .ensures ∙ tail-word R s (a .p) (a .a) S _ hv A ∙ sym (c .before .trailer-word .ensures))))
 
-add-t22 : tie.Need-add-t22
-add-t22 c = search needs
-
-add-t25 : tie.Need-add-t25
-add-t25 c = search needs
-
-add-t27 : tie.Need-add-t27
-add-t27 c = search needs
-
-slice-aggregate-matched : tie.Need-slice-aggregate-matched
-slice-aggregate-matched c = search needs
-
-matched-requires : tie.Need-matched-requires
-matched-requires c κs = search needs
-
-add-if3 : tie.Need-add-if3
-add-if3 c = search needs
-
 returns-3 : tie.Need-returns-3
 returns-3 c =
     let a = c .before .before .before .before .before .before .before .before .args in
@@ -104,9 +68,6 @@ returns-3 c =
     let S = c .before .before .before .before .before .before .before .before .pre .1 in
     let M = c .before .matched .ensures in
     tail-short R s (a .p) (a .a) S _ (c .before .before .before .before .checksum .ensures) _ M (c .before .before .before .before .before .before .before .before .pre .0) (λ e. omega (arith, M .within)) (c .if3 .taken)
-
-add-t9 : tie.Need-add-t9
-add-t9 c = search needs
 
 sub-t30 : tie.Need-sub-t30
 sub-t30 c =
@@ -128,24 +89,24 @@ step-tail-spec =
     (tie.spec
     sub-checksum
     part-checksum-start
-    part-checksum-end
-    checksum-requires
-    sub-if1
+    (λ c. search needs)
+    (λ c κs. search needs)
+    (λ c. search needs)
     sub-word
     word-requires
-    trailer-word-requires
-    add-t18
+    (λ c κs. search needs)
+    (λ c. search needs)
     returns
-    add-t15
+    (λ c. search needs)
     sub-t20
     returns-2
-    add-t22
-    add-t25
-    add-t27
-    slice-aggregate-matched
-    matched-requires
-    add-if3
+    (λ c. search needs)
+    (λ c. search needs)
+    (λ c. search needs)
+    (λ c. search needs)
+    (λ c κs. search needs)
+    (λ c. search needs)
     returns-3
-    add-t9
+    (λ c. search needs)
     sub-t30
     returns-4)

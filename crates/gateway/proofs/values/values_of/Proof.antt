@@ -16,60 +16,6 @@ abbrev μ-loop : tie.MeasureT-loop
 loop-holds : tie.Need-loop-holds Inv-loop μ-loop
 loop-holds c = (omega arith, none-filled _)
 
-mul-at : tie.Need-mul-at Inv-loop μ-loop
-mul-at c = search needs
-
-add-a : tie.Need-add-a Inv-loop μ-loop
-add-a c = search needs
-
-mul-a : tie.Need-mul-a Inv-loop μ-loop
-mul-a c = search needs
-
-element-copy-out-a : tie.Need-element-copy-out-a Inv-loop μ-loop
-element-copy-out-a c = search needs
-
-mul-given : tie.Need-mul-given Inv-loop μ-loop
-mul-given c = search needs
-
-element-copy-out-given : tie.Need-element-copy-out-given Inv-loop μ-loop
-element-copy-out-given c = search needs
-
-array-write-given : tie.Need-array-write-given Inv-loop μ-loop
-array-write-given c = search needs
-
-mul-numbers : tie.Need-mul-numbers Inv-loop μ-loop
-mul-numbers c = search needs
-
-array-write-numbers : tie.Need-array-write-numbers Inv-loop μ-loop
-array-write-numbers c = search needs
-
-mul-starts : tie.Need-mul-starts Inv-loop μ-loop
-mul-starts c = search needs
-
-array-write-starts : tie.Need-array-write-starts Inv-loop μ-loop
-array-write-starts c = search needs
-
-add-ends : tie.Need-add-ends Inv-loop μ-loop
-add-ends c = search needs
-
-mul-ends : tie.Need-mul-ends Inv-loop μ-loop
-mul-ends c = search needs
-
-element-copy-out-ends : tie.Need-element-copy-out-ends Inv-loop μ-loop
-element-copy-out-ends c = search needs
-
-mul-ends-2 : tie.Need-mul-ends-2 Inv-loop μ-loop
-mul-ends-2 c = search needs
-
-array-write-ends : tie.Need-array-write-ends Inv-loop μ-loop
-array-write-ends c = search needs
-
-add-k : tie.Need-add-k Inv-loop μ-loop
-add-k c = search needs
-
-loop-less : tie.Need-loop-less Inv-loop μ-loop
-loop-less c = search needs
-
 loop-again : tie.Need-loop-again Inv-loop μ-loop
 loop-again c = (omega arith, next-filled _ _ (c .before .before .before .loop-test .taken) (c .before .before .before .before .loop .inv .1))
 
@@ -83,23 +29,23 @@ values-of-spec =
     Inv-loop
     μ-loop
     loop-holds
-    mul-at
-    add-a
-    mul-a
-    element-copy-out-a
-    mul-given
-    element-copy-out-given
-    array-write-given
-    mul-numbers
-    array-write-numbers
-    mul-starts
-    array-write-starts
-    add-ends
-    mul-ends
-    element-copy-out-ends
-    mul-ends-2
-    array-write-ends
-    add-k
-    loop-less
+    (λ c. search needs)
+    (λ c. search needs)
+    (λ c. search needs)
+    (λ c. search needs)
+    (λ c. search needs)
+    (λ c. search needs)
+    (λ c. search needs)
+    (λ c. search needs)
+    (λ c. search needs)
+    (λ c. search needs)
+    (λ c. search needs)
+    (λ c. search needs)
+    (λ c. search needs)
+    (λ c. search needs)
+    (λ c. search needs)
+    (λ c. search needs)
+    (λ c. search needs)
+    (λ c. search needs)
     loop-again
     returns)

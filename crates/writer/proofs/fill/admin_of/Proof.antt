@@ -12,9 +12,6 @@ use Rattle.writer.proofs.fill.admin_of.Tie as tie
 returns : tie.Need-returns
 returns c = type-long _ (c .if1 .taken)
 
-shared-slice-read-x : tie.Need-shared-slice-read-x
-shared-slice-read-x c = search needs
-
 returns-2 : tie.Need-returns-2
 unfolding admin typeOf code35 administrative
 returns-2 c = typed (now (c .before .before .before .args .v)) (c .before .before .if1 .left) 48 Heartbeat refl (c .if2 .taken)
@@ -52,7 +49,7 @@ admin-of-spec =
     tie.close
     (tie.spec
     returns
-    shared-slice-read-x
+    (λ c. search needs)
     returns-2
     returns-3
     returns-4

@@ -7,17 +7,11 @@ use Rattle.writer.proofs.Fitness.{written-short}
 use Rattle.writer.proofs.fill.put_bytes_value.Statement.{statement}
 use Rattle.writer.proofs.fill.put_bytes_value.Tie as tie
 
-is-fit-requires : tie.Need-is-fit-requires
-is-fit-requires c κs = search needs
-
 put-text-requires : tie.Need-put-text-requires
 put-text-requires c κs =
     let f = c .before .before .is-fit .ensures in
     let l = written-short _ _ (sym f ∙ ap not (c .before .if1 .taken)) in
     (omega arith, omega (arith, l))
-
-same-length : tie.Need-same-length
-same-length c = search needs
 
 returns : tie.Need-returns
 returns c = (sym (c .before .before .before .before .before .is-fit .ensures) ∙ ap not (c .before .before .before .before .if1 .taken), c .before .before .put-text .ensures .0)
@@ -27,4 +21,4 @@ returns-2 c = sym (c .before .is-fit .ensures) ∙ ap not (c .if1 .left)
 
 pub put-bytes-value-spec : {M : Type 1} → statement M
 put-bytes-value-spec =
-    tie.close (tie.spec is-fit-requires put-text-requires same-length returns returns-2)
+    tie.close (tie.spec (λ c κs. search needs) put-text-requires (λ c. search needs) returns returns-2)

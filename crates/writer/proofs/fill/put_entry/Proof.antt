@@ -5,15 +5,6 @@ use Rattle.writer.proofs.Entries.{not-own, missing, left-out}
 use Rattle.writer.proofs.fill.put_entry.Statement.{statement}
 use Rattle.writer.proofs.fill.put_entry.Tie as tie
 
-put-given-requires : tie.Need-put-given-requires
-put-given-requires c κs = search needs
-
-same-length : tie.Need-same-length
-same-length c = search needs
-
-returns : tie.Need-returns
-returns c = search needs
-
 returns-2 : tie.Need-returns-2
 returns-2 c m H =
     let s = c .before .before .before .before in
@@ -31,4 +22,4 @@ returns-4 c m H =
 
 pub put-entry-spec : {M : Type 1} → statement M
 put-entry-spec =
-    tie.close (tie.spec put-given-requires same-length returns returns-2 returns-3 returns-4)
+    tie.close (tie.spec (λ c κs. search needs) (λ c. search needs) (λ c. search needs) returns-2 returns-3 returns-4)

@@ -6,15 +6,6 @@ use Rattle.writer.proofs.Entries.{put-number, put-part, backwards, beyo
 use Rattle.writer.proofs.fill.put_given.Statement.{statement}
 use Rattle.writer.proofs.fill.put_given.Tie as tie
 
-is-number-requires : tie.Need-is-number-requires
-is-number-requires c κs = search needs
-
-put-number-value-requires : tie.Need-put-number-value-requires
-put-number-value-requires c κs = search needs
-
-same-length : tie.Need-same-length
-same-length c = search needs
-
 returns : tie.Need-returns
 returns c m H =
     let s = c .before .before .before .before .before .before .before .before in
@@ -31,18 +22,6 @@ returns-3 c m H =
     let s = c .before .before .before .before .before .before in
     beyond m (s .args .e) (now (s .args .text)) H (s .pre .1 .0) (s .pre .1 .1) (sym (c .before .before .before .is-number .ensures) ∙ c .before .before .if1 .left) (c .before .if2 .left) (c .if3 .taken)
 
-part-put-bytes-value-start : tie.Need-part-put-bytes-value-start
-part-put-bytes-value-start c = search needs
-
-part-put-bytes-value-end : tie.Need-part-put-bytes-value-end
-part-put-bytes-value-end c = search needs
-
-put-bytes-value-requires : tie.Need-put-bytes-value-requires
-put-bytes-value-requires c κs = search needs
-
-same-length-2 : tie.Need-same-length-2
-same-length-2 c = search needs
-
 returns-4 : tie.Need-returns-4
 returns-4 c m H =
     let s = c .before .before .before .before .before .before .before .before .before .before .before in
@@ -53,14 +32,14 @@ pub put-given-spec : {M : Type 1} → statement M
 put-given-spec =
     tie.close
     (tie.spec
-    is-number-requires
-    put-number-value-requires
-    same-length
+    (λ c κs. search needs)
+    (λ c κs. search needs)
+    (λ c. search needs)
     returns
     returns-2
     returns-3
-    part-put-bytes-value-start
-    part-put-bytes-value-end
-    put-bytes-value-requires
-    same-length-2
+    (λ c. search needs)
+    (λ c. search needs)
+    (λ c κs. search needs)
+    (λ c. search needs)
     returns-4)

@@ -15,9 +15,6 @@ use Rattle.writer.proofs.fill.put_number_value.Tie as tie
 returns : tie.Need-returns
 returns c = unwritten-large _ _ (c .before .before .pre .2) (c .if1 .taken)
 
-slice-aggregate-put-decimal : tie.Need-slice-aggregate-put-decimal
-slice-aggregate-put-decimal c = search needs
-
 put-decimal-requires : tie.Need-put-decimal-requires
 put-decimal-requires c κs =
     let s = c .before .before .before in
@@ -34,12 +31,6 @@ slice-aggregate-put-bytes-value c =
     let p = c .before .before .before .put-decimal in
     sym (length-take-le (p .result) (p .last .0) (omega (arith, few-digits 8 (s .args .n) (omega arith))))
 
-put-bytes-value-requires : tie.Need-put-bytes-value-requires
-put-bytes-value-requires c κs = search needs
-
-same-length : tie.Need-same-length
-same-length c = search needs
-
 returns-2 : tie.Need-returns-2
 returns-2 c =
     let s = c .before .before .before .before .before .before .before .before .before .before in
@@ -53,10 +44,10 @@ put-number-value-spec =
     tie.close
     (tie.spec
     returns
-    slice-aggregate-put-decimal
+    (λ c. search needs)
     put-decimal-requires
     array-share-prefix-digits
     slice-aggregate-put-bytes-value
-    put-bytes-value-requires
-    same-length
+    (λ c κs. search needs)
+    (λ c. search needs)
     returns-2)

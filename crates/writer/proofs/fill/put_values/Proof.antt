@@ -30,47 +30,8 @@ Inv-loop buf₀ at text values table marks to₀ k₀ buf to k =
 abbrev μ-loop : tie.MeasureT-loop
 μ-loop buf₀ at text values table marks to₀ k₀ buf to k = 21 - k
 
-slots-requires : tie.Need-slots-requires Inv-loop μ-loop
-slots-requires c κs = search needs
-
-marks-of-requires : tie.Need-marks-of-requires Inv-loop μ-loop
-marks-of-requires c κs = search needs
-
 loop-holds : tie.Need-loop-holds Inv-loop μ-loop
 loop-holds c = (omega arith, (refl, (nothing, λ m a M. refl)))
-
-mul-slot : tie.Need-mul-slot Inv-loop μ-loop
-mul-slot c = search needs
-
-array-copy-out-slot : tie.Need-array-copy-out-slot Inv-loop μ-loop
-array-copy-out-slot c = search needs
-
-bit-requires : tie.Need-bit-requires Inv-loop μ-loop
-bit-requires c κs = search needs
-
-bit-requires-2 : tie.Need-bit-requires-2 Inv-loop μ-loop
-bit-requires-2 c κs = search needs
-
-element-copy-out-t24 : tie.Need-element-copy-out-t24 Inv-loop μ-loop
-element-copy-out-t24 c = search needs
-
-mul-t17 : tie.Need-mul-t17 Inv-loop μ-loop
-mul-t17 c = search needs
-
-element-copy-out-t27 : tie.Need-element-copy-out-t27 Inv-loop μ-loop
-element-copy-out-t27 c = search needs
-
-mul-t28 : tie.Need-mul-t28 Inv-loop μ-loop
-mul-t28 c = search needs
-
-element-copy-out-t31 : tie.Need-element-copy-out-t31 Inv-loop μ-loop
-element-copy-out-t31 c = search needs
-
-mul-t32 : tie.Need-mul-t32 Inv-loop μ-loop
-mul-t32 c = search needs
-
-element-copy-out-t35 : tie.Need-element-copy-out-t35 Inv-loop μ-loop
-element-copy-out-t35 c = search needs
 
 put-entry-requires : tie.Need-put-entry-requires Inv-loop μ-loop
 put-entry-requires c κs =
@@ -83,15 +44,6 @@ put-entry-requires c κs =
     let t = slot-bounds (S .result) (S .ensures) (l .k) k in
     let f = first-short (s .args .m) (s .pre .0) vs (l .k) (l .inv .1 .1 .1 (s .args .m) (s .pre .0) M) in
     (t .0, t .1, omega (arith, f, l .inv .1 .1 .0 .next, l .inv .1 .0, s .pre .1))
-
-enum-known-next : tie.Need-enum-known-next Inv-loop μ-loop
-enum-known-next c = search needs
-
-enum-told : tie.Need-enum-told Inv-loop μ-loop
-enum-told c = search needs
-
-same-length : tie.Need-same-length Inv-loop μ-loop
-same-length c = search needs
 
 returns : tie.Need-returns Inv-loop μ-loop
 returns c =
@@ -109,12 +61,6 @@ returns c =
     (p .last .0) (l .to) (p .result) (p .ensures) in
     let r = told (c .enum-told .given .1) (tagAt (l .k)) (vs (tagAt (l .k))) (l .buf) (p .last .0) (l .to) (c .before .before .before .before .before .before .before .before .before .before .before .before .before .before .before .marks-of .result) here in
     unfit-here (s .args .m) vs (l .k) k (r (s .args .m) (s .pre .0) M)
-
-add-k : tie.Need-add-k Inv-loop μ-loop
-add-k c = search needs
-
-loop-less : tie.Need-loop-less Inv-loop μ-loop
-loop-less c = search needs
 
 loop-again : tie.Need-loop-again Inv-loop μ-loop
 loop-again c =
@@ -141,9 +87,6 @@ loop-again c =
       ),
     )
 
-same-length-2 : tie.Need-same-length-2 Inv-loop μ-loop
-same-length-2 c = search needs
-
 returns-2 : tie.Need-returns-2 Inv-loop μ-loop
 unfolding refused8
 returns-2 c =
@@ -161,27 +104,27 @@ put-values-spec =
     (tie.spec
     Inv-loop
     μ-loop
-    slots-requires
-    marks-of-requires
+    (λ c κs. search needs)
+    (λ c κs. search needs)
     loop-holds
-    mul-slot
-    array-copy-out-slot
-    bit-requires
-    bit-requires-2
-    element-copy-out-t24
-    mul-t17
-    element-copy-out-t27
-    mul-t28
-    element-copy-out-t31
-    mul-t32
-    element-copy-out-t35
+    (λ c. search needs)
+    (λ c. search needs)
+    (λ c κs. search needs)
+    (λ c κs. search needs)
+    (λ c. search needs)
+    (λ c. search needs)
+    (λ c. search needs)
+    (λ c. search needs)
+    (λ c. search needs)
+    (λ c. search needs)
+    (λ c. search needs)
     put-entry-requires
-    enum-known-next
-    enum-told
-    same-length
+    (λ c. search needs)
+    (λ c. search needs)
+    (λ c. search needs)
     returns
-    add-k
-    loop-less
+    (λ c. search needs)
+    (λ c. search needs)
     loop-again
-    same-length-2
+    (λ c. search needs)
     returns-2)

@@ -5,26 +5,14 @@ use Rattle.writer.proofs.Writes.{digits-1, digits-2, digits-3, digits-4
 use Rattle.writer.proofs.put.frame_length.Statement.{statement}
 use Rattle.writer.proofs.put.frame_length.Tie as tie
 
-add-result : tie.Need-add-result
-add-result c = search needs
-
 returns : tie.Need-returns
 returns c = digits-1 _ (c .if1 .taken)
-
-add-result-2 : tie.Need-add-result-2
-add-result-2 c = search needs
 
 returns-2 : tie.Need-returns-2
 returns-2 c = digits-2 _ (c .before .if1 .left) (c .if2 .taken)
 
-add-result-3 : tie.Need-add-result-3
-add-result-3 c = search needs
-
 returns-3 : tie.Need-returns-3
 returns-3 c = digits-3 _ (c .before .if2 .left) (c .if3 .taken)
-
-add-result-4 : tie.Need-add-result-4
-add-result-4 c = search needs
 
 returns-4 : tie.Need-returns-4
 returns-4 c = digits-4 _ (c .if3 .left) (omega arith)
@@ -33,11 +21,11 @@ pub frame-length-spec : {M : Type 1} → statement M
 frame-length-spec =
     tie.close
     (tie.spec
-    add-result
+    (λ c. search needs)
     returns
-    add-result-2
+    (λ c. search needs)
     returns-2
-    add-result-3
+    (λ c. search needs)
     returns-3
-    add-result-4
+    (λ c. search needs)
     returns-4)

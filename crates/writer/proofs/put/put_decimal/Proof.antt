@@ -16,43 +16,16 @@ Inv-loop buf₀ at n k rest₀ i₀ buf rest i = (i ≤ k) × ((length buf ≡ l
 abbrev μ-loop : tie.MeasureT-loop
 μ-loop buf₀ at n k rest₀ i₀ buf rest i = i
 
-width-requires : tie.Need-width-requires Inv-loop μ-loop
-width-requires c κs = search needs
-
 loop-holds : tie.Need-loop-holds Inv-loop μ-loop
 loop-holds c =
     let s = c .before .before in
     (omega arith, (refl, left-all _ (s .args .at) (s .args .n) _ (s .pre .0) (c .width .ensures)))
-
-sub-i : tie.Need-sub-i Inv-loop μ-loop
-sub-i c = search needs
-
-add-buf : tie.Need-add-buf Inv-loop μ-loop
-add-buf c = search needs
-
-cast-buf : tie.Need-cast-buf Inv-loop μ-loop
-cast-buf c = search needs
-
-add-buf-2 : tie.Need-add-buf-2 Inv-loop μ-loop
-add-buf-2 c = search needs
-
-slice-write-buf : tie.Need-slice-write-buf Inv-loop μ-loop
-slice-write-buf c = search needs
-
-loop-less : tie.Need-loop-less Inv-loop μ-loop
-loop-less c = search needs
 
 loop-again : tie.Need-loop-again Inv-loop μ-loop
 loop-again c =
     let l = c .before .loop in
     let a = c .before .before .before .before .args in
     (omega arith, (simp length-set (l .inv .1 .0), left-more _ _ (decimal (a .n)) (a .at) (l .i) _ (l .rest) (omega arith) (l .inv .1 .1)))
-
-add-result : tie.Need-add-result Inv-loop μ-loop
-add-result c = search needs
-
-same-length : tie.Need-same-length Inv-loop μ-loop
-same-length c = search needs
 
 returns : tie.Need-returns Inv-loop μ-loop
 returns c =
@@ -65,15 +38,15 @@ put-decimal-spec =
     (tie.spec
     Inv-loop
     μ-loop
-    width-requires
+    (λ c κs. search needs)
     loop-holds
-    sub-i
-    add-buf
-    cast-buf
-    add-buf-2
-    slice-write-buf
-    loop-less
+    (λ c. search needs)
+    (λ c. search needs)
+    (λ c. search needs)
+    (λ c. search needs)
+    (λ c. search needs)
+    (λ c. search needs)
     loop-again
-    add-result
-    same-length
+    (λ c. search needs)
+    (λ c. search needs)
     returns)

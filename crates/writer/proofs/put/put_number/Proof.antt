@@ -5,9 +5,6 @@ use Rattle.writer.proofs.Writes.{chain, few-digits}
 use Rattle.writer.proofs.put.put_number.Statement.{statement}
 use Rattle.writer.proofs.put.put_number.Tie as tie
 
-put-tag-requires : tie.Need-put-tag-requires
-put-tag-requires c κs = search needs
-
 put-decimal-requires : tie.Need-put-decimal-requires
 put-decimal-requires c κs =
     let s = c .before .before .before .before .before .before in
@@ -17,9 +14,6 @@ put-byte-requires : tie.Need-put-byte-requires
 put-byte-requires c κs =
     let s = c .before .before .before .before .before .before .before .before .before .before in
     omega (arith, few-digits 8 (s .args .n) (omega arith))
-
-same-length : tie.Need-same-length
-same-length c = search needs
 
 returns : tie.Need-returns
 returns c =
@@ -31,4 +25,4 @@ returns c =
 pub put-number-spec : {M : Type 1} → statement M
 put-number-spec =
     tie.close
-    (tie.spec put-tag-requires put-decimal-requires put-byte-requires same-length returns)
+    (tie.spec (λ c κs. search needs) put-decimal-requires put-byte-requires (λ c. search needs) returns)

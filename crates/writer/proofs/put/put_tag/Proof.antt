@@ -15,13 +15,10 @@ put-byte-requires c κs =
     let s = c .before .before .before .before .before .before in
     omega (arith, few-digits 4 (s .args .tag) (omega arith))
 
-same-length : tie.Need-same-length
-same-length c = search needs
-
 returns : tie.Need-returns
 returns c =
     let s = c .before .before .before .before .before .before .before .before .before in
     (chain (c .before .before .before .before .before .before .put-decimal .ensures) (c .before .before .put-byte .ensures), omega (arith, few-digits 4 (s .args .tag) (omega arith)))
 
 pub put-tag-spec : {M : Type 1} → statement M
-put-tag-spec = tie.close (tie.spec put-decimal-requires put-byte-requires same-length returns)
+put-tag-spec = tie.close (tie.spec put-decimal-requires put-byte-requires (λ c. search needs) returns)

@@ -11,30 +11,6 @@ use Rattle.writer.proofs.Writes.{chain, nothing, more}
 use Rattle.writer.proofs.replies.gap_fill_body.Statement.{statement}
 use Rattle.writer.proofs.replies.gap_fill_body.Tie as tie
 
-slice-aggregate-put-ids : tie.Need-slice-aggregate-put-ids
-slice-aggregate-put-ids c = search needs
-
-put-ids-requires : tie.Need-put-ids-requires
-put-ids-requires c κs = search needs
-
-slice-aggregate-put-text : tie.Need-slice-aggregate-put-text
-slice-aggregate-put-text c = search needs
-
-put-text-requires : tie.Need-put-text-requires
-put-text-requires c κs = search needs
-
-put-text-requires-2 : tie.Need-put-text-requires-2
-put-text-requires-2 c κs = search needs
-
-put-text-requires-3 : tie.Need-put-text-requires-3
-put-text-requires-3 c κs = search needs
-
-slice-aggregate-put-text-2 : tie.Need-slice-aggregate-put-text-2
-slice-aggregate-put-text-2 c = search needs
-
-put-text-requires-4 : tie.Need-put-text-requires-4
-put-text-requires-4 c κs = search needs
-
 put-number-requires : tie.Need-put-number-requires
 put-number-requires c κs =
     let u = c .before .before .before in
@@ -44,9 +20,6 @@ put-number-requires c κs =
     let p = q .before .before .before .before .before in
     let s = p .before .before .before .before .before .before .before in
     (omega arith, s .pre .1 .1, omega (arith, s .pre .1, p .put-ids .ensures .1, q .put-text .ensures .1, r .put-text2 .ensures .1, t .put-text3 .ensures .1, u .put-text4 .ensures .1))
-
-same-length : tie.Need-same-length
-same-length c = search needs
 
 returns : tie.Need-returns
 unfolding order own fields code35
@@ -68,14 +41,14 @@ pub gap-fill-body-spec : {M : Type 1} → statement M
 gap-fill-body-spec =
     tie.close
     (tie.spec
-    slice-aggregate-put-ids
-    put-ids-requires
-    slice-aggregate-put-text
-    put-text-requires
-    put-text-requires-2
-    put-text-requires-3
-    slice-aggregate-put-text-2
-    put-text-requires-4
+    (λ c. search needs)
+    (λ c κs. search needs)
+    (λ c. search needs)
+    (λ c κs. search needs)
+    (λ c κs. search needs)
+    (λ c κs. search needs)
+    (λ c. search needs)
+    (λ c κs. search needs)
     put-number-requires
-    same-length
+    (λ c. search needs)
     returns)

@@ -12,18 +12,6 @@ use Rattle.writer.proofs.Writes.{chain, nothing, more}
 use Rattle.writer.proofs.replies.heartbeat_body.Statement.{statement}
 use Rattle.writer.proofs.replies.heartbeat_body.Tie as tie
 
-slice-aggregate-put-head : tie.Need-slice-aggregate-put-head
-slice-aggregate-put-head c = search needs
-
-put-head-requires : tie.Need-put-head-requires
-put-head-requires c κs = search needs
-
-put-optional-requires : tie.Need-put-optional-requires
-put-optional-requires c κs = search needs
-
-same-length : tie.Need-same-length
-same-length c = search needs
-
 returns : tie.Need-returns
 unfolding order own fields code35
 returns c =
@@ -39,4 +27,4 @@ returns c =
 pub heartbeat-body-spec : {M : Type 1} → statement M
 heartbeat-body-spec =
     tie.close
-    (tie.spec slice-aggregate-put-head put-head-requires put-optional-requires same-length returns)
+    (tie.spec (λ c. search needs) (λ c κs. search needs) (λ c κs. search needs) (λ c. search needs) returns)

@@ -12,29 +12,17 @@ use Rattle.writer.proofs.Replied.{passed, unsendable, unfit-own, put}
 use Rattle.writer.proofs.replies.logon.Statement.{statement}
 use Rattle.writer.proofs.replies.logon.Tie as tie
 
-sendable-requires : tie.Need-sendable-requires
-sendable-requires c κs = search needs
-
 returns : tie.Need-returns
 returns c = unsendable (c .before .sendable .ensures) _ (c .if1 .taken)
 
 returns-2 : tie.Need-returns-2
 returns-2 c = unfit-own (c .before .before .sendable .ensures) (c .before .if1 .left) (lt-leb _ _ (c .if2 .taken))
 
-slice-aggregate-logon-body : tie.Need-slice-aggregate-logon-body
-slice-aggregate-logon-body c = search needs
-
 logon-body-requires : tie.Need-logon-body-requires
 logon-body-requires c κs = let P = passed (c .before .before .before .sendable .ensures) (c .before .before .if1 .left) in search needs
 
-slice-aggregate-put-reply : tie.Need-slice-aggregate-put-reply
-slice-aggregate-put-reply c = search needs
-
 put-reply-requires : tie.Need-put-reply-requires
 put-reply-requires c κs = let P = passed (c .before .before .before .before .before .before .before .sendable .ensures) (c .before .before .before .before .before .before .if1 .left) in search needs
-
-same-length : tie.Need-same-length
-same-length c = search needs
 
 returns-3 : tie.Need-returns-3
 unfolding logon written
@@ -48,12 +36,12 @@ pub logon-spec : {M : Type 1} → statement M
 logon-spec =
     tie.close
     (tie.spec
-    sendable-requires
+    (λ c κs. search needs)
     returns
     returns-2
-    slice-aggregate-logon-body
+    (λ c. search needs)
     logon-body-requires
-    slice-aggregate-put-reply
+    (λ c. search needs)
     put-reply-requires
-    same-length
+    (λ c. search needs)
     returns-3)

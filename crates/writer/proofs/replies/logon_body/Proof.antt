@@ -12,36 +12,6 @@ use Rattle.writer.proofs.Writes.{chain, nothing, more}
 use Rattle.writer.proofs.replies.logon_body.Statement.{statement}
 use Rattle.writer.proofs.replies.logon_body.Tie as tie
 
-slice-aggregate-put-head : tie.Need-slice-aggregate-put-head
-slice-aggregate-put-head c = search needs
-
-put-head-requires : tie.Need-put-head-requires
-put-head-requires c κs = search needs
-
-slice-aggregate-put-text : tie.Need-slice-aggregate-put-text
-slice-aggregate-put-text c = search needs
-
-put-text-requires : tie.Need-put-text-requires
-put-text-requires c κs = search needs
-
-put-number-requires : tie.Need-put-number-requires
-put-number-requires c κs = search needs
-
-slice-aggregate-put-text-2 : tie.Need-slice-aggregate-put-text-2
-slice-aggregate-put-text-2 c = search needs
-
-put-text-requires-2 : tie.Need-put-text-requires-2
-put-text-requires-2 c κs = search needs
-
-slice-aggregate-put-optional : tie.Need-slice-aggregate-put-optional
-slice-aggregate-put-optional c = search needs
-
-put-optional-requires : tie.Need-put-optional-requires
-put-optional-requires c κs = search needs
-
-same-length : tie.Need-same-length
-same-length c = search needs
-
 returns : tie.Need-returns
 unfolding order own fields code35
 returns c =
@@ -61,14 +31,14 @@ pub logon-body-spec : {M : Type 1} → statement M
 logon-body-spec =
     tie.close
     (tie.spec
-    slice-aggregate-put-head
-    put-head-requires
-    slice-aggregate-put-text
-    put-text-requires
-    put-number-requires
-    slice-aggregate-put-text-2
-    put-text-requires-2
-    slice-aggregate-put-optional
-    put-optional-requires
-    same-length
+    (λ c. search needs)
+    (λ c κs. search needs)
+    (λ c. search needs)
+    (λ c κs. search needs)
+    (λ c κs. search needs)
+    (λ c. search needs)
+    (λ c κs. search needs)
+    (λ c. search needs)
+    (λ c κs. search needs)
+    (λ c. search needs)
     returns)

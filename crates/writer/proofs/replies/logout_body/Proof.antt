@@ -11,18 +11,6 @@ use Rattle.writer.proofs.Writes.{chain, nothing, more}
 use Rattle.writer.proofs.replies.logout_body.Statement.{statement}
 use Rattle.writer.proofs.replies.logout_body.Tie as tie
 
-slice-aggregate-put-head : tie.Need-slice-aggregate-put-head
-slice-aggregate-put-head c = search needs
-
-put-head-requires : tie.Need-put-head-requires
-put-head-requires c κs = search needs
-
-put-number-requires : tie.Need-put-number-requires
-put-number-requires c κs = search needs
-
-same-length : tie.Need-same-length
-same-length c = search needs
-
 returns : tie.Need-returns
 unfolding order own fields code35
 returns c =
@@ -38,4 +26,4 @@ returns c =
 pub logout-body-spec : {M : Type 1} → statement M
 logout-body-spec =
     tie.close
-    (tie.spec slice-aggregate-put-head put-head-requires put-number-requires same-length returns)
+    (tie.spec (λ c. search needs) (λ c κs. search needs) (λ c κs. search needs) (λ c. search needs) returns)

@@ -9,15 +9,6 @@ use Rattle.writer.proofs.Writes.{chain, nothing, more}
 use Rattle.writer.proofs.replies.put_head.Statement.{statement}
 use Rattle.writer.proofs.replies.put_head.Tie as tie
 
-put-ids-requires : tie.Need-put-ids-requires
-put-ids-requires c κs = search needs
-
-put-text-requires : tie.Need-put-text-requires
-put-text-requires c κs = search needs
-
-same-length : tie.Need-same-length
-same-length c = search needs
-
 returns : tie.Need-returns
 returns c =
     let s = c .before .before .before .before .before .before .before .before .before .before .before .before .before .args in (
@@ -26,4 +17,4 @@ returns c =
     )
 
 pub put-head-spec : {M : Type 1} → statement M
-put-head-spec = tie.close (tie.spec put-ids-requires put-text-requires same-length returns)
+put-head-spec = tie.close (tie.spec (λ c κs. search needs) (λ c κs. search needs) (λ c. search needs) returns)

@@ -5,21 +5,6 @@ use Rattle.writer.proofs.Writes.{chain, nothing}
 use Rattle.writer.proofs.replies.put_ids.Statement.{statement}
 use Rattle.writer.proofs.replies.put_ids.Tie as tie
 
-put-text-requires : tie.Need-put-text-requires
-put-text-requires c κs = search needs
-
-put-text-requires-2 : tie.Need-put-text-requires-2
-put-text-requires-2 c κs = search needs
-
-put-text-requires-3 : tie.Need-put-text-requires-3
-put-text-requires-3 c κs = search needs
-
-put-number-requires : tie.Need-put-number-requires
-put-number-requires c κs = search needs
-
-same-length : tie.Need-same-length
-same-length c = search needs
-
 returns : tie.Need-returns
 returns c =
     let t = c .before .before in
@@ -35,9 +20,9 @@ pub put-ids-spec : {M : Type 1} → statement M
 put-ids-spec =
     tie.close
     (tie.spec
-    put-text-requires
-    put-text-requires-2
-    put-text-requires-3
-    put-number-requires
-    same-length
+    (λ c κs. search needs)
+    (λ c κs. search needs)
+    (λ c κs. search needs)
+    (λ c κs. search needs)
+    (λ c. search needs)
     returns)

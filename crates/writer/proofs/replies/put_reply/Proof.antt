@@ -25,9 +25,6 @@ put-frame-requires c κs =
     let f = ap (λ (n : ℕ). length (decimal n)) e in
     (omega (arith, e, s .pre .1), omega (arith, e, f, d, s .pre .2))
 
-same-length : tie.Need-same-length
-same-length c = search needs
-
 returns : tie.Need-returns
 returns c =
     let s = c .before .before .before .before .before .before .before in
@@ -39,4 +36,4 @@ returns c =
 
 pub put-reply-spec : {M : Type 1} → statement M
 put-reply-spec =
-    tie.close (tie.spec slice-aggregate-put-frame put-frame-requires same-length returns)
+    tie.close (tie.spec slice-aggregate-put-frame put-frame-requires (λ c. search needs) returns)

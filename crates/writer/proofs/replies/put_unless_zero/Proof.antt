@@ -9,14 +9,8 @@ use Rattle.writer.proofs.replies.put_unless_zero.Tie as tie
 returns : tie.Need-returns
 returns c = (rw (eq-eqb _ 0 (c .if1 .taken)) nothing, omega arith)
 
-put-number-requires : tie.Need-put-number-requires
-put-number-requires c κs = search needs
-
-same-length : tie.Need-same-length
-same-length c = search needs
-
 returns-2 : tie.Need-returns-2
 returns-2 c = (rw (ne-eqb _ 0 (c .before .before .before .before .if1 .left)) (c .before .before .put-number .ensures .0), omega arith)
 
 pub put-unless-zero-spec : {M : Type 1} → statement M
-put-unless-zero-spec = tie.close (tie.spec returns put-number-requires same-length returns-2)
+put-unless-zero-spec = tie.close (tie.spec returns (λ c κs. search needs) (λ c. search needs) returns-2)

@@ -12,20 +12,11 @@ use Rattle.writer.proofs.Replied.{passed, rejects, unsendable, unfit-ow
 use Rattle.writer.proofs.replies.reject.Statement.{statement}
 use Rattle.writer.proofs.replies.reject.Tie as tie
 
-sendable-requires : tie.Need-sendable-requires
-sendable-requires c κs = search needs
-
 returns : tie.Need-returns
 returns c = unsendable (c .before .sendable .ensures) _ (c .if1 .taken)
 
-rejectable-requires : tie.Need-rejectable-requires
-rejectable-requires c κs = search needs
-
 returns-2 : tie.Need-returns-2
 returns-2 c = unfit-own (c .before .before .before .sendable .ensures) (c .before .before .if1 .left) (sym (c .before .rejectable .ensures) ∙ not-true _ (c .if2 .taken))
-
-slice-aggregate-reject-body : tie.Need-slice-aggregate-reject-body
-slice-aggregate-reject-body c = search needs
 
 reject-body-requires : tie.Need-reject-body-requires
 reject-body-requires c κs =
@@ -33,14 +24,8 @@ reject-body-requires c κs =
     let R = rejects (c .before .before .rejectable .ensures) (c .before .if2 .left) in
     search needs
 
-slice-aggregate-put-reply : tie.Need-slice-aggregate-put-reply
-slice-aggregate-put-reply c = search needs
-
 put-reply-requires : tie.Need-put-reply-requires
 put-reply-requires c κs = let P = passed (c .before .before .before .before .before .before .before .before .sendable .ensures) (c .before .before .before .before .before .before .before .if1 .left) in search needs
-
-same-length : tie.Need-same-length
-same-length c = search needs
 
 returns-3 : tie.Need-returns-3
 unfolding reject written
@@ -54,13 +39,13 @@ pub reject-spec : {M : Type 1} → statement M
 reject-spec =
     tie.close
     (tie.spec
-    sendable-requires
+    (λ c κs. search needs)
     returns
-    rejectable-requires
+    (λ c κs. search needs)
     returns-2
-    slice-aggregate-reject-body
+    (λ c. search needs)
     reject-body-requires
-    slice-aggregate-put-reply
+    (λ c. search needs)
     put-reply-requires
-    same-length
+    (λ c. search needs)
     returns-3)

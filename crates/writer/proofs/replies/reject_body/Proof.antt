@@ -12,27 +12,6 @@ use Rattle.writer.proofs.Writes.{chain, nothing, more}
 use Rattle.writer.proofs.replies.reject_body.Statement.{statement}
 use Rattle.writer.proofs.replies.reject_body.Tie as tie
 
-slice-aggregate-put-head : tie.Need-slice-aggregate-put-head
-slice-aggregate-put-head c = search needs
-
-put-head-requires : tie.Need-put-head-requires
-put-head-requires c κs = search needs
-
-put-number-requires : tie.Need-put-number-requires
-put-number-requires c κs = search needs
-
-put-unless-zero-requires : tie.Need-put-unless-zero-requires
-put-unless-zero-requires c κs = search needs
-
-put-optional-requires : tie.Need-put-optional-requires
-put-optional-requires c κs = search needs
-
-put-number-requires-2 : tie.Need-put-number-requires-2
-put-number-requires-2 c κs = search needs
-
-same-length : tie.Need-same-length
-same-length c = search needs
-
 returns : tie.Need-returns
 unfolding order own fields code35
 returns c =
@@ -52,11 +31,11 @@ pub reject-body-spec : {M : Type 1} → statement M
 reject-body-spec =
     tie.close
     (tie.spec
-    slice-aggregate-put-head
-    put-head-requires
-    put-number-requires
-    put-unless-zero-requires
-    put-optional-requires
-    put-number-requires-2
-    same-length
+    (λ c. search needs)
+    (λ c κs. search needs)
+    (λ c κs. search needs)
+    (λ c κs. search needs)
+    (λ c κs. search needs)
+    (λ c κs. search needs)
+    (λ c. search needs)
     returns)

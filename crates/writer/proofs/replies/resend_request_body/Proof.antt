@@ -11,21 +11,6 @@ use Rattle.writer.proofs.Writes.{chain, nothing, more}
 use Rattle.writer.proofs.replies.resend_request_body.Statement.{statement}
 use Rattle.writer.proofs.replies.resend_request_body.Tie as tie
 
-slice-aggregate-put-head : tie.Need-slice-aggregate-put-head
-slice-aggregate-put-head c = search needs
-
-put-head-requires : tie.Need-put-head-requires
-put-head-requires c κs = search needs
-
-put-number-requires : tie.Need-put-number-requires
-put-number-requires c κs = search needs
-
-put-number-requires-2 : tie.Need-put-number-requires-2
-put-number-requires-2 c κs = search needs
-
-same-length : tie.Need-same-length
-same-length c = search needs
-
 returns : tie.Need-returns
 unfolding order own fields code35
 returns c =
@@ -43,9 +28,9 @@ pub resend-request-body-spec : {M : Type 1} → statement M
 resend-request-body-spec =
     tie.close
     (tie.spec
-    slice-aggregate-put-head
-    put-head-requires
-    put-number-requires
-    put-number-requires-2
-    same-length
+    (λ c. search needs)
+    (λ c κs. search needs)
+    (λ c κs. search needs)
+    (λ c κs. search needs)
+    (λ c. search needs)
     returns)
