@@ -10,7 +10,7 @@ use borrow.Author.Tests.{eqb-true, leb-true}
 use Rattle.frame.proofs.Tests.{both, allBelow, at-below}
 use Rattle.kinds.specs.Kind.{leap, days}
 use Rattle.calendar.specs.Time.{counted, yearDays, inYear}
-use Rattle.calendar.specs.Walk.{evened}
+use Rattle.calendar.specs.code.Walk.{evened}
 use Rattle.calendar.proofs.Years.{year-days}
 
 -- the month, from 0 on, and the day of the month, of the evened day e

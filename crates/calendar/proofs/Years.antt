@@ -9,7 +9,7 @@ use borrow.Author.Tests.{eqb-true, eqb-false, eq-eqb, ne-eqb}
 use Rattle.kinds.specs.Kind.{leap}
 use Rattle.kinds.proofs.Months.{leap-is}
 use Rattle.calendar.specs.Time.{total, yearDays, inYear, dateOf}
-use Rattle.calendar.specs.Walk.{InYear, Split}
+use Rattle.calendar.specs.code.Walk.{InYear, Split}
 use Rattle.calendar.proofs.Counting.{total-behind, total-inside, counted-behind}
 
 pub year-days : (y : ℕ) → yearDays y ≡ cond (leap y) 366 365

@@ -1,2 +1,2 @@
 pub mod Time
-pub mod Walk
+pub mod code

@@ -3,7 +3,7 @@ use kinds::is_leap;
 ghost use mathlib.Core.Path.{_≡_};
 ghost use Prim.Native.Nat.{_*_, _<_, _≤_};
 ghost use Rattle.calendar.specs.Time.{dateOf, inYear, yearDays};
-ghost use Rattle.calendar.specs.Walk.{InYear, Split, Evened};
+ghost use Rattle.calendar.specs.code.Walk.{InYear, Split, Evened};
 
 // A day of the calendar.
 pub struct Date {

@@ -10,7 +10,7 @@ use Rattle.frame.specs.Bytes.{Bytes, has}
 use Rattle.fields.specs.Field.{field}
 use Rattle.dictionary.specs.Dictionary.{Row, header, fields, listed, allMembers, groupsOf, member, rowsOf}
 use Rattle.dictionary.specs.Verdict.{Open, Place, outside, inside, firstMember, left, rule4, rule5, rule6, rule7, rule8}
-use Rattle.dictionary.specs.Held.{tagAt, index, bitOf, Right, InGroup, Stood, away, within, insideOf, Rule5, Rule7, Rule8}
+use Rattle.dictionary.specs.code.Held.{tagAt, index, bitOf, Right, InGroup, Stood, away, within, insideOf, Rule5, Rule7, Rule8}
 use Rattle.dictionary.specs.declared.MsgType.{MsgType}
 use Rattle.dictionary.specs.declared.Says.the-variants.{Nothing, Reason}
 use Rattle.dictionary.specs.declared.rules.State.{State}

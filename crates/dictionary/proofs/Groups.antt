@@ -10,7 +10,7 @@ use lib.Dec.{eqb}
 use Rattle.fields.specs.Field.{Part}
 use Rattle.dictionary.specs.Dictionary.{Row, Group, №453, №580}
 use Rattle.dictionary.specs.Verdict.{Open, Place, outside, inside, firstOf, missing, incomplete, closing, ends, rule1}
-use Rattle.dictionary.specs.Held.{Two, rowsFor, InGroup, Stood, away, within, Belongs, Missing, Incomplete, Closing}
+use Rattle.dictionary.specs.code.Held.{Two, rowsFor, InGroup, Stood, away, within, Belongs, Missing, Incomplete, Closing}
 use Rattle.dictionary.specs.declared.Says.{Says}
 use Rattle.dictionary.specs.declared.Says.the-variants.{Nothing, Reason}
 use Rattle.dictionary.specs.declared.rules.State.{State}

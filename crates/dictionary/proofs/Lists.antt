@@ -5,7 +5,7 @@ use mathlib.Core.Bool.{Bool, true, false, false≢true}
 use Rattle.frame.specs.Bytes.{all}
 use Rattle.frame.proofs.Tests.{all-at}
 use Rattle.dictionary.specs.Dictionary.{theNine}
-use Rattle.dictionary.specs.Held.{agree}
+use Rattle.dictionary.specs.code.Held.{agree}
 use Rattle.dictionary.specs.declared.MsgType.{MsgType}
 use Rattle.dictionary.specs.declared.MsgType.the-variants.{Heartbeat, TestRequest, ResendRequest, Reject, SequenceReset, Logout, Logon, OrderCancelRequest, TradeCaptureReportRequest}
 

@@ -13,7 +13,7 @@ use Rattle.frame.specs.Bytes.{has, same}
 use Rattle.kinds.proofs.Values.{same-true}
 use Rattle.dictionary.specs.Dictionary.{Row}
 use Rattle.dictionary.specs.Verdict.{missing}
-use Rattle.dictionary.specs.Held.{tags, tagAt, needed, rowsFor, membersOf, membersSpan, spanOf, tagsIn, tagsFor, Required, Marked}
+use Rattle.dictionary.specs.code.Held.{tags, tagAt, needed, rowsFor, membersOf, membersSpan, spanOf, tagsIn, tagsFor, Required, Marked}
 use Rattle.dictionary.specs.declared.Says.{Says}
 use Rattle.dictionary.specs.declared.Says.the-variants.{Nothing, Reason}
 use Rattle.dictionary.specs.declared.table.Rows.{Rows}

@@ -14,7 +14,7 @@ use Rattle.kinds.specs.declared.Number.{Number}
 use Rattle.kinds.specs.declared.Number.the-variants.{Is, Bad}
 use Rattle.dictionary.specs.Dictionary.{Row, Group, №453, №580, groups, header, fields, listed, kindIn, groupsAmong, groupsOf, rowsOf}
 use Rattle.dictionary.specs.Verdict.{Open, outside, inside, _when_, opened, rule9}
-use Rattle.dictionary.specs.Held.{bitOf, isNumeric, Two, Right, away, within, Over, Counted, Noted}
+use Rattle.dictionary.specs.code.Held.{bitOf, isNumeric, Two, Right, away, within, Over, Counted, Noted}
 use Rattle.dictionary.specs.declared.MsgType.{MsgType}
 use Rattle.dictionary.specs.declared.Says.the-variants.{Nothing, Reason}
 use Rattle.dictionary.specs.declared.rules.State.{State}

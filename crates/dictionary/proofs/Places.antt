@@ -12,7 +12,7 @@ use Rattle.frame.specs.Bytes.{Bytes, any, all, has, same}
 use Rattle.kinds.specs.Kind.{Kind, text, number_to_, Y/N, time, day, among}
 use Rattle.kinds.proofs.Values.{same-true}
 use Rattle.dictionary.specs.Dictionary.{Group, №453, №580, groups, theNine, header, fields, listed, member, rowsOf, frameTag}
-use Rattle.dictionary.specs.Held.{tags, tagAt, Placed, index, bitOf, written, sameAll, agree, rightIn, rightOf, right, entryOf, Table, Two, Right, Looked}
+use Rattle.dictionary.specs.code.Held.{tags, tagAt, Placed, index, bitOf, written, sameAll, agree, rightIn, rightOf, right, entryOf, Table, Two, Right, Looked}
 use Rattle.dictionary.specs.declared.MsgType.{MsgType}
 use Rattle.dictionary.specs.declared.table.Entry.{Entry}
 use Rattle.dictionary.specs.declared.table.Line.{Line}

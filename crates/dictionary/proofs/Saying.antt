@@ -14,7 +14,7 @@ use Rattle.kinds.specs.Kind.{Kind, formed, allowed}
 use Rattle.kinds.specs.Judged.{meaning, judged}
 use Rattle.dictionary.specs.Dictionary.{Row, Group, №453, №580, theNine, header, fields, code35, listed, kindIn, groupsOf, member, rowsOf, inDictionary, administrative}
 use Rattle.dictionary.specs.Verdict.{Place, outside, inside, Past, _when_, firstOf, firstMember, rule1, rule2, rule3, rule4, rule5, rule6, rule7, rule8, rule9, rule10, left, skipped, rules4to10, said}
-use Rattle.dictionary.specs.Held.{tags, tagAt, index, Two, Right, Looked, Belongs, Marked, Stood, away, within, Rules9and10}
+use Rattle.dictionary.specs.code.Held.{tags, tagAt, index, Two, Right, Looked, Belongs, Marked, Stood, away, within, Rules9and10}
 use Rattle.dictionary.specs.declared.MsgType.{MsgType}
 use Rattle.dictionary.specs.declared.MsgType.the-variants.{Heartbeat, TestRequest, ResendRequest, Reject, SequenceReset, Logout, Logon, OrderCancelRequest, TradeCaptureReportRequest}
 use Rattle.dictionary.specs.declared.Says.{Says}

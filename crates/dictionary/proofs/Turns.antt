@@ -11,7 +11,7 @@ use Rattle.fields.specs.Field.{field, parts}
 use Rattle.fields.proofs.Rows.{Step}
 use Rattle.dictionary.specs.Dictionary.{header, fields, listed, groupsOf, member, inDictionary, administrative}
 use Rattle.dictionary.specs.Verdict.{Open, Place, outside, inside, Past, _when_, firstOf, firstMember, left, rule1, rule6, rule8, rule9, rule10, skipped, said, opened, taken, after, walk}
-use Rattle.dictionary.specs.Held.{tags, Looked, Marked, Stood, away, within, insideOf, pastHeader, Stands, Noted, leftOf, begunOf}
+use Rattle.dictionary.specs.code.Held.{tags, Looked, Marked, Stood, away, within, insideOf, pastHeader, Stands, Noted, leftOf, begunOf}
 use Rattle.dictionary.specs.declared.MsgType.{MsgType}
 use Rattle.dictionary.specs.declared.Says.{Says}
 use Rattle.dictionary.specs.declared.Says.the-variants.{Nothing, Reason}

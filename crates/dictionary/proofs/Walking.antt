@@ -16,7 +16,7 @@ use Rattle.fields.specs.declared.Item.the-variants.{Field, Malformed, End, NoBo
 use Rattle.fields.proofs.Rows.{Step, Stepped, parts-step}
 use Rattle.dictionary.specs.Dictionary.{Row, header, fields}
 use Rattle.dictionary.specs.Verdict.{Past, firstOf, rule1, rule2, said, after, verdictBy, walk, nothingYet, missing}
-use Rattle.dictionary.specs.Held.{tagAt, Looked, Marked, away, Stands, Closing, Missing, Finished}
+use Rattle.dictionary.specs.code.Held.{tagAt, Looked, Marked, away, Stands, Closing, Missing, Finished}
 use Rattle.dictionary.specs.declared.MsgType.{MsgType}
 use Rattle.dictionary.specs.declared.Says.{Says}
 use Rattle.dictionary.specs.declared.Says.the-variants.{Nothing, Reason}

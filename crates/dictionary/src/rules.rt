@@ -8,7 +8,7 @@ ghost use mathlib.Core.Path.{_≡_};
 ghost use Prim.Native.Nat.{_<_};
 ghost use Rattle.dictionary.specs.Dictionary.{administrative};
 ghost use Rattle.dictionary.specs.Verdict.{rule4, rule6};
-ghost use Rattle.dictionary.specs.Held.{Index, index, bitOf, Right, Looked, insideOf, Incomplete, Closing, Rule1, Rule5, Rule7, Rule8, Rules9and10, OfMalformed, OfUnknown, OfKnown, Counted, Over, Noted, leftOf, begunOf};
+ghost use Rattle.dictionary.specs.code.Held.{Index, index, bitOf, Right, Looked, insideOf, Incomplete, Closing, Rule1, Rule5, Rule7, Rule8, Rules9and10, OfMalformed, OfUnknown, OfKnown, Counted, Over, Noted, leftOf, begunOf};
 
 // What the walk holds beside its marks: a tag outside the header was met; the open group by its count tag (0: none), its count, and the instances
 // begun.

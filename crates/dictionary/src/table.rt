@@ -5,7 +5,7 @@ use kinds::Choice;
 use kinds::Kind;
 ghost use mathlib.Core.Path.{_≡_};
 ghost use Prim.Native.Nat.{_<_};
-ghost use Rattle.dictionary.specs.Held.{tagAt, entryOf, Table, Placed, Required, Missing, Spanned};
+ghost use Rattle.dictionary.specs.code.Held.{tagAt, entryOf, Table, Placed, Required, Missing, Spanned};
 
 // A tag's line of the dictionary: its kind, with the list of its values; the messages that have it outside groups; and the group that has it as a
 // member.

@@ -28,7 +28,7 @@ ghost use Rattle.fields.specs.Field.{parts};
 ghost use mathlib.Core.List.{[], _∷_};
 ghost use Rattle.dictionary.specs.Dictionary.{typeOf, typeIs};
 ghost use Rattle.dictionary.specs.Verdict.{verdictBy, walk, nothingYet, verdict};
-ghost use Rattle.dictionary.specs.Held.{Finished};
+ghost use Rattle.dictionary.specs.code.Held.{Finished};
 
 // The verdict by what was said, where nothing more is to come.
 fn finding(said: Says) -> Verdict

@@ -6,8 +6,7 @@ use mathlib.Core.Path.{_≡_, sym, ap, _∙_, subst}
 use mathlib.Core.List.{List, _∷_, _++_}
 use lib.ListN.{length, take, drop, getD, length-append}
 use lib.Seq.{getD-append-add, getD-drop, getD-take}
-use Rattle.frame.specs.Bytes.{Bytes, At}
-use Rattle.frame.specs.Leaf.{Digit}
+use Rattle.frame.specs.Bytes.{Bytes, At, Digit}
 use Rattle.frame.specs.Frame.{Rule, Good, GoodAt, front, trailer, sumOf}
 use Rattle.frame.specs.Reading.{Leftmost}
 use Rattle.frame.specs.Mark.{MarkOk}

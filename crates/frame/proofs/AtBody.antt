@@ -8,9 +8,9 @@ use mathlib.Core.List.{List, [], _∷_, _++_, append-assoc}
 use lib.ListN.{length, take, drop, getD, length-append, length-drop, take-append-drop, List·getD-eq-default}
 use lib.Seq.{getD-drop, getD-take, drop-drop}
 use Rattle.frame.specs.Bytes.{Bytes, value, At}
-use Rattle.frame.specs.Leaf.{Matched, Stands, Here}
+use Rattle.frame.specs.code.Leaf.{Matched, Stands, Here}
 use Rattle.frame.specs.Frame.{Rule, Body, GoodAt, Live, trailer, sumOf}
-use Rattle.frame.specs.Walk.{SizeSeen, BodySeen, Open}
+use Rattle.frame.specs.code.Walk.{SizeSeen, BodySeen, Open}
 use Rattle.frame.specs.Mark.{MarkOk}
 use Rattle.frame.proofs.Lists.{at-byte, bytes-at, matched-at, part-length, at-part, at-more}
 use Rattle.frame.proofs.Numerals.{Digits, numeral-means, row-digits}

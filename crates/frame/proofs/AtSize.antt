@@ -8,10 +8,10 @@ use mathlib.Core.Path.{_≡_, refl, sym, ap, ap₂, _∙_, subst}
 use mathlib.Core.List.{List, [], _∷_, _++_, append-assoc, append-nil}
 use lib.ListN.{length, take, drop, getD, length-append, length-drop, take-append-drop, List·getD-append}
 use lib.Seq.{getD-append-add, getD-drop, getD-take, take-all, ext-getD, length-take-le, drop-drop, drop-cons}
-use Rattle.frame.specs.Bytes.{Bytes, value, valueFrom}
-use Rattle.frame.specs.Leaf.{Digit, Number}
+use Rattle.frame.specs.Bytes.{Bytes, value, valueFrom, Digit}
+use Rattle.frame.specs.code.Leaf.{Number}
 use Rattle.frame.specs.Frame.{Rule, Length, Live}
-use Rattle.frame.specs.Walk.{MarkSeen, SizeSeen, Open}
+use Rattle.frame.specs.code.Walk.{MarkSeen, SizeSeen, Open}
 use Rattle.frame.specs.Mark.{MarkOk}
 use Rattle.frame.proofs.Lists.{valueFrom-append}
 use Rattle.frame.proofs.Numerals.{Digits, Numeral, digit-at, digits-of, digits-append, value-from, numeral-means, numeral-true, small-one, row-digits, digits-row}

@@ -6,8 +6,8 @@ use mathlib.Core.Path.{_≡_, sym, ap, _∙_, subst}
 use mathlib.Core.List.{[], _∷_, _++_, append-nil}
 use lib.ListN.{length, take, drop, getD, length-append}
 use lib.Seq.{take-at, drop-at}
-use Rattle.frame.specs.Bytes.{Bytes}
-use Rattle.frame.specs.Leaf.{Digit, Number}
+use Rattle.frame.specs.Bytes.{Bytes, Digit}
+use Rattle.frame.specs.code.Leaf.{Number}
 use Rattle.frame.specs.Frame.{Rule, Good, BodyOf, its-body, trailer, sumOf}
 use Rattle.frame.proofs.Lists.{regroup}
 use Rattle.frame.proofs.Numerals.{digit-at, numeral-means}

@@ -11,7 +11,7 @@ use lib.Dec.{lit≤}
 use lib.Seq.{getD-append-add, getD-drop, drop-append-le, take-all}
 use Rattle.frame.specs.Bytes.{Bytes, fix, value, numeral, At}
 use Rattle.frame.specs.Frame.{Rule, Length, Body, Good, GoodAt, front, trailer, sumOf}
-use Rattle.frame.specs.Walk.{Open}
+use Rattle.frame.specs.code.Walk.{Open}
 use Rattle.frame.specs.Mark.{MarkOk}
 use Rattle.frame.proofs.Lists.{at-byte, bytes-at}
 use Rattle.frame.proofs.Numerals.{numeral-true, digits-row}

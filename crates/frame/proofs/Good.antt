@@ -9,7 +9,7 @@ use lib.ListN.{length, take, drop, getD, length-append, take-append-drop}
 use lib.Seq.{take-append-seam, drop-append-seam, take-length, take-at}
 use Rattle.frame.specs.Bytes.{Bytes, value, At}
 use Rattle.frame.specs.Frame.{Rule, Good, GoodAt, Live, front, trailer, sumOf}
-use Rattle.frame.specs.Walk.{Open}
+use Rattle.frame.specs.code.Walk.{Open}
 use Rattle.frame.proofs.Lists.{part-length, at-part, at-whole, at-more, part-more}
 use Rattle.frame.proofs.Numerals.{Digits, numeral-means, split-digits, row-digits}
 

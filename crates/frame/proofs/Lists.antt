@@ -9,7 +9,7 @@ use mathlib.Core.List.{[], _∷_, _++_, append-assoc}
 use lib.ListN.{length, take, drop, getD, length-drop, length-append, List·getD-append}
 use lib.Seq.{take-suc, getD-drop, getD-take, ext-getD, length-take-le, drop-append-le, take-append-le}
 use Rattle.frame.specs.Bytes.{Bytes, sum, value, valueFrom, At}
-use Rattle.frame.specs.Leaf.{Matched, FirstByte, NextStart, Around, Stands, Searched}
+use Rattle.frame.specs.code.Leaf.{Matched, FirstByte, NextStart, Around, Stands, Searched}
 use native.Mathlib.Decide.{decLt}
 
 -- one more byte of a part

@@ -10,8 +10,8 @@ use lib.Dec.{eqb, leb}
 use lib.ListN.{length, take, drop, getD, length-drop}
 use lib.Seq.{getD-take, getD-drop, take-all}
 use borrow.Author.Tests.{le-leb, leb-true, eq-eqb, ne-eqb, eqb-true, eqb-false}
-use Rattle.frame.specs.Bytes.{Bytes, fix, starts, all, digit, digits, within, value, valueFrom, numeral}
-use Rattle.frame.specs.Leaf.{Digit, Number}
+use Rattle.frame.specs.Bytes.{Bytes, fix, starts, all, digit, digits, within, value, valueFrom, numeral, Digit}
+use Rattle.frame.specs.code.Leaf.{Number}
 use Rattle.frame.proofs.Tests.{both, both-true}
 use Rattle.frame.proofs.Lists.{part-length, pow-more, few-digits}
 

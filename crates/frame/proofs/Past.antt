@@ -8,9 +8,9 @@ use mathlib.Core.List.{List, [], _∷_, _++_}
 use lib.ListN.{length, take, drop, getD, length-append, length-drop, List·getD-append}
 use lib.Seq.{getD-drop}
 use Rattle.frame.specs.Bytes.{Bytes, value, At}
-use Rattle.frame.specs.Leaf.{Here, Searched}
+use Rattle.frame.specs.code.Leaf.{Here, Searched}
 use Rattle.frame.specs.Frame.{Rule, Good, Live, front, trailer, sumOf}
-use Rattle.frame.specs.Walk.{MarkSeen, SizeSeen, BodySeen, Past}
+use Rattle.frame.specs.code.Walk.{MarkSeen, SizeSeen, BodySeen, Past}
 use Rattle.frame.specs.Mark.{MarkOk}
 use Rattle.frame.proofs.Lists.{at-part, at-more}
 use Rattle.frame.proofs.Numerals.{Digits, digit-at, numeral-means, row-digits}

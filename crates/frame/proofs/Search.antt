@@ -7,10 +7,10 @@ use mathlib.Core.Logic.{inl, inr}
 use mathlib.Core.List.{List, []}
 use lib.ListN.{length, take, drop, getD}
 use Rattle.frame.specs.Bytes.{Bytes}
-use Rattle.frame.specs.Leaf.{NextStart}
+use Rattle.frame.specs.code.Leaf.{NextStart}
 use Rattle.frame.specs.Frame.{Rule, GoodAt, Live}
 use Rattle.frame.specs.Reading.{frame, Leftmost, Unfinished, Reads, answered, Handed}
-use Rattle.frame.specs.Walk.{Open, Ended, Past}
+use Rattle.frame.specs.code.Walk.{Open, Ended, Past}
 use Rattle.frame.specs.Mark.{MarkOk}
 use Rattle.frame.proofs.Lists.{part-length}
 use Rattle.frame.proofs.Good.{good-at-length, good-live, open-none}

@@ -10,7 +10,7 @@ use lib.ListN.{length, take, drop, length-take}
 use lib.Seq.{take-length}
 use Rattle.frame.specs.Bytes.{Bytes, value}
 use Rattle.frame.specs.Frame.{Rule, Good, GoodAt, Live, BodyOf, its-body, no-frame}
-use Rattle.frame.specs.Leaf.{Number, Digits}
+use Rattle.frame.specs.code.Leaf.{Number, Digits}
 use Rattle.frame.specs.Reading.{Answer, frame, refusal, numbers, Leftmost, Unfinished, Reads, answered, Handed}
 use Rattle.frame.specs.declared.Reading.{Reading}
 use Rattle.frame.specs.declared.Reading.the-variants.{Frame, NoFrame}

@@ -7,7 +7,7 @@ use mathlib.Core.Path.{_≡_, refl, sym, ap, _∙_}
 use mathlib.Core.Bool.{Bool, true, false}
 use lib.ListN.{length, getD}
 use Rattle.frame.specs.Bytes.{Bytes, At}
-use Rattle.frame.specs.Leaf.{wordAt, Matched}
+use Rattle.frame.specs.code.Leaf.{wordAt, Matched}
 use Rattle.frame.proofs.Lists.{at-byte, bytes-at}
 
 low : (a b x y : ℕ) → a < 256 → b < 256 → a + x * 256 ≡ b + y * 256 → a ≡ b

@@ -1,17 +1,21 @@
 -- Bytes as text, tests on bytes, and numbers in decimal digits: the words that every other page is written with.
 -- Nothing here is about one frame, one tag or one message.
-use Prim.Native.Nat.{ℕ, zero, suc, _+_, _-_, _*_, _/_, _%_, _≤_}
+use Prim.Native.Nat.{ℕ, zero, suc, _+_, _-_, _*_, _/_, _%_, _≤_, _<_}
 use Prim.Native.Char.{Char, code}
 use Prim.Native.String.{String}
 use Prim.Native.String as S
 use mathlib.Core.List.{List, [], _∷_, _++_}
 use mathlib.Core.Bool.{Bool, true, false, cond, not, _&&_, _||_}
 use lib.Dec.{eqb, leb, ltb}
-use lib.ListN.{length, take, drop}
+use lib.ListN.{length, take, drop, getD}
 use mathlib.Core.Path.{_≡_}
 
 abbrev pub Bytes : Type 0
 Bytes = List ℕ
+
+-- the numbers of a list are bytes: below 256, as those of every slice are
+abbrev pub Byted : Bytes → Type 0
+Byted l = (i : ℕ) → getD l i 0 < 256
 
 -- "`|` below is the byte 1 (SOH)."
 abbrev pub byte : Char → ℕ
@@ -60,6 +64,10 @@ sum (x ∷ l) = x + sum l
 -- A number in decimal digits. The same words serve tags, the body length and the numbers in fields, over the greatest number of digits.
 abbrev pub digit : ℕ → Bool
 digit d = within (code "0") (code "9") d
+
+-- the same as two orders
+abbrev pub Digit : ℕ → Type 0
+Digit d = (code "0" ≤ d) × (d ≤ code "9")
 
 abbrev pub valueFrom : ℕ → Bytes → ℕ
 valueFrom n [] = n

@@ -4,5 +4,4 @@ pub mod Mark
 pub mod Reading
 pub mod Stream
 pub mod Line
-pub mod Leaf
-pub mod Walk
+pub mod code

@@ -4,7 +4,7 @@ ghost use mathlib.Core.Bool.{Bool, true, false};
 ghost use Prim.Native.Nat.{ℕ, _+_, _-_, _*_, _%_, _≤_, _<_};
 ghost use lib.ListN.{length, take, drop, getD};
 ghost use Rattle.frame.specs.Bytes.{sum};
-ghost use Rattle.frame.specs.Leaf.{wordAt, Standing, Matched, Number, Digits, FirstByte, Calm, Free, NextStart, Around, Searched};
+ghost use Rattle.frame.specs.code.Leaf.{wordAt, Standing, Matched, Number, Digits, FirstByte, Calm, Free, NextStart, Around, Searched};
 
 // A byte as a wider number.
 pub fn wide(x: u8) -> u64

@@ -11,9 +11,9 @@ ghost use mathlib.Core.List.{_∷_};
 ghost use Prim.Native.Nat.{_≤_};
 ghost use lib.ListN.{length};
 ghost use Rattle.frame.specs.Frame.{ruleOf, trailer};
-ghost use Rattle.frame.specs.Leaf.{wordAt};
+ghost use Rattle.frame.specs.code.Leaf.{wordAt};
 ghost use Rattle.frame.specs.Mark.{MarkOk};
-ghost use Rattle.frame.specs.Walk.{Seen, Stepped};
+ghost use Rattle.frame.specs.code.Walk.{Seen, Stepped};
 
 // The part that is to be looked at next.
 pub enum Part {

@@ -16,7 +16,7 @@ use Rattle.session.specs.declared.Answered.{Answered}
 use Rattle.session.specs.declared.Status.{Status}
 use Rattle.session.specs.declared.Status.the-variants.{Waiting, Active, Closed}
 use Rattle.gateway.specs.Calls.{wordsOf, statusOf, recordWith, recordIf, recordIn, refusalOf, valueOf, unread, stepFrom, stepOut, tickFrom, tickOut, reconnectFrom, reconnectOut, newOut}
-use Rattle.gateway.specs.Held.{statusIn}
+use Rattle.gateway.specs.code.Held.{statusIn}
 use Rattle.gateway.specs.declared.record.StatusWord.{StatusWord}
 use Rattle.gateway.specs.declared.record.StatusWord.the-variants.{Is, Other}
 

@@ -1,3 +1,3 @@
 pub mod Border
 pub mod Calls
-pub mod Held
+pub mod code

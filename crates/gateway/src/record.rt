@@ -6,7 +6,7 @@ use session::refusal_number;
 ghost use mathlib.Core.Path.{_≡_};
 ghost use Rattle.session.specs.Session.{code, numbers};
 ghost use Rattle.gateway.specs.Calls.{wordsOf, statusOf, recordWith, refusalOf, valueOf};
-ghost use Rattle.gateway.specs.Held.{statusIn};
+ghost use Rattle.gateway.specs.code.Held.{statusIn};
 
 // A status by its number, if it is one.
 pub enum StatusWord {

@@ -21,7 +21,7 @@ ghost use Rattle.dictionary.specs.Verdict.{msgType};
 ghost use Rattle.session.specs.Words.{_otherwise_};
 ghost use Rattle.session.specs.Moves.{N, counted, unserved, served, waiting, active, bare-reset, too-high, too-low, filled, in-turn};
 ghost use Rattle.session.specs.Held.{sessionOf};
-ghost use Rattle.session.specs.Plan.{planned, summed, says, counts, expects, closes, delivers, accepts, raised, rejectedBy, strangeTag, unservedTag, fillTo, isBareReset, typeByte, Ready};
+ghost use Rattle.session.specs.code.Plan.{planned, summed, says, counts, expects, closes, delivers, accepts, raised, rejectedBy, strangeTag, unservedTag, fillTo, isBareReset, typeByte, Ready};
 
 // A message of ours, in numbers.
 pub enum Letter {

@@ -17,7 +17,7 @@ use Rattle.kinds.proofs.Values.{same-true}
 use Rattle.dictionary.specs.declared.MsgType.{MsgType}
 use Rattle.dictionary.specs.Dictionary.{rowsOf, listed, kindIn}
 use Rattle.writer.specs.Call.{rejected}
-use Rattle.writer.specs.Held.{longest, most}
+use Rattle.writer.specs.code.Held.{longest, most}
 
 pub record Accepted (m : MsgType) (t : ℕ) (v : Bytes) : Type 0 where
   pub own : listed (rowsOf m) t ≡ true

@@ -22,7 +22,7 @@ use Rattle.writer.specs.declared.fill.Admin.{Admin}
 use Rattle.writer.specs.declared.fill.Admin.the-variants.{Is, Other}
 use Rattle.writer.specs.declared.fill.Put.{Put}
 use Rattle.writer.specs.declared.fill.Put.the-variants as Was
-use Rattle.writer.specs.Held.{typeIn, PutAll, PutBody}
+use Rattle.writer.specs.code.Held.{typeIn, PutAll, PutBody}
 use Rattle.writer.proofs.Writes.{chain, reword, spliced, front-of}
 use Rattle.writer.proofs.Sizes.{all-fine, all-tags, body-longest}
 

@@ -19,7 +19,7 @@ use Rattle.writer.specs.Wrote.{Wrote}
 use Rattle.writer.specs.declared.fill.Entry.{Entry}
 use Rattle.writer.specs.declared.fill.Put.{Put}
 use Rattle.writer.specs.declared.fill.Put.the-variants.{At, Unfit}
-use Rattle.writer.specs.Held.{Holds, valueOf, unwritten, PutText, PutOne}
+use Rattle.writer.specs.code.Held.{Holds, valueOf, unwritten, PutText, PutOne}
 use Rattle.writer.proofs.Writes.{nothing}
 use Rattle.writer.proofs.Fitness.{unwritten-empty, rejected-is, rejected-other}
 

@@ -16,7 +16,7 @@ use Rattle.kinds.specs.Judged.{meaning}
 use Rattle.kinds.specs.declared.Kind.the-variants.{Text}
 use Rattle.dictionary.specs.declared.MsgType.{MsgType}
 use Rattle.dictionary.specs.Dictionary.{№453, №580, header, fields, code35, groupsOf, rowsOf, listed, kindIn, administrative}
-use Rattle.dictionary.specs.Held.{agree}
+use Rattle.dictionary.specs.code.Held.{agree}
 use Rattle.dictionary.proofs.Lists.{agree-true}
 use Rattle.writer.specs.Message.{Value, absent, number, bytes, Field, _is_, own, order, field, row, valued}
 use Rattle.writer.specs.Tags.{tags, isNumeric, numeric}
@@ -27,7 +27,7 @@ use Rattle.writer.specs.declared.fill.Marks.{Marks}
 use Rattle.writer.specs.declared.fill.Slot.{Slot}
 use Rattle.writer.specs.declared.fill.Entry.{Entry}
 use Rattle.writer.specs.declared.fill.Put.{Put}
-use Rattle.writer.specs.Held.{bitOf, tagAt, Marked, sevenRows, Slots, Holds, valueOf, most, PutOne}
+use Rattle.writer.specs.code.Held.{bitOf, tagAt, Marked, sevenRows, Slots, Holds, valueOf, most, PutOne}
 use Rattle.writer.proofs.Writes.{more, reword}
 use Rattle.writer.proofs.Seven.{each, filtered-has, known}
 

@@ -17,7 +17,7 @@ use Rattle.dictionary.specs.declared.MsgType.{MsgType}
 use Rattle.dictionary.specs.Dictionary.{rowsOf, listed, kindIn}
 use Rattle.writer.specs.Tags.{isNumeric}
 use Rattle.writer.specs.Call.{rejected}
-use Rattle.writer.specs.Held.{unwritten, most}
+use Rattle.writer.specs.code.Held.{unwritten, most}
 use Rattle.writer.proofs.Accepted.{kind-length}
 
 -- A VALUE OF A KIND

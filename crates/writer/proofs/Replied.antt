@@ -9,7 +9,7 @@ use borrow.Author.Tests.{leb-true, leb-false, le-leb, lt-leb, not-true, not-fals
 use Rattle.frame.specs.Bytes.{Bytes}
 use Rattle.frame.proofs.Tests.{both, both-true}
 use Rattle.writer.specs.Wrote.{Wrote}
-use Rattle.writer.specs.Ranges.{Ranged}
+use Rattle.writer.specs.code.Ranges.{Ranged}
 use Rattle.writer.specs.Replied.{sendable, rejectable, Replied}
 
 -- WHAT THE TESTS SAY

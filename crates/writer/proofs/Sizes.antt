@@ -16,7 +16,7 @@ use Rattle.dictionary.specs.Dictionary.{№453, №580, header, fields, code35,
 use Rattle.writer.specs.Message.{Value, _is_, shown, tagged, row, valued, order, message}
 use Rattle.writer.specs.Tags.{tags}
 use Rattle.writer.specs.Call.{unwritable, unfit}
-use Rattle.writer.specs.Held.{most}
+use Rattle.writer.specs.code.Held.{most}
 use Rattle.writer.proofs.Accepted.{accepted, kind-length}
 use Rattle.writer.proofs.Seven.{each, filtered, known}
 

@@ -14,14 +14,14 @@ use Rattle.kinds.proofs.Values.{same-long}
 use Rattle.dictionary.specs.declared.MsgType.{MsgType}
 use Rattle.dictionary.specs.declared.MsgType.the-variants.{OrderCancelRequest, TradeCaptureReportRequest}
 use Rattle.dictionary.specs.Dictionary.{code35, theNine, typeAmong, typeOf, rowsOf, listed, administrative}
-use Rattle.dictionary.specs.Held.{agree}
+use Rattle.dictionary.specs.code.Held.{agree}
 use Rattle.dictionary.proofs.Lists.{agree-true}
 use Rattle.dictionary.proofs.Types.{one-byte, type-coded}
 use Rattle.writer.specs.Message.{own}
 use Rattle.writer.specs.Call.{required, ifAdministrative, admin}
 use Rattle.writer.specs.declared.fill.Admin.the-variants.{Is, Other}
 use Rattle.writer.specs.declared.fill.Marks.{Marks}
-use Rattle.writer.specs.Held.{typeIn, bitOf, tagAt, Marked}
+use Rattle.writer.specs.code.Held.{typeIn, bitOf, tagAt, Marked}
 
 -- THE TYPE
 -- one of the others is none of the seven

@@ -5,6 +5,5 @@ pub mod Call
 pub mod Promise
 pub mod Whole
 pub mod Wrote
-pub mod Ranges
 pub mod Replied
-pub mod Held
+pub mod code

@@ -1,4 +1,4 @@
--- What a function that writes leaves. Only the code needs this: nothing here states document 01.
+-- What a function that writes leaves: its bytes at a place of the buffer, and all else as it was.
 use Prim.Native.Nat.{ℕ, _+_}
 use mathlib.Core.Path.{_≡_}
 use lib.ListN.{length}

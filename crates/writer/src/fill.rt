@@ -15,7 +15,7 @@ ghost use Rattle.kinds.specs.Judged.{meaning};
 ghost use Rattle.dictionary.specs.Dictionary.{administrative};
 ghost use Rattle.writer.specs.Tags.{isNumeric};
 ghost use Rattle.writer.specs.Call.{admin, valueIn};
-ghost use Rattle.writer.specs.Held.{typeIn, bitOf, Marked, Slots, Holds, valueOf, unwritten, most, PutText, PutOne, PutAll};
+ghost use Rattle.writer.specs.code.Held.{typeIn, bitOf, Marked, Slots, Holds, valueOf, unwritten, most, PutText, PutOne, PutAll};
 
 // One of the seven administrative messages, or another type.
 pub enum Admin {

@@ -24,7 +24,7 @@ ghost use lib.ListN.{length};
 ghost use Rattle.dictionary.specs.Dictionary.{code35, administrative};
 ghost use Rattle.writer.specs.Message.{framed};
 ghost use Rattle.writer.specs.Call.{fitted, valueIn, write};
-ghost use Rattle.writer.specs.Held.{PutBody};
+ghost use Rattle.writer.specs.code.Held.{PutBody};
 
 // The values of one message. Each of the 21 tags has its place (specs/Tags.antt); a value that is not given is absent. A number stands in `numbers`;
 // bytes stand in the text beside this, from `starts` to `ends`.

@@ -12,7 +12,7 @@ ghost use Rattle.dictionary.specs.declared.MsgType.the-variants.{Heartbeat, Res
 ghost use Rattle.writer.specs.Message.{bytes, _is_, field, row, framed, message};
 ghost use Rattle.writer.specs.Reply.{optional, unlessZero, ofHeartbeat, ofLogon, ofResendRequest, ofReject, ofGapFill, ofLogout, heartbeat, logon, resendRequest, reject, gapFill, logout};
 ghost use Rattle.writer.specs.Wrote.{Wrote};
-ghost use Rattle.writer.specs.Ranges.{Ranged, ids, headed};
+ghost use Rattle.writer.specs.code.Ranges.{Ranged, ids, headed};
 ghost use Rattle.writer.specs.Replied.{nineDigits, sendable, echoable, rejectable, Replied};
 
 // Whether every reply takes these values, and a buffer of `len` bytes has so much room behind the place.

@@ -6,7 +6,7 @@ use Prim.Native.Nat.{ℕ, _+_, _-_, _≤_, _<_}
 use mathlib.Core.Path.{_≡_, subst}
 use lib.ListN.{length}
 use Rattle.frame.specs.Frame.{ruleOf}
-use Rattle.frame.specs.Walk.{Seen, Stepped, rank}
+use Rattle.frame.specs.code.Walk.{Seen, Stepped, rank}
 use Rattle.frame.specs.declared.parts.Step.{Step}
 use Rattle.frame.proofs.Search.{Dead, dead-further, dead-past, hand-frame, hand-none, hand-open}
 use Rattle.frame.proofs.read_with.Statement.{statement}

@@ -6,7 +6,7 @@ use mathlib.Core.Path.{sym, ap, _∙_}
 use lib.ListN.{length}
 use lib.Seq.{length-take-le}
 use Rattle.writer.specs.Call.{valueIn}
-use Rattle.writer.specs.Held.{typeIn}
+use Rattle.writer.specs.code.Held.{typeIn}
 use Rattle.writer.proofs.Writes.{front-of}
 use Rattle.writer.proofs.Types.{named-by}
 use Rattle.writer.proofs.Calls.{body-told, other-type, unfit-values, fit-values}

@@ -2,7 +2,7 @@
 use borrow.Author.Needs.{needs}
 use native.Mathlib.Omega.{arith}
 use borrow.Author.Tests.{lt-ltb, le-ltb, not-true, not-false}
-use Rattle.calendar.specs.Walk.{evened}
+use Rattle.calendar.specs.code.Walk.{evened}
 use Rattle.calendar.proofs.days.even.Statement.{statement}
 use Rattle.calendar.proofs.days.even.Tie as tie
 

@@ -2,7 +2,7 @@
 use borrow.Author.Needs.{needs}
 use native.Mathlib.Omega.{arith}
 use mathlib.Core.Path.{ap, _∙_}
-use Rattle.calendar.specs.Walk.{evened}
+use Rattle.calendar.specs.code.Walk.{evened}
 use Rattle.calendar.proofs.Years.{year-most}
 use Rattle.calendar.proofs.Months.{month-found}
 use Rattle.calendar.proofs.days.month_of.Statement.{statement}

@@ -6,7 +6,7 @@ use Prim.Native.Nat.{ℕ, _≤_, _-_}
 use mathlib.Core.Path.{_≡_, refl, sym, ap, _∙_}
 use mathlib.Core.List.{List}
 use denote.Ref.{now}
-use Rattle.dictionary.specs.Held.{Marked, tagsIn}
+use Rattle.dictionary.specs.code.Held.{Marked, tagsIn}
 use Rattle.dictionary.specs.declared.Says.the-variants.{Reason}
 use Rattle.dictionary.proofs.Needs.{lacking, place-small, needed-met, needed-not, none-left, all-missing}
 use Rattle.dictionary.proofs.table.missing.Statement.{statement}

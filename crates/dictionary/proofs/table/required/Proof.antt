@@ -1,7 +1,7 @@
 -- The constant has the required tags of each list of the document, in its order, with the places of their marks: a computed test.
 use mathlib.Core.Path.{refl}
 use Rattle.dictionary.specs.Dictionary.{№453, №580, header, fields}
-use Rattle.dictionary.specs.Held.{tags}
+use Rattle.dictionary.specs.code.Held.{tags}
 use Rattle.dictionary.proofs.table.required.Statement.{statement}
 use Rattle.dictionary.proofs.table.required.Tie as tie
 

@@ -2,7 +2,7 @@
 use mathlib.Core.Path.{refl}
 use Rattle.kinds.specs.Kind.{kindOf}
 use Rattle.dictionary.specs.Dictionary.{№453, №580, header, fields, groupsOf, member, rowsOf}
-use Rattle.dictionary.specs.Held.{tags, bitOf, rightIn, rightOf, right}
+use Rattle.dictionary.specs.code.Held.{tags, bitOf, rightIn, rightOf, right}
 use Rattle.dictionary.proofs.table.table.Statement.{statement}
 use Rattle.dictionary.proofs.table.table.Tie as tie
 

@@ -6,8 +6,7 @@ use native.Mathlib.Omega.{arith}
 use Prim.Native.Nat.{ℕ, _+_, _-_, _≤_, _<_, _^_}
 use mathlib.Core.Path.{_≡_}
 use lib.ListN.{length, take, drop, getD}
-use Rattle.frame.specs.Bytes.{value}
-use Rattle.frame.specs.Leaf.{Digit}
+use Rattle.frame.specs.Bytes.{value, Digit}
 use Rattle.frame.proofs.Lists.{value-more, pow-more, few-digits}
 use Rattle.frame.proofs.leaf.number.Statement.{statement}
 use Rattle.frame.proofs.leaf.number.Tie as tie

@@ -3,7 +3,7 @@ use denote.Ref.{now}
 use borrow.Author.Needs.{needs}
 use Rattle.frame.specs.Frame.{ruleOf}
 use mathlib.Core.Path.{_≡_, sym, subst}
-use Rattle.frame.specs.Walk.{Seen, Stepped}
+use Rattle.frame.specs.code.Walk.{Seen, Stepped}
 use Rattle.frame.specs.declared.parts.Part.{Part}
 use Rattle.frame.proofs.parts.look.Statement.{statement}
 use Rattle.frame.proofs.parts.look.Tie as tie

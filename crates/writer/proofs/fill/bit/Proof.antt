@@ -1,6 +1,6 @@
 -- `bit`: the bit of a place.
 use borrow.Author.Needs.{needs}
-use Rattle.writer.specs.Held.{bitOf}
+use Rattle.writer.specs.code.Held.{bitOf}
 use Rattle.writer.proofs.fill.bit.Statement.{statement}
 use Rattle.writer.proofs.fill.bit.Tie as tie
 

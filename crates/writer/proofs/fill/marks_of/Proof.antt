@@ -7,7 +7,7 @@ use Rattle.dictionary.specs.declared.MsgType.the-variants.{Heartbeat, TestReque
 use Rattle.dictionary.specs.Dictionary.{№453, №580, header, fields, code35, groupsOf, rowsOf, administrative}
 use Rattle.writer.specs.Tags.{tags}
 use Rattle.writer.specs.Call.{required}
-use Rattle.writer.specs.Held.{bitOf, Marked}
+use Rattle.writer.specs.code.Held.{bitOf, Marked}
 use Rattle.writer.proofs.Types.{rightAt, marked}
 use Rattle.writer.proofs.fill.marks_of.Statement.{statement}
 use Rattle.writer.proofs.fill.marks_of.Tie as tie

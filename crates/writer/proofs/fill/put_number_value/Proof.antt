@@ -6,7 +6,7 @@ use mathlib.Core.Path.{sym, subst}
 use lib.Seq.{length-take-le}
 use Rattle.frame.specs.Bytes.{Bytes}
 use Rattle.kinds.specs.Judged.{meaning}
-use Rattle.writer.specs.Held.{PutText}
+use Rattle.writer.specs.code.Held.{PutText}
 use Rattle.writer.proofs.Writes.{front-of, few-digits}
 use Rattle.writer.proofs.Fitness.{unwritten-large}
 use Rattle.writer.proofs.fill.put_number_value.Statement.{statement}

@@ -13,7 +13,7 @@ use Rattle.writer.specs.Message.{row, valued}
 use Rattle.writer.specs.Tags.{tags}
 use Rattle.writer.specs.Call.{valueIn, unfit, refused8}
 use Rattle.writer.specs.Wrote.{Wrote}
-use Rattle.writer.specs.Held.{tagAt, Marked}
+use Rattle.writer.specs.code.Held.{tagAt, Marked}
 use Rattle.writer.proofs.Writes.{nothing, reword}
 use Rattle.writer.proofs.Sizes.{first-short}
 use Rattle.writer.proofs.Filling.{slot-bounds, put-here, told, put-further, fit-further, unfit-here, all-put}

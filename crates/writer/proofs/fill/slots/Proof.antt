@@ -3,7 +3,7 @@ use mathlib.Core.Path.{refl}
 use Rattle.kinds.specs.Kind.{kindOf}
 use Rattle.dictionary.specs.Dictionary.{header, fields}
 use Rattle.writer.specs.Tags.{tags}
-use Rattle.writer.specs.Held.{sevenRows}
+use Rattle.writer.specs.code.Held.{sevenRows}
 use Rattle.writer.proofs.fill.slots.Statement.{statement}
 use Rattle.writer.proofs.fill.slots.Tie as tie
 

@@ -6,7 +6,7 @@ use mathlib.Core.List.{[], _∷_}
 use Rattle.frame.specs.Bytes.{fix}
 use Rattle.dictionary.specs.Dictionary.{fields, code35}
 use Rattle.writer.specs.Message.{number, bytes, _is_, order, own}
-use Rattle.writer.specs.Ranges.{ids}
+use Rattle.writer.specs.code.Ranges.{ids}
 use Rattle.writer.proofs.Writes.{chain, nothing, more}
 use Rattle.writer.proofs.replies.gap_fill_body.Statement.{statement}
 use Rattle.writer.proofs.replies.gap_fill_body.Tie as tie

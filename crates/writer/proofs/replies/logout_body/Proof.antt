@@ -6,7 +6,7 @@ use mathlib.Core.List.{[], _∷_}
 use Rattle.frame.specs.Bytes.{fix}
 use Rattle.dictionary.specs.Dictionary.{fields, code35}
 use Rattle.writer.specs.Message.{number, _is_, order, own}
-use Rattle.writer.specs.Ranges.{headed}
+use Rattle.writer.specs.code.Ranges.{headed}
 use Rattle.writer.proofs.Writes.{chain, nothing, more}
 use Rattle.writer.proofs.replies.logout_body.Statement.{statement}
 use Rattle.writer.proofs.replies.logout_body.Tie as tie

@@ -4,7 +4,7 @@ use native.Mathlib.Omega.{arith}
 use denote.Ref.{now}
 use mathlib.Core.List.{[], _∷_}
 use Rattle.writer.specs.Message.{bytes, _is_}
-use Rattle.writer.specs.Ranges.{ids}
+use Rattle.writer.specs.code.Ranges.{ids}
 use Rattle.writer.proofs.Writes.{chain, nothing, more}
 use Rattle.writer.proofs.replies.put_head.Statement.{statement}
 use Rattle.writer.proofs.replies.put_head.Tie as tie

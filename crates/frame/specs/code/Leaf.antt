@@ -3,11 +3,7 @@ use Prim.Native.Nat.{ℕ, _+_, _-_, _*_, _≤_, _<_}
 use mathlib.Core.Path.{_≡_}
 use mathlib.Core.Bool.{Bool, true, false}
 use lib.ListN.{length, take, drop, getD}
-use Rattle.frame.specs.Bytes.{Bytes, value, At}
-
--- a decimal digit, as two orders
-abbrev pub Digit : ℕ → Type 0
-Digit d = (48 ≤ d) × (d ≤ 57)
+use Rattle.frame.specs.Bytes.{Bytes, value, At, Digit}
 
 -- eight bytes as one number, the first one least
 abbrev pub wordAt : Bytes → ℕ → ℕ
