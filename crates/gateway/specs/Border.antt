@@ -1,16 +1,29 @@
--- The C border of reading and judging: an answer as a number, 0 or this paper's refusal, and out words.
-use Prim.Native.Nat.{ℕ}
+-- The C border of reading, judging and the line buffer: for each call the relation between what it is given and all that it answers and leaves.
+use Prim.Native.Nat.{ℕ, _+_}
 use mathlib.Core.Path.{_≡_}
 use mathlib.Core.List.{List, [], _∷_}
+use mathlib.Core.Bool.{cond}
+use mathlib.Core.Option.{Option, none, some}
+use lib.ListN.{length}
 use Rattle.frame.specs.Bytes.{Bytes}
-use Rattle.frame.specs.Frame.{fixt}
+use Rattle.frame.specs.Frame.{fixt, front, Good}
 use Rattle.frame.specs.Reading.{Answer, frame, refusal, Reads}
+use Rattle.frame.specs.Line.{line, put, dropped}
+use Rattle.fields.specs.Field.{isBody}
+use Rattle.fields.specs.Item.{fieldAt}
+use Rattle.fields.specs.Item as Item
+use Rattle.fields.specs.First.{firstPlace, placeNumbers}
 use Rattle.fields.specs.declared.Item.{Item}
 use Rattle.fields.specs.declared.Item.the-variants.{Field, Malformed, End, NoBody}
-use Rattle.dictionary.specs.declared.Verdict.{Verdict}
-use Rattle.dictionary.specs.declared.Verdict.the-variants as Judged
+use Rattle.dictionary.specs.Verdict.{verdict}
+use Rattle.dictionary.specs.Verdict as Verdict
+use Rattle.gateway.specs.Numbers.{refusalOf, inWords, anyOf}
 
--- one reading: the bytes skipped and the frame's length, or the bytes to drop
+-- fixgw_version: 1.1.0
+abbrev pub version : ℕ
+version = 10_100
+
+-- fixgw_read: the bytes skipped and the frame's length, or the bytes to drop
 abbrev pub readNumber : Answer → ℕ
 readNumber (frame skip len) = 0
 readNumber (refusal number drop) = number
@@ -25,26 +38,38 @@ pub record ReadOut (bytes : Bytes) (r : ℕ) (out : List ℕ) : Type 0 where
   pub number : r ≡ readNumber answer
   pub words : out ≡ readWords answer
 
--- one field: what it is (0 a field, 1 a malformed part, 2 the end), its tag, where its value begins and ends, where the next part begins
-abbrev pub fieldNumber : Item → ℕ
-fieldNumber (Field tag start end next) = 0
-fieldNumber (Malformed start end next) = 0
-fieldNumber End = 0
-fieldNumber NoBody = 10
+-- fixgw_put and fixgw_drop: the count, and every byte of the buffer
+abbrev pub PutOut : Bytes → ℕ → Bytes → ℕ → Bytes → Type 0
+PutOut buf held piece r buf′ = line buf′ (held + r) ≡ put (line buf held) piece
 
-abbrev pub fieldWords : Item → List ℕ
-fieldWords (Field tag start end next) = 0 ∷ tag ∷ start ∷ end ∷ next ∷ []
-fieldWords (Malformed start end next) = 1 ∷ 0 ∷ start ∷ end ∷ next ∷ []
-fieldWords End = 2 ∷ 0 ∷ 0 ∷ 0 ∷ 0 ∷ []
-fieldWords NoBody = 0 ∷ 0 ∷ 0 ∷ 0 ∷ 0 ∷ []
+abbrev pub DropOut : Bytes → ℕ → ℕ → ℕ → Bytes → Type 0
+DropOut buf held n r buf′ = line buf′ r ≡ dropped (line buf held) n
 
--- the verdict: whether something was found, the reason and the tag
-abbrev pub verdictNumber : Verdict → ℕ
-verdictNumber Judged.Clean = 0
-verdictNumber (Judged.Finding reason tag) = 0
-verdictNumber Judged.NoBody = 10
+-- fixgw_body: where the body of exactly one good frame begins, behind mark, length and `|`, and how long it is; refusal 10
+pub data BodyOut (f : Bytes) : ℕ → List ℕ → Type 0 where
+  its-body : (G : Good fixt f) → BodyOut f 0 (length (front fixt (G .digits) []) ∷ length (G .body) ∷ [])
+  no-frame : (Good fixt f → ⊥) → BodyOut f 10 (0 ∷ 0 ∷ [])
 
-abbrev pub verdictWords : Verdict → List ℕ
-verdictWords Judged.Clean = 0 ∷ 0 ∷ 0 ∷ []
-verdictWords (Judged.Finding reason tag) = 1 ∷ reason ∷ tag ∷ []
-verdictWords Judged.NoBody = 0 ∷ 0 ∷ 0 ∷ []
+-- fixgw_field: what stands at a place (0 a field, 1 a malformed part, 2 the end), its tag, where its value begins and ends, where the next part begins
+abbrev pub part : Item → ℕ
+part (Field tag start end next) = 0
+part (Malformed start end next) = 1
+part End = 2
+part NoBody = 0
+
+pub record FieldOut (body : Bytes) (at r : ℕ) (out : List ℕ) : Type 0 where
+  pub number : r ≡ refusalOf (Item.numbers (fieldAt body at))
+  pub words : out ≡ part (fieldAt body at) ∷ inWords 4 (Item.numbers (fieldAt body at))
+
+-- fixgw_first_field: whether it is there, where its value begins and ends; refusal 10 for bytes that are no body
+abbrev pub firstIn : Bytes → ℕ → Option ℕ × List ℕ
+firstIn body tag = cond (isBody body) (placeNumbers (firstPlace tag body)) (some 10, [])
+
+pub record FirstOut (body : Bytes) (tag r : ℕ) (out : List ℕ) : Type 0 where
+  pub number : r ≡ refusalOf (firstIn body tag)
+  pub words : out ≡ anyOf (firstIn body tag) ∷ inWords 2 (firstIn body tag)
+
+-- fixgw_verdict: whether something was found, the reason and the tag
+pub record VerdictOut (body : Bytes) (r : ℕ) (out : List ℕ) : Type 0 where
+  pub number : r ≡ refusalOf (Verdict.numbers (verdict body))
+  pub words : out ≡ anyOf (Verdict.numbers (verdict body)) ∷ inWords 2 (Verdict.numbers (verdict body))

@@ -1,3 +1,5 @@
+pub mod Numbers
 pub mod Border
+pub mod Record
 pub mod Calls
 pub mod code

@@ -1,25 +1,32 @@
-// The calls of the C host: numbers, byte slices and words in, numbers and words out. No call has a precondition.
+// The calls of the C host: numbers, byte slices and words in, numbers and words out. No call has a precondition, and each has one relation of
+// specs/ as its contract.
 mod record;
 mod values;
 
 use dictionary::Verdict;
 use fields::Item;
+use fields::Place;
 use frame::Reading;
 use record::StatusWord;
 use record::delivered;
 use record::load;
 use record::number_of;
 use record::save;
-use record::status_of;
+use record::save_new;
+use record::status_in;
 use values::values_of;
 use writer::Written;
 ghost use mathlib.Core.Path.{_≡_};
-ghost use Prim.Native.Nat.{_+_};
-ghost use Rattle.frame.specs.Line.{line, put, dropped};
-ghost use Rattle.fields.specs.Item.{fieldAt};
-ghost use Rattle.dictionary.specs.Verdict.{verdict};
-ghost use Rattle.gateway.specs.Border.{ReadOut, fieldNumber, fieldWords, verdictNumber, verdictWords};
-ghost use Rattle.gateway.specs.Calls.{writeOut, newOut, reconnectOut, stepOut, tickOut};
+ghost use Rattle.gateway.specs.Border.{version, ReadOut, PutOut, DropOut, BodyOut, FieldOut, FirstOut, VerdictOut};
+ghost use Rattle.gateway.specs.Calls.{WriteOut, NewOut, ReconnectOut, StepOut, TickOut};
+
+// The library's version: major * 10000 + minor * 100 + patch.
+#[no_mangle]
+pub extern "C" fn fixgw_version() -> u32
+    ensures { λ r. ⌜ r ≡ version ⌝ }
+{
+    10_100
+}
 
 // One reading of the bytes: 0 with the bytes skipped and the frame's length, or refusal 1 with the bytes to drop.
 #[no_mangle]
@@ -38,10 +45,25 @@ pub extern "C" fn fixgw_read(bytes: &[u8], out: &mut [u64; 2]) -> u32
     }
 }
 
+// Where the body of a frame lies; refusal 10 for bytes that are not exactly one good frame.
+#[no_mangle]
+pub extern "C" fn fixgw_body(frame: &[u8], out: &mut [u64; 2]) -> u32
+    ensures { λ r. ⌜ BodyOut (now (frame .entry)) r (now (out .exit)) ⌝ }
+{
+    let n = frame::body_of(frame).len();
+    if n == 0 {
+        *out = [0, 0];
+        return 10;
+    }
+    let start = frame.len() - (n + 7);
+    *out = [start as u64, n as u64];
+    0
+}
+
 // The field that stands at a place of a body; refusal 10 for bytes that are none.
 #[no_mangle]
 pub extern "C" fn fixgw_field(body: &[u8], at: usize, out: &mut [u64; 5]) -> u32
-    ensures { λ r. ⌜ (r ≡ fieldNumber (fieldAt (now (body .entry)) at)) × (now (out .exit) ≡ fieldWords (fieldAt (now (body .entry)) at)) ⌝ }
+    ensures { λ r. ⌜ FieldOut (now (body .entry)) at r (now (out .exit)) ⌝ }
 {
     match fields::field_at(body, at) {
         Item::Field {
@@ -68,10 +90,31 @@ pub extern "C" fn fixgw_field(body: &[u8], at: usize, out: &mut [u64; 5]) -> u32
     }
 }
 
+// Where the first field of a tag lies in a body; refusal 10 for bytes that are none.
+#[no_mangle]
+pub extern "C" fn fixgw_first_field(body: &[u8], tag: u32, out: &mut [u64; 3]) -> u32
+    ensures { λ r. ⌜ FirstOut (now (body .entry)) tag r (now (out .exit)) ⌝ }
+{
+    if !fields::is_body(body) {
+        *out = [0, 0, 0];
+        return 10;
+    }
+    match fields::first_field(body, tag) {
+        Place::At { start, end } => {
+            *out = [1, start as u64, end as u64];
+            0
+        }
+        Place::Absent => {
+            *out = [0, 0, 0];
+            0
+        }
+    }
+}
+
 // The verdict on a body: nothing found, or a reason and a tag; refusal 10 for bytes that are none.
 #[no_mangle]
 pub extern "C" fn fixgw_verdict(body: &[u8], out: &mut [u64; 3]) -> u32
-    ensures { λ r. ⌜ (r ≡ verdictNumber (verdict (now (body .entry)))) × (now (out .exit) ≡ verdictWords (verdict (now (body .entry)))) ⌝ }
+    ensures { λ r. ⌜ VerdictOut (now (body .entry)) r (now (out .exit)) ⌝ }
 {
     match dictionary::verdict_on(body) {
         Verdict::Clean => {
@@ -92,7 +135,7 @@ pub extern "C" fn fixgw_verdict(body: &[u8], out: &mut [u64; 3]) -> u32
 // Puts a piece behind the first `held` bytes of a lent buffer, as much of it as fits, and answers how much that was.
 #[no_mangle]
 pub extern "C" fn fixgw_put(buf: &mut [u8], held: usize, piece: &[u8]) -> usize
-    ensures { λ r. ⌜ line (now (buf .exit)) (held + r) ≡ put (line (now (buf .entry)) held) (now (piece .entry)) ⌝ }
+    ensures { λ r. ⌜ PutOut (now (buf .entry)) held (now (piece .entry)) r (now (buf .exit)) ⌝ }
 {
     frame::put_piece(buf, held, piece)
 }
@@ -100,7 +143,7 @@ pub extern "C" fn fixgw_put(buf: &mut [u8], held: usize, piece: &[u8]) -> usize
 // Drops n bytes from the front of the held ones, and answers how many are held then.
 #[no_mangle]
 pub extern "C" fn fixgw_drop(buf: &mut [u8], held: usize, n: usize) -> usize
-    ensures { λ r. ⌜ line (now (buf .exit)) r ≡ dropped (line (now (buf .entry)) held) n ⌝ }
+    ensures { λ r. ⌜ DropOut (now (buf .entry)) held n r (now (buf .exit)) ⌝ }
 {
     frame::drop_front(buf, held, n)
 }
@@ -114,7 +157,7 @@ pub extern "C" fn fixgw_write(
     buf: &mut [u8],
     out: &mut [u64; 1],
 ) -> u32
-    ensures { λ r. ⌜ record { number = r; out = now (out .exit); buffer = now (buf .exit) } ≡ writeOut (now (code .entry)) (now (values .entry)) (now (text .entry)) (now (buf .entry)) ⌝ }
+    ensures { λ r. ⌜ WriteOut (now (code .entry)) (now (values .entry)) (now (text .entry)) (now (buf .entry)) r (now (out .exit)) (now (buf .exit)) ⌝ }
 {
     match writer::write(code, values_of(values), text, buf) {
         Written::Message { len } => {
@@ -134,36 +177,57 @@ pub extern "C" fn fixgw_write(
 
 // The record of a new session between two CompIDs; refusal 11 leaves one that is Closed and has none.
 #[no_mangle]
-pub extern "C" fn fixgw_new(
-    words: &mut [u64; 7],
-    ours: &mut [u8; 11],
-    peer: &mut [u8; 11],
-    us: &[u8],
-    them: &[u8],
-) -> u32
-    ensures { λ r. ⌜ record { number = r; words = now (words .exit); ours = now (ours .exit); peer = now (peer .exit) } ≡ newOut (now (us .entry)) (now (them .entry)) ⌝ }
+pub extern "C" fn fixgw_new(ids: &mut [u8; 24], words: &mut [u64], us: &[u8], them: &[u8]) -> u32
+    ensures { λ r. ⌜ NewOut (now (ids .entry)) (now (words .entry)) (now (us .entry)) (now (them .entry)) r (now (ids .exit)) (now (words .exit)) ⌝ }
 {
+    if words.len() != 24 {
+        return 11;
+    }
     let left = session::new(us, them);
     let answer = left.answer;
     let r = left.after;
-    let our_bytes = r.ours;
-    let peer_bytes = r.peer;
-    *ours = our_bytes;
-    *peer = peer_bytes;
-    save(words, r);
+    let a = r.ours;
+    let b = r.peer;
+    *ids = [
+        r.oursLen as u8,
+        a[0],
+        a[1],
+        a[2],
+        a[3],
+        a[4],
+        a[5],
+        a[6],
+        a[7],
+        a[8],
+        a[9],
+        a[10],
+        r.peerLen as u8,
+        b[0],
+        b[1],
+        b[2],
+        b[3],
+        b[4],
+        b[5],
+        b[6],
+        b[7],
+        b[8],
+        b[9],
+        b[10],
+    ];
+    save_new(words, r);
     number_of(answer)
 }
 
 // A reconnect: the status becomes Waiting.
 #[no_mangle]
-pub extern "C" fn fixgw_reconnect(words: &mut [u64; 7], ours: &[u8; 11], peer: &[u8; 11]) -> u32
-    ensures { λ r. ⌜ record { number = r; words = now (words .exit) } ≡ reconnectOut (now (words .entry)) (now (ours .entry)) (now (peer .entry)) ⌝ }
+pub extern "C" fn fixgw_reconnect(ids: &[u8; 24], words: &mut [u64]) -> u32
+    ensures { λ r. ⌜ ReconnectOut (now (ids .entry)) (now (words .entry)) r (now (words .exit)) ⌝ }
 {
-    let named = status_of(words[2]);
+    let named = status_in(words);
     let StatusWord::Is(status) = named else {
         return 11;
     };
-    let r = load(words, ours, peer, status);
+    let r = load(ids, words, status);
     let left = session::reconnect(r);
     let answer = left.answer;
     save(words, left.after);
@@ -173,22 +237,21 @@ pub extern "C" fn fixgw_reconnect(words: &mut [u64; 7], ours: &[u8; 11], peer: &
 // A step: one frame moves the record on, and the reply stands at the front of the buffer.
 #[no_mangle]
 pub extern "C" fn fixgw_step(
-    words: &mut [u64; 7],
-    ours: &[u8; 11],
-    peer: &[u8; 11],
+    ids: &[u8; 24],
+    words: &mut [u64],
     frame: &[u8],
     time: u64,
     buf: &mut [u8],
     out: &mut [u64; 2],
 ) -> u32
-    ensures { λ r. ⌜ record { number = r; words = now (words .exit); out = now (out .exit); buffer = now (buf .exit) } ≡ stepOut (now (words .entry)) (now (ours .entry)) (now (peer .entry)) (now (frame .entry)) time (now (buf .entry)) ⌝ }
+    ensures { λ r. ⌜ StepOut (now (ids .entry)) (now (words .entry)) (now (frame .entry)) time (now (buf .entry)) r (now (words .exit)) (now (out .exit)) (now (buf .exit)) ⌝ }
 {
-    let named = status_of(words[2]);
+    let named = status_in(words);
     let StatusWord::Is(status) = named else {
         *out = [0, 0];
         return 11;
     };
-    let r = load(words, ours, peer, status);
+    let r = load(ids, words, status);
     let left = session::step(r, frame, time, buf);
     let answer = left.answer;
     save(words, left.after);
@@ -199,21 +262,20 @@ pub extern "C" fn fixgw_step(
 // A tick: a Heartbeat, if one is due, stands at the front of the buffer.
 #[no_mangle]
 pub extern "C" fn fixgw_tick(
-    words: &mut [u64; 7],
-    ours: &[u8; 11],
-    peer: &[u8; 11],
+    ids: &[u8; 24],
+    words: &mut [u64],
     time: u64,
     buf: &mut [u8],
     out: &mut [u64; 1],
 ) -> u32
-    ensures { λ r. ⌜ record { number = r; words = now (words .exit); out = now (out .exit); buffer = now (buf .exit) } ≡ tickOut (now (words .entry)) (now (ours .entry)) (now (peer .entry)) time (now (buf .entry)) ⌝ }
+    ensures { λ r. ⌜ TickOut (now (ids .entry)) (now (words .entry)) time (now (buf .entry)) r (now (words .exit)) (now (out .exit)) (now (buf .exit)) ⌝ }
 {
-    let named = status_of(words[2]);
+    let named = status_in(words);
     let StatusWord::Is(status) = named else {
         *out = [0];
         return 11;
     };
-    let r = load(words, ours, peer, status);
+    let r = load(ids, words, status);
     let left = session::tick(r, time, buf);
     let answer = left.answer;
     save(words, left.after);

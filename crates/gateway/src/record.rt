@@ -1,21 +1,23 @@
-// The session's record as words, and its answers as numbers.
+// The session's record as it crosses the border: 24 bytes for the CompIDs with their lengths, and 24 words.
 use session::Answer;
 use session::Record;
 use session::Status;
 use session::refusal_number;
 ghost use mathlib.Core.Path.{_≡_};
+ghost use lib.ListN.{length, replicate};
 ghost use Rattle.session.specs.Session.{code, numbers};
-ghost use Rattle.gateway.specs.Calls.{wordsOf, statusOf, recordWith, refusalOf, valueOf};
-ghost use Rattle.gateway.specs.code.Held.{statusIn};
+ghost use Rattle.gateway.specs.Numbers.{refusalOf, valueOf};
+ghost use Rattle.gateway.specs.Record.{compIDsOf, wordsOf, saved, spare, statusOf, statusIn, recordWith};
+ghost use Rattle.gateway.specs.code.Held.{statusHeld};
 
-// A status by its number, if it is one.
+// A status, if the words are a record's.
 pub enum StatusWord {
     Is(Status),
     Other,
 }
 
-pub fn status_of(n: u64) -> StatusWord
-    ensures { λ r. ⌜ statusIn r ≡ statusOf n ⌝ }
+fn status_of(n: u64) -> StatusWord
+    ensures { λ r. ⌜ statusHeld r ≡ statusOf n ⌝ }
 {
     match n {
         0 => StatusWord::Is(Status::Waiting),
@@ -23,6 +25,36 @@ pub fn status_of(n: u64) -> StatusWord
         2 => StatusWord::Is(Status::Closed),
         _ => StatusWord::Other,
     }
+}
+
+// Whether the words that are kept for later are zero.
+fn is_spare(words: &[u64]) -> bool
+    ensures { λ r. ⌜ r ≡ spare (now (words .entry)) ⌝ }
+{
+    let mut i = 6;
+    while i < words.len() {
+        if words[i] != 0 {
+            return false;
+        }
+        i += 1;
+    }
+    true
+}
+
+// The status of a record; none where the words are not 24, of this version, with zeros behind the six that are used.
+pub fn status_in(words: &[u64]) -> StatusWord
+    ensures { λ r. ⌜ statusHeld r ≡ statusIn (now (words .entry)) ⌝ }
+{
+    if words.len() != 24 {
+        return StatusWord::Other;
+    }
+    if words[0] != 1 {
+        return StatusWord::Other;
+    }
+    if !is_spare(words) {
+        return StatusWord::Other;
+    }
+    status_of(words[1])
 }
 
 fn status_number(st: Status) -> u64
@@ -35,35 +67,78 @@ fn status_number(st: Status) -> u64
     }
 }
 
-pub fn load(words: &[u64; 7], ours: &[u8; 11], peer: &[u8; 11], status: Status) -> Record
-    ensures { λ r. ⌜ r ≡ recordWith (now (words .entry)) (now (ours .entry)) (now (peer .entry)) status ⌝ }
+pub fn load(ids: &[u8; 24], words: &[u64], status: Status) -> Record
+    requires { ⌜ length (now words) ≡ 24 ⌝ }
+    ensures { λ r. ⌜ r ≡ recordWith (now (ids .entry)) (now (words .entry)) status ⌝ }
 {
     Record {
-        ours: *ours,
-        oursLen: words[0] as usize,
-        peer: *peer,
-        peerLen: words[1] as usize,
+        ours: [
+            ids[1],
+            ids[2],
+            ids[3],
+            ids[4],
+            ids[5],
+            ids[6],
+            ids[7],
+            ids[8],
+            ids[9],
+            ids[10],
+            ids[11],
+        ],
+        oursLen: ids[0] as usize,
+        peer: [
+            ids[13],
+            ids[14],
+            ids[15],
+            ids[16],
+            ids[17],
+            ids[18],
+            ids[19],
+            ids[20],
+            ids[21],
+            ids[22],
+            ids[23],
+        ],
+        peerLen: ids[12] as usize,
         status,
-        expected: words[3],
-        next: words[4],
-        heartbeat: words[5],
-        sent: words[6],
+        expected: words[2],
+        next: words[3],
+        heartbeat: words[4],
+        sent: words[5],
     }
 }
 
-pub fn save(words: &mut [u64; 7], r: Record)
-    ensures { λ _. ⌜ now (words .exit) ≡ wordsOf r ⌝ }
+// The state of a record into its words; the others stay.
+pub fn save(words: &mut [u64], r: Record)
+    requires { ⌜ length (now words) ≡ 24 ⌝ }
+    ensures { λ _. ⌜ now (words .exit) ≡ saved (now (words .entry)) r ⌝ }
 {
     let st = r.status;
-    *words = [
-        r.oursLen as u64,
-        r.peerLen as u64,
-        status_number(st),
-        r.expected,
-        r.next,
-        r.heartbeat,
-        r.sent,
-    ];
+    words[1] = status_number(st);
+    words[2] = r.expected;
+    words[3] = r.next;
+    words[4] = r.heartbeat;
+    words[5] = r.sent;
+}
+
+fn zero(words: &mut [u64])
+    ensures { λ _. ⌜ now (words .exit) ≡ replicate (length (now (words .entry))) 0 ⌝ }
+{
+    let mut i = 0;
+    while i < words.len() {
+        words[i] = 0;
+        i += 1;
+    }
+}
+
+// All words of a new record.
+pub fn save_new(words: &mut [u64], r: Record)
+    requires { ⌜ length (now words) ≡ 24 ⌝ }
+    ensures { λ _. ⌜ now (words .exit) ≡ wordsOf r ⌝ }
+{
+    zero(words);
+    words[0] = 1;
+    save(words, r);
 }
 
 // The number of an answer: the refusal, or 0.

@@ -4,6 +4,6 @@ use Rattle.session.specs.declared.Status.{Status}
 use Rattle.gateway.specs.declared.record.StatusWord.{StatusWord}
 use Rattle.gateway.specs.declared.record.StatusWord.the-variants.{Is, Other}
 
-abbrev pub statusIn : StatusWord → Option Status
-statusIn (Is st) = some st
-statusIn Other = none
+abbrev pub statusHeld : StatusWord → Option Status
+statusHeld (Is st) = some st
+statusHeld Other = none

@@ -1,7 +1,10 @@
-/* The calls by which a C host reaches the gateway core of one FIXT 1.1 session (libgateway.a). Document 01 decides what
+/* The calls by which a C host reaches the gateway core of one FIXT 1.1 session (libfixgw.a). Document 01 decides what
    each call answers; this header says it in C terms. `|` stands for the byte 1. */
-#ifndef FIXGW_GATEWAY_H
-#define FIXGW_GATEWAY_H
+#ifndef FIXGW_H
+#define FIXGW_H
+
+/* The version of this header, as major * 10000 + minor * 100 + patch. fixgw_version() answers that of the library. */
+#define FIXGW_VERSION 10100
 
 /* Only these two headers are needed. A compiler that has none, but names its types, is served as well. */
 #ifdef __has_include
@@ -33,20 +36,22 @@ extern "C" {
    - What a call may write (no const) overlaps nothing else that the same call is given.
    - Nothing else is asked of the caller: every number, every byte and every length may be given, and each input has
      exactly one outcome.
-   - A call returns 0 or the number of a refusal. It writes every word of `out` in either case.
+   - A call returns 0 or the number of a refusal, and writes every word of `out` in either case. Only fixgw_put and
+     fixgw_drop answer counts, and fixgw_version a version.
+   - A time is in microseconds since 1970, UTC: `time_us`.
    - A call keeps nothing and uses nothing but what it is given: no global state, no allocation, no clock, no input or
      output. Calls on different memory may run at the same time in different threads. */
 
 enum fixgw_refusal {
     FIXGW_OK = 0,
     FIXGW_REFUSED_NO_FRAME_YET = 1,         /* no whole frame yet */
-    FIXGW_REFUSED_CLOSED = 2,               /* a step while Closed */
+    FIXGW_REFUSED_CLOSED = 2,               /* a step while Closed; a message of the venue's own outside Active */
     FIXGW_REFUSED_NOT_A_LOGON = 3,          /* the first message is not a Logon; the session is Closed */
     FIXGW_REFUSED_LOGON = 4,                /* the Logon's number, CompIDs or fields are wrong; the session is Closed */
     FIXGW_REFUSED_NUMBERS_USED_UP = 5,      /* a sequence number above 999,999,990; the session is Closed */
     FIXGW_REFUSED_REPLY_ROOM = 6,           /* a reply buffer under FIXGW_LEAST_REPLY_ROOM bytes */
     FIXGW_REFUSED_TIME = 7,                 /* a time at or past FIXGW_END_OF_TIME */
-    FIXGW_REFUSED_VALUE = 8,                /* the writer: a value or a type that the dictionary would reject */
+    FIXGW_REFUSED_VALUE = 8,                /* a value or a type to write that the dictionary would reject */
     FIXGW_REFUSED_WRITE_ROOM = 9,           /* the writer: a buffer shorter than the message */
     FIXGW_REFUSED_NOT_A_FRAME = 10,         /* not exactly one good frame; for fields and verdict, no body */
     FIXGW_REFUSED_RECORD = 11               /* the session's record breaks its ranges */
@@ -140,9 +145,11 @@ enum fixgw_tag {
 
 enum {
     FIXGW_LONGEST_FRAME = 2073,
-    FIXGW_MOST_PENDING = 2072,              /* what can stay in a line buffer once reading answers refusal 1 */
-    FIXGW_TRAILER = 7                       /* 10=ddd| */
+    FIXGW_MOST_PENDING = 2072               /* what can stay in a line buffer once reading answers refusal 1 */
 };
+
+/* The version of the library: compare it with FIXGW_VERSION. */
+uint32_t fixgw_version(void);
 
 /* One reading of bytes[0..len).
    0: the leftmost good frame is bytes[out[0] .. out[0] + out[1]); the bytes before it are no part of any frame.
@@ -150,12 +157,12 @@ enum {
 uint32_t fixgw_read(const uint8_t *bytes, size_t len, uint64_t out[2]);
 
 /* Puts as much of a piece as there is room for behind the first `held` bytes of a line buffer.
-   Returns how many bytes of the piece were put, 0 if held is not below buf_len. The held bytes stay; so does what lies
+   Returns a count: how many bytes of the piece were put, 0 if held is not below buf_len. The held bytes stay; so does what lies
    behind the bytes put. */
 uint64_t fixgw_put(uint8_t *buf, size_t buf_len, uint64_t held, const uint8_t *piece, size_t piece_len);
 
 /* Drops n bytes from the front of the `held` ones in a line buffer: the others move to its front.
-   Returns how many are held then: held - n, and 0 if n is at least held. A `held` above buf_len counts as buf_len. What
+   Returns a count: how many are held then, held - n, and 0 if n is at least held. A `held` above buf_len counts as buf_len. What
    lies behind the bytes held then means nothing. */
 uint64_t fixgw_drop(uint8_t *buf, size_t buf_len, uint64_t held, uint64_t n);
 
@@ -163,6 +170,10 @@ uint64_t fixgw_drop(uint8_t *buf, size_t buf_len, uint64_t held, uint64_t n);
 
 /* A body is what lies between the `|` behind 9= and the 10= of a frame: 5 to 2,048 bytes, beginning 35= and ending
    with `|`. Anything else is refusal 10, and then every word of out is 0. */
+
+/* Where the body of a frame lies.
+   0: the body is frame[out[0] .. out[0] + out[1]). 10: the bytes are not exactly one good frame. */
+uint32_t fixgw_body(const uint8_t *frame, size_t len, uint64_t out[2]);
 
 /* What the dictionary finds in a body, the first finding from the left.
    0: out is {0, 0, 0} if it is clean, or {1, reason, tag}; tag is 0 where there is no readable one. */
@@ -179,10 +190,15 @@ enum fixgw_part {
    malformed part (tag 0) the part whole. At the end, which is also everywhere behind it, the other words are 0. */
 uint32_t fixgw_field(const uint8_t *body, size_t len, uint64_t at, uint64_t out[5]);
 
+/* The first field of a tag in a body, as a host asks before it knows whose record to take.
+   0: out is {1, start, end}, body[start .. end) is its value; or {0, 0, 0} if no field has that tag. */
+uint32_t fixgw_first_field(const uint8_t *body, size_t len, uint32_t tag, uint64_t out[3]);
+
 /* ---- Writing one message ----------------------------------------------------------------------------------------- */
 
 /* The places of the writer's values, in the order in which a message has them. Three words each, at 3 * place:
-   {given, a, b}. `given` is 0 for an absent tag. A number is a; any other value is the byte string text[a .. b). */
+   {given, a, b}. `given` is 0 for an absent tag, so zero all of them before the first value is given. A number is a; any
+   other value is the byte string text[a .. b). */
 enum fixgw_place {
     FIXGW_PLACE_SENDER_COMP_ID = 0,         /* 49 */
     FIXGW_PLACE_TARGET_COMP_ID,             /* 56 */
@@ -234,92 +250,125 @@ static inline void fixgw_give_bytes(uint64_t values[FIXGW_VALUES], enum fixgw_pl
 
 enum fixgw_status { FIXGW_WAITING = 0, FIXGW_ACTIVE = 1, FIXGW_CLOSED = 2 };
 
-/* The words of a session's record. */
+/* The record of a session: 216 bytes without padding, which may be kept, copied and compared as they are. */
 enum fixgw_word {
-    FIXGW_WORD_OURS_LEN = 0,                /* how long our CompID is, 1 to 11 */
-    FIXGW_WORD_PEER_LEN,                    /* how long the peer's is */
+    FIXGW_WORD_VERSION = 0,                 /* of the record: FIXGW_RECORD_VERSION */
     FIXGW_WORD_STATUS,                      /* one of fixgw_status */
     FIXGW_WORD_EXPECTED,                    /* E, the number of the peer's next message, 1 to 999,999,999 */
     FIXGW_WORD_NEXT_OUT,                    /* the number of our next message, 1 to 999,999,999 */
     FIXGW_WORD_HEARTBEAT,                   /* seconds, 1 to 60 */
     FIXGW_WORD_LAST_SENT,                   /* when we last sent a message, in microseconds since 1970; any number */
-    FIXGW_WORDS
+    FIXGW_WORDS_USED,                       /* from here on all are zero, and kept for versions to come */
+    FIXGW_WORDS = 24
 };
 
 enum {
+    FIXGW_RECORD_VERSION = 1,
     FIXGW_COMP_ID = 11,                     /* bytes of a CompID's place; those behind its length mean nothing */
+    FIXGW_COMP_IDS = 24,                    /* bytes of both with their lengths */
     FIXGW_LEAST_REPLY_ROOM = 512,
     FIXGW_LONGEST_REPLY = 269               /* by count, a gap fill and a Resend Request; that 512 suffice is proved */
 };
 
+struct fixgw_session {
+    uint8_t ours_len, ours[FIXGW_COMP_ID];  /* our CompID, 1 to 11 bytes */
+    uint8_t peer_len, peer[FIXGW_COMP_ID];  /* the peer's */
+    uint64_t words[FIXGW_WORDS];
+};
+
+typedef char fixgw_session_has_no_padding[sizeof(struct fixgw_session) == 216 ? 1 : -1];
+
 #define FIXGW_END_OF_TIME 253402300800000000u   /* the first microsecond of the year 10000 */
+
+/* Every call on a record takes its two parts: comp_ids, the 24 bytes at its front, and words, with how many there are.
+   Use the functions over struct fixgw_session below. A record is refused (11) if it breaks its ranges, and also if it
+   has another number of words or another version, or if a word that is kept for later is not zero: so a host that was
+   built for another version is refused, and nothing of its memory is touched. */
 
 /* Fills the record of a new session: Waiting, both numbers 1, heartbeat 30, last sent 0.
    11: a CompID is not 1 to 11 bytes without `|`. The record is then as new, but Closed and with two empty CompIDs; no
-   step is taken on it. */
-uint32_t fixgw_new(uint64_t words[FIXGW_WORDS], uint8_t ours[FIXGW_COMP_ID], uint8_t peer[FIXGW_COMP_ID],
+   step is taken on it. With another number of words than FIXGW_WORDS nothing is written. */
+uint32_t fixgw_new(uint8_t comp_ids[FIXGW_COMP_IDS], uint64_t *words, size_t words_len,
                    const uint8_t *our_id, size_t our_len, const uint8_t *peer_id, size_t peer_len);
 
 /* The peer has a new connection: the status becomes Waiting, everything else stays.
    11: the record breaks its ranges and stays as it is. */
-uint32_t fixgw_reconnect(uint64_t words[FIXGW_WORDS], const uint8_t ours[FIXGW_COMP_ID],
-                         const uint8_t peer[FIXGW_COMP_ID]);
+uint32_t fixgw_reconnect(const uint8_t comp_ids[FIXGW_COMP_IDS], uint64_t *words, size_t words_len);
 
-/* Takes one frame at a time in microseconds since 1970, moves the record on and writes what is to be sent.
+/* Takes one frame, moves the record on and writes what is to be sent.
    0: out is {delivered, reply length}. delivered is 1 if the frame is an application message (AD, F) for the host to
    act on, else 0. buf[0 .. reply length) holds no, one or two messages to send, in order; buf keeps its bytes behind
    them.
    11, 10, 7, 6, 2, 5, 3, 4, looked for in this order: out is {0, 0}, buf keeps all of its bytes, and the record stays
    as it is, except that 5, 3 and 4 set it Closed. */
-uint32_t fixgw_step(uint64_t words[FIXGW_WORDS], const uint8_t ours[FIXGW_COMP_ID], const uint8_t peer[FIXGW_COMP_ID],
-                    const uint8_t *frame, size_t frame_len, uint64_t time, uint8_t *buf, size_t buf_len,
+uint32_t fixgw_step(const uint8_t comp_ids[FIXGW_COMP_IDS], uint64_t *words, size_t words_len,
+                    const uint8_t *frame, size_t frame_len, uint64_t time_us, uint8_t *buf, size_t buf_len,
                     uint64_t out[2]);
 
-/* Looks whether a Heartbeat is due at a time, and writes it.
+/* Looks whether a Heartbeat is due, and writes it.
    0: out is {reply length}, 0 if nothing is due; the record moves on only if something is written; buf keeps its bytes
    behind the reply.
    11, 7, 6, 5, looked for in this order (5 only while Active): out is {0}, buf keeps all of its bytes, and the record
    stays as it is, except that 5 sets it Closed. */
-uint32_t fixgw_tick(uint64_t words[FIXGW_WORDS], const uint8_t ours[FIXGW_COMP_ID], const uint8_t peer[FIXGW_COMP_ID],
-                    uint64_t time, uint8_t *buf, size_t buf_len, uint64_t out[1]);
+uint32_t fixgw_tick(const uint8_t comp_ids[FIXGW_COMP_IDS], uint64_t *words, size_t words_len,
+                    uint64_t time_us, uint8_t *buf, size_t buf_len, uint64_t out[1]);
 
-/* ---- For convenience: the record in one struct, the body and the type of a frame --------------------------------- */
+/* The venue ends the session: writes a Logout with 1409=101 under the next number, and the record is Closed.
+   0: out is {reply length}. 11, 7, 6, 2 (it is not Active), 5, looked for in this order: out is {0}, buf keeps all of
+   its bytes, and the record stays as it is, except that 5 sets it Closed. */
+uint32_t fixgw_logout(const uint8_t comp_ids[FIXGW_COMP_IDS], uint64_t *words, size_t words_len,
+                      uint64_t time_us, uint8_t *buf, size_t buf_len, uint64_t out[1]);
 
-struct fixgw_session {
-    uint64_t words[FIXGW_WORDS];
-    uint8_t ours[FIXGW_COMP_ID], peer[FIXGW_COMP_ID];
-};
+/* The venue asks whether the peer is there: writes a Test Request with this 112 under the next number. The peer answers
+   with a Heartbeat that has the same 112; what to do if it does not is the host's to say.
+   0: out is {reply length}. 11, 7, 6, 2 (it is not Active), 5, 8 (112 is not 1 to 64 bytes without `|`), looked for in
+   this order: out is {0}, buf keeps all of its bytes, and the record stays as it is, except that 5 sets it Closed. */
+uint32_t fixgw_test_request(const uint8_t comp_ids[FIXGW_COMP_IDS], uint64_t *words, size_t words_len,
+                            const uint8_t *id, size_t id_len, uint64_t time_us, uint8_t *buf, size_t buf_len,
+                            uint64_t out[1]);
+
+/* ---- The same over the record as one struct ---------------------------------------------------------------------- */
+
+static inline uint8_t *fixgw_comp_ids(struct fixgw_session *session)
+{
+    return (uint8_t *)session;              /* lengths and CompIDs are its first 24 bytes */
+}
 
 static inline uint32_t fixgw_session_new(struct fixgw_session *session, const uint8_t *our_id, size_t our_len,
                                          const uint8_t *peer_id, size_t peer_len)
 {
-    return fixgw_new(session->words, session->ours, session->peer, our_id, our_len, peer_id, peer_len);
+    return fixgw_new(fixgw_comp_ids(session), session->words, FIXGW_WORDS, our_id, our_len, peer_id, peer_len);
 }
 
 static inline uint32_t fixgw_session_reconnect(struct fixgw_session *session)
 {
-    return fixgw_reconnect(session->words, session->ours, session->peer);
+    return fixgw_reconnect(fixgw_comp_ids(session), session->words, FIXGW_WORDS);
 }
 
 static inline uint32_t fixgw_session_step(struct fixgw_session *session, const uint8_t *frame, size_t frame_len,
-                                          uint64_t time, uint8_t *buf, size_t buf_len, uint64_t out[2])
+                                          uint64_t time_us, uint8_t *buf, size_t buf_len, uint64_t out[2])
 {
-    return fixgw_step(session->words, session->ours, session->peer, frame, frame_len, time, buf, buf_len, out);
+    return fixgw_step(fixgw_comp_ids(session), session->words, FIXGW_WORDS, frame, frame_len, time_us, buf, buf_len,
+                      out);
 }
 
-static inline uint32_t fixgw_session_tick(struct fixgw_session *session, uint64_t time, uint8_t *buf, size_t buf_len,
-                                          uint64_t out[1])
+static inline uint32_t fixgw_session_tick(struct fixgw_session *session, uint64_t time_us, uint8_t *buf,
+                                          size_t buf_len, uint64_t out[1])
 {
-    return fixgw_tick(session->words, session->ours, session->peer, time, buf, buf_len, out);
+    return fixgw_tick(fixgw_comp_ids(session), session->words, FIXGW_WORDS, time_us, buf, buf_len, out);
 }
 
-/* Where the body of a frame begins that fixgw_read handed out; it ends FIXGW_TRAILER bytes before the frame does. */
-static inline size_t fixgw_body_start(const uint8_t *frame)
+static inline uint32_t fixgw_session_logout(struct fixgw_session *session, uint64_t time_us, uint8_t *buf,
+                                            size_t buf_len, uint64_t out[1])
 {
-    size_t at = 15;                         /* 8=FIXT.1.1|9= and the shortest length with its `|` */
-    while (frame[at - 1] != 1)
-        at++;
-    return at;
+    return fixgw_logout(fixgw_comp_ids(session), session->words, FIXGW_WORDS, time_us, buf, buf_len, out);
+}
+
+static inline uint32_t fixgw_session_test_request(struct fixgw_session *session, const uint8_t *id, size_t id_len,
+                                                  uint64_t time_us, uint8_t *buf, size_t buf_len, uint64_t out[1])
+{
+    return fixgw_test_request(fixgw_comp_ids(session), session->words, FIXGW_WORDS, id, id_len, time_us, buf, buf_len,
+                              out);
 }
 
 /* A MsgType as a number of fixgw_type; 0 for one that is not of one or two bytes. */

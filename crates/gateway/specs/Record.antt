@@ -1,0 +1,65 @@
+-- THE RECORD at the C border: "The record holds CompIDs .., status .., expected number E, next number out, heartbeat seconds and time last sent."
+-- It lies in 24 bytes, each CompID's length with eleven bytes behind it, and in 24 words, of which the first is the record's version and those
+-- behind the sixth are zero, kept for what is to come.
+use Prim.Native.Nat.{ℕ, zero, suc, _+_}
+use mathlib.Core.List.{List, [], _∷_, _++_, map}
+use mathlib.Core.Bool.{Bool, true, false, _&&_}
+use mathlib.Core.Option.{Option, none, some}
+use lib.Dec.{eqb}
+use lib.ListN.{length, drop, getD, replicate}
+use lib.Seq.{sets}
+use Rattle.frame.specs.Bytes.{Bytes, all}
+use Rattle.session.specs.Session.{code}
+use Rattle.session.specs.declared.Record.{Record}
+use Rattle.session.specs.declared.Status.{Status}
+use Rattle.session.specs.declared.Status.the-variants.{Waiting, Active, Closed}
+
+-- eleven bytes from a place on
+abbrev pub eleven : ℕ → Bytes → Bytes
+eleven k l = map (λ i. getD l (k + i) 0) (0 ∷ 1 ∷ 2 ∷ 3 ∷ 4 ∷ 5 ∷ 6 ∷ 7 ∷ 8 ∷ 9 ∷ 10 ∷ [])
+
+-- the bytes of a record's CompIDs, and its words
+abbrev pub compIDsOf : Record → Bytes
+compIDsOf r = (r .oursLen ∷ eleven 0 (r .ours)) ++ (r .peerLen ∷ eleven 0 (r .peer))
+
+-- status, E, next out, heartbeat, last sent
+abbrev pub state : Record → List ℕ
+state r = code (r .status) ∷ r .expected ∷ r .next ∷ r .heartbeat ∷ r .sent ∷ []
+
+abbrev pub wordsOf : Record → List ℕ
+wordsOf r = (1 ∷ state r) ++ replicate 18 0
+
+-- the words with another state; all others stay
+abbrev pub saved : List ℕ → Record → List ℕ
+saved words r = sets words 1 (state r)
+
+-- "status Waiting, Active or Closed", by its number
+abbrev pub statusOf : ℕ → Option Status
+statusOf zero = some Waiting
+statusOf (suc zero) = some Active
+statusOf (suc (suc zero)) = some Closed
+statusOf (suc (suc (suc n))) = none
+
+-- the words that are kept for later are zero
+unfoldable pub spare : List ℕ → Bool
+spare words = all (λ w. eqb w 0) (drop 6 words)
+
+abbrev pub statusIf : List ℕ → Bool → Option Status
+statusIf words true = statusOf (getD words 1 0)
+statusIf words false = none
+
+-- the status of a record; none where the words are no record's of this version
+unfoldable pub statusIn : List ℕ → Option Status
+statusIn words = statusIf words (eqb (length words) 24 && eqb (getD words 0 0) 1 && spare words)
+
+abbrev pub recordWith : Bytes → List ℕ → Status → Record
+recordWith ids words st =
+    record { ours = eleven 1 ids; oursLen = getD ids 0 0; peer = eleven 13 ids; peerLen = getD ids 12 0; status = st; expected = getD words 2 0; next = getD words 3 0; heartbeat = getD words 4 0; sent = getD words 5 0 }
+
+abbrev pub recordIf : Bytes → List ℕ → Option Status → Option Record
+recordIf ids words none = none
+recordIf ids words (some st) = some (recordWith ids words st)
+
+-- the record that lies there, if there is one
+abbrev pub recordIn : Bytes → List ℕ → Option Record
+recordIn ids words = recordIf ids words (statusIn words)
