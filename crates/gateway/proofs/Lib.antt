@@ -1,4 +1,6 @@
+pub mod Bodies
 pub mod Readings
 pub mod Records
+pub mod Keeping
 pub mod Filling
 pub mod OneOutcome

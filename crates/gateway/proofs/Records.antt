@@ -1,55 +1,35 @@
--- The record as words: what is saved is loaded again, and what is loaded was so saved. What the session's calls leave at the border, a law for
--- each way out of them. Assumes nothing.
-use Prim.Native.Nat.{ℕ, zero, suc, _≤_, _<_}
+-- The record as bytes and words: what is saved is loaded again. What the session's calls leave at the border, a law for each way out of them.
+-- Assumes nothing.
+use Prim.Native.Nat.{ℕ, zero, suc, _+_, _≤_, _<_}
 use mathlib.Core.Path.{_≡_, refl, sym, ap, _∙_}
-use mathlib.Core.List.{List, [], _∷_}
-use mathlib.Core.Option.{Option, none, some, Option·some-injective, Option·none-ne-some}
+use mathlib.Core.List.{List, [], _∷_, _++_, append-nil}
+use mathlib.Core.Bool.{Bool, true, false, not, _&&_}
+use mathlib.Core.Option.{none, some, Option·none-ne-some}
+use native.Mathlib.Numerals.{add-one}
 use native.Mathlib.Omega.{arith}
-use lib.ListN.{length, getD, drop, drop-of-length-le}
-use lib.Seq.{drop-cons}
-use Rattle.frame.specs.Bytes.{Bytes}
-use Rattle.session.specs.Session.{code, numbers}
+use borrow.Author.Tests.{eq-eqb, ne-eqb, eqb-true}
+use lib.Dec.{eqb}
+use lib.ListN.{length, getD, set, drop, replicate, length-replicate, drop-of-length-le}
+use lib.Seq.{drop-cons, set-at}
+use Rattle.frame.specs.Bytes.{Bytes, all, has, within}
+use Rattle.frame.proofs.Numerals.{within-is}
+use Rattle.frame.proofs.Tests.{both}
+use Rattle.session.specs.Words.{if_then_else_}
+use Rattle.session.specs.Session.{numbers, compID, fresh, turned}
 use Rattle.session.specs.Held.{sessionOf, answeredBy, Leaves, answeredNew}
-use Rattle.session.specs.Calls.{step, tick, new, reconnect}
+use Rattle.session.specs.Calls.{keeping, step, tick, new, reconnect}
 use Rattle.session.specs.declared.Record.{Record}
 use Rattle.session.specs.declared.Answered.{Answered}
 use Rattle.session.specs.declared.Status.{Status}
-use Rattle.session.specs.declared.Status.the-variants.{Waiting, Active, Closed}
-use Rattle.gateway.specs.Calls.{wordsOf, statusOf, recordWith, recordIf, recordIn, refusalOf, valueOf, unread, stepFrom, stepOut, tickFrom, tickOut, reconnectFrom, reconnectOut, newOut}
-use Rattle.gateway.specs.code.Held.{statusIn}
+use Rattle.session.specs.declared.Status.the-variants.{Closed}
+use Rattle.session.specs.declared.Refusal.the-variants.{BadRecord}
+use Rattle.session.specs.declared.Answer.the-variants.{Done, Refused}
+use Rattle.gateway.specs.Numbers.{refusalOf, valueOf}
+use Rattle.gateway.specs.Record.{eleven, compIDsOf, wordsOf, saved, spare, statusOf, statusIf, statusIn, recordWith, recordIf, recordIn}
+use Rattle.gateway.specs.Calls.{unread, stepFrom, stepOut, replyFrom, tickOut, reconnectFrom, reconnectOut, newIf, newOut}
+use Rattle.gateway.specs.code.Held.{statusHeld}
 use Rattle.gateway.specs.declared.record.StatusWord.{StatusWord}
 use Rattle.gateway.specs.declared.record.StatusWord.the-variants.{Is, Other}
-
--- what is saved is loaded again
-pub saved-loads : (r : Record) → recordIn (wordsOf r) (r .ours) (r .peer) ≡ some r
-saved-loads r = ap (recordIf (wordsOf r) (r .ours) (r .peer)) (go (r .status))
-  where
-    go : (st : Status) → statusOf (code st) ≡ some st
-    go Waiting = refl
-    go Active = refl
-    go Closed = refl
-
--- seven words that are loaded are those that are saved
-its-number : (n : ℕ) (st : Status) → statusOf n ≡ some st → n ≡ code st
-its-number zero st e = ap code (Option·some-injective Waiting st e)
-its-number (suc zero) st e = ap code (Option·some-injective Active st e)
-its-number (suc (suc zero)) st e = ap code (Option·some-injective Closed st e)
-its-number (suc (suc (suc n))) st e = absurd (Option·none-ne-some st e)
-
-seven : (w : List ℕ) → length w ≡ 7 → w ≡ getD w 0 0 ∷ getD w 1 0 ∷ getD w 2 0 ∷ getD w 3 0 ∷ getD w 4 0 ∷ getD w 5 0 ∷ getD w 6 0 ∷ []
-seven w e =
-    let at : (j : ℕ) → j < 7 → drop j w ≡ getD w j 0 ∷ drop (suc j) w = λ j h. drop-cons w j 0 (omega arith) in
-    let end : length w ≤ 7 = omega arith in
-    at 0 (omega arith) ∙ rw (at 1 (omega arith), at 2 (omega arith), at 3 (omega arith), at 4 (omega arith), at 5 (omega arith), at 6 (omega arith), drop-of-length-le w end)
-
-pub loaded-saves : (words : List ℕ) (ours peer : Bytes) (r : Record) → length words ≡ 7 → recordIn words ours peer ≡ some r → (words ≡ wordsOf r) × ((ours ≡ r .ours) × (peer ≡ r .peer))
-loaded-saves words ours peer r h = go (statusOf (getD words 2 0)) refl
-  where
-    go : (o : Option Status) → statusOf (getD words 2 0) ≡ o → recordIf words ours peer o ≡ some r → (words ≡ wordsOf r) × ((ours ≡ r .ours) × (peer ≡ r .peer))
-    go none q e = absurd (Option·none-ne-some r e)
-    go (some st) q e =
-        let z : recordWith words ours peer st ≡ r = Option·some-injective (recordWith words ours peer st) r e in
-        (seven words h ∙ rw (its-number (getD words 2 0) st q) (ap wordsOf z), (ap (λ (x : Record). x .ours) z, ap (λ (x : Record). x .peer) z))
 
 -- no status has a number but 0, 1 and 2
 pub no-status : (n : ℕ) → (n ≡ 0 → ⊥) → (n ≡ 1 → ⊥) → (n ≡ 2 → ⊥) → none ≡ statusOf n
@@ -58,43 +38,137 @@ no-status (suc zero) a b c = absurd (b refl)
 no-status (suc (suc zero)) a b c = absurd (c refl)
 no-status (suc (suc (suc n))) a b c = refl
 
--- the status that the code read is none
-module _ (words : List ℕ) (ours peer : Bytes) {x : StatusWord} (read : statusIn x ≡ statusOf (getD words 2 0)) (is : x ≡ Other) where
-  no-record : none ≡ recordIn words ours peer
-  no-record = ap (recordIf words ours peer) (sym (ap statusIn is) ∙ read)
+-- THE STATUS that the words hold, test by test
+module _ (words : List ℕ) where
+  pub other-length : (length words ≡ 24 → ⊥) → none ≡ statusIn words
+  unfolding statusIn
+  other-length h = rw (ne-eqb (length words) 24 h)
 
-  pub step-unread : (frame : Bytes) (time : ℕ) (buf : Bytes) → unread words (0 ∷ 0 ∷ []) buf ≡ stepOut words ours peer frame time buf
+  pub other-version : length words ≡ 24 → (getD words 0 0 ≡ 1 → ⊥) → none ≡ statusIn words
+  unfolding statusIn
+  other-version e h = rw (e, ne-eqb (getD words 0 0) 1 h)
+
+  pub not-spare : length words ≡ 24 → getD words 0 0 ≡ 1 → spare words ≡ false → none ≡ statusIn words
+  unfolding statusIn
+  not-spare e f h = rw (e, f, h)
+
+  pub status-is : length words ≡ 24 → getD words 0 0 ≡ 1 → spare words ≡ true → statusOf (getD words 1 0) ≡ statusIn words
+  unfolding statusIn
+  status-is e f h = rw (e, f, h)
+
+  -- words that hold a status are 24
+  pub held-length : {x : StatusWord} {st : Status} → statusHeld x ≡ statusIn words → x ≡ Is st → length words ≡ 24
+  unfolding statusIn
+  held-length {st = st} read is = go (eqb (length words) 24) (eqb (getD words 0 0) 1) refl (sym (ap statusHeld is) ∙ read)
+    where
+      go : (a b : Bool) → eqb (length words) 24 ≡ a → some st ≡ statusIf words (a && b && spare words) → length words ≡ 24
+      go true b e s = eqb-true (length words) 24 e
+      go false b e s = absurd (Option·none-ne-some st (sym s))
+
+-- what is loaded, with the lengths that were read
+pub loaded-is : (ids : Bytes) (words : List ℕ) (st : Status) {o p : ℕ} → o ≡ getD ids 0 0 → p ≡ getD ids 12 0 → record { ours = eleven 1 ids; oursLen = o; peer = eleven 13 ids; peerLen = p; status = st; expected = getD words 2 0; next = getD words 3 0; heartbeat = getD words 4 0; sent = getD words 5 0 } ≡ recordWith ids words st
+loaded-is ids words st e f = rw (e, f)
+
+-- the words hold no status
+module _ (ids : Bytes) (words : List ℕ) {x : StatusWord} (read : statusHeld x ≡ statusIn words) (is : x ≡ Other) where
+  no-record : none ≡ recordIn ids words
+  no-record = ap (recordIf ids words) (sym (ap statusHeld is) ∙ read)
+
+  pub step-unread : (frame : Bytes) (time : ℕ) (buf : Bytes) → unread words (0 ∷ 0 ∷ []) buf ≡ stepOut ids words frame time buf
   unfolding stepOut
   step-unread frame time buf = ap (stepFrom words frame time buf) no-record
 
-  pub tick-unread : (time : ℕ) (buf : Bytes) → unread words (0 ∷ []) buf ≡ tickOut words ours peer time buf
+  pub tick-unread : (time : ℕ) (buf : Bytes) → unread words (0 ∷ []) buf ≡ tickOut ids words time buf
   unfolding tickOut
-  tick-unread time buf = ap (tickFrom words time buf) no-record
+  tick-unread time buf = ap (replyFrom words buf (λ r. tick (sessionOf r) time buf)) no-record
 
-  pub reconnect-unread : record { number = 11; words = words } ≡ reconnectOut words ours peer
+  pub reconnect-unread : record { number = 11; words = words } ≡ reconnectOut ids words
   unfolding reconnectOut
   reconnect-unread = ap (reconnectFrom words) no-record
 
--- it is one: the words are loaded as a record, and what a call left of that is saved
-module _ (words : List ℕ) (ours peer : Bytes) {x : StatusWord} {st : Status} {r : Record} (read : statusIn x ≡ statusOf (getD words 2 0)) (is : x ≡ Is st) (loaded : r ≡ recordWith words ours peer st) where
-  a-record : some r ≡ recordIn words ours peer
-  a-record = ap some loaded ∙ ap (recordIf words ours peer) (sym (ap statusIn is) ∙ read)
+-- they hold one: a record is loaded, and what a call left of it is saved
+module _ (ids : Bytes) (words : List ℕ) {x : StatusWord} {st : Status} {r : Record} (read : statusHeld x ≡ statusIn words) (is : x ≡ Is st) (loaded : r ≡ recordWith ids words st) where
+  a-record : some r ≡ recordIn ids words
+  a-record = ap some loaded ∙ ap (recordIf ids words) (sym (ap statusHeld is) ∙ read)
 
-  module _ {a : Answered} {n : ℕ} {saved : List ℕ} (numbered : n ≡ refusalOf (numbers (a .answer))) (saves : saved ≡ wordsOf (a .after)) where
-    pub step-left : (frame : Bytes) (time : ℕ) (buf : Bytes) {buf′ : Bytes} {d : ℕ} → d ≡ valueOf (numbers (a .answer)) → Leaves r (step (sessionOf r) frame time buf) a buf′ → record { number = n; words = saved; out = d ∷ a .len ∷ []; buffer = buf′ } ≡ stepOut words ours peer frame time buf
+  module _ {a : Answered} {n : ℕ} {words′ : List ℕ} (numbered : n ≡ refusalOf (numbers (a .answer))) (saves : words′ ≡ saved words (a .after)) where
+    pub step-left : (frame : Bytes) (time : ℕ) (buf : Bytes) {buf′ : Bytes} {d : ℕ} → d ≡ valueOf (numbers (a .answer)) → Leaves r (step (sessionOf r) frame time buf) a buf′ → record { number = n; words = words′; out = d ∷ a .len ∷ []; buffer = buf′ } ≡ stepOut ids words frame time buf
     unfolding stepOut
     step-left frame time buf delivers leaves = rw (numbered, saves, delivers, leaves .answered, leaves .buffer) (ap (stepFrom words frame time buf) a-record)
 
-    pub tick-left : (time : ℕ) (buf : Bytes) {buf′ : Bytes} → Leaves r (tick (sessionOf r) time buf) a buf′ → record { number = n; words = saved; out = a .len ∷ []; buffer = buf′ } ≡ tickOut words ours peer time buf
+    pub tick-left : (time : ℕ) (buf : Bytes) {buf′ : Bytes} → Leaves r (tick (sessionOf r) time buf) a buf′ → record { number = n; words = words′; out = a .len ∷ []; buffer = buf′ } ≡ tickOut ids words time buf
     unfolding tickOut
-    tick-left time buf leaves = rw (numbered, saves, leaves .answered, leaves .buffer) (ap (tickFrom words time buf) a-record)
+    tick-left time buf leaves = rw (numbered, saves, leaves .answered, leaves .buffer) (ap (replyFrom words buf (λ y. tick (sessionOf y) time buf)) a-record)
 
-    pub reconnect-left : a ≡ answeredBy r (reconnect (sessionOf r)) → record { number = n; words = saved } ≡ reconnectOut words ours peer
+    pub reconnect-left : a ≡ answeredBy r (reconnect (sessionOf r)) → record { number = n; words = words′ } ≡ reconnectOut ids words
     unfolding reconnectOut
     reconnect-left leaves = rw (numbered, saves, leaves) (ap (reconnectFrom words) a-record)
 
-pub new-left : (us them : Bytes) {a : Answered} {w : List ℕ} {n : ℕ} →
-    a ≡ answeredNew (new us them) → n ≡ refusalOf (numbers (a .answer)) → w ≡ wordsOf (a .after) →
-    record { number = n; words = w; ours = a .after .ours; peer = a .after .peer } ≡ newOut us them
-unfolding newOut
-new-left us them L p q = rw (p, q, L)
+-- A NEW RECORD
+module _ (ids : Bytes) (words : List ℕ) (us them : Bytes) where
+  pub new-unwritten : (length words ≡ 24 → ⊥) → record { number = 11; ids = ids; words = words } ≡ newOut ids words us them
+  unfolding newOut
+  new-unwritten h = ap (newIf ids words us them) (sym (ne-eqb (length words) 24 h))
+
+  pub new-left : length words ≡ 24 → {a : Answered} {w : List ℕ} {n : ℕ} → a ≡ answeredNew (new us them) → n ≡ refusalOf (numbers (a .answer)) → w ≡ wordsOf (a .after) → record { number = n; ids = compIDsOf (a .after); words = w } ≡ newOut ids words us them
+  unfolding newOut
+  new-left e L p q = rw (p, q, L) (ap (newIf ids words us them) (sym (eq-eqb (length words) 24 e)))
+
+-- THE CODE'S LOOPS over the words: those kept for later are zero, and a new record's are made so
+abbrev pub zeroWord : ℕ → Bool
+zeroWord w = eqb w 0
+
+pub spare-is : (words : List ℕ) → spare words ≡ all zeroWord (drop 6 words)
+unfolding spare
+spare-is words = refl
+
+module _ (words : List ℕ) (i : ℕ) where
+  spare-at : i < length words → all zeroWord (drop i words) ≡ zeroWord (getD words i 0) && all zeroWord (drop (suc i) words)
+  spare-at h = ap (all zeroWord) (drop-cons words i 0 h)
+
+  pub spare-stop : i < length words → (getD words i 0 ≡ 0 → ⊥) → all zeroWord (drop i words) ≡ false
+  spare-stop h k = spare-at h ∙ ap (λ (b : Bool). b && all zeroWord (drop (suc i) words)) (ne-eqb (getD words i 0) 0 k)
+
+  pub spare-next : i < length words → getD words i 0 ≡ 0 → all zeroWord (drop i words) ≡ all zeroWord (drop (i + 1) words)
+  spare-next h k = spare-at h ∙ ap (λ (b : Bool). b && all zeroWord (drop (suc i) words)) (eq-eqb (getD words i 0) 0 k) ∙ ap (λ (j : ℕ). all zeroWord (drop j words)) (sym (add-one i))
+
+  pub spare-end : length words ≤ i → all zeroWord (drop i words) ≡ true
+  spare-end h = ap (all zeroWord) (drop-of-length-le words h)
+
+one-more-zero : (i : ℕ) (l : List ℕ) → replicate i 0 ++ (0 ∷ l) ≡ replicate (suc i) 0 ++ l
+one-more-zero zero l = refl
+one-more-zero (suc i) l = ap (λ (k : List ℕ). 0 ∷ k) (one-more-zero i l)
+
+pub zero-more : (l : List ℕ) (i : ℕ) → i < length l → set (replicate i 0 ++ drop i l) i 0 ≡ replicate (i + 1) 0 ++ drop (i + 1) l
+zero-more l i h =
+    ap (λ (k : List ℕ). set (replicate i 0 ++ k) i 0) (drop-cons l i 0 h)
+    ∙ set-at (replicate i 0) (getD l i 0) (drop (suc i) l) 0 i (length-replicate {A = ℕ} i 0)
+    ∙ one-more-zero i (drop (suc i) l)
+    ∙ ap (λ (j : ℕ). replicate j 0 ++ drop j l) (sym (add-one i))
+
+pub zero-all : (l : List ℕ) (i : ℕ) → i ≤ length l → length l ≤ i → replicate i 0 ++ drop i l ≡ replicate (length l) 0
+zero-all l i a b =
+    let e : i ≡ length l = omega arith in
+    ap (λ (k : List ℕ). replicate i 0 ++ k) (drop-of-length-le l b) ∙ append-nil (replicate i 0) ∙ ap (λ (j : ℕ). replicate j 0) e
+
+-- a new record's words
+module _ (w z : List ℕ) (h : length w ≡ 24) (zeroed : z ≡ replicate (length w) 0) where
+  pub fresh-length : length (set z 0 1) ≡ 24
+  fresh-length = rw (zeroed, h)
+
+  pub fresh-words : (r : Record) {v : List ℕ} → v ≡ saved (set z 0 1) r → v ≡ wordsOf r
+  fresh-words r e = e ∙ ap (λ (x : List ℕ). saved (set x 0 1) r) (zeroed ∙ ap (λ (n : ℕ). replicate n 0) h)
+
+-- the CompIDs of a new session are at most eleven bytes, also where it is refused
+pub new-short : (us them : Bytes) {a : Answered} → a ≡ answeredNew (new us them) → (a .after .oursLen ≤ 11) × (a .after .peerLen ≤ 11)
+unfolding new compID
+new-short us them e = go (compID us) (compID them) refl refl e
+  where
+    short : (c : Bytes) → compID c ≡ true → length c ≤ 11
+    short c k = within-is 1 11 (length c) (both (within 1 11 (length c)) (not (has c 1)) k .0) .1
+
+    go : (x y : Bool) → compID us ≡ x → compID them ≡ y → {a : Answered} → a ≡ answeredNew (if x && y then keeping Done (fresh us them) [] else keeping (Refused BadRecord) (turned Closed (fresh [] [])) []) → (a .after .oursLen ≤ 11) × (a .after .peerLen ≤ 11)
+    go true true p q e = rw e (short us p, short them q)
+    go true false p q e = rw e (omega arith, omega arith)
+    go false true p q e = rw e (omega arith, omega arith)
+    go false false p q e = rw e (omega arith, omega arith)

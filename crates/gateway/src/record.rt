@@ -67,10 +67,19 @@ fn status_number(st: Status) -> u64
     }
 }
 
+// A CompID's length, which is a byte.
+fn length_of(b: u8) -> usize
+    ensures { λ r. ⌜ r ≡ b ⌝ }
+{
+    b as usize
+}
+
 pub fn load(ids: &[u8; 24], words: &[u64], status: Status) -> Record
     requires { ⌜ length (now words) ≡ 24 ⌝ }
     ensures { λ r. ⌜ r ≡ recordWith (now (ids .entry)) (now (words .entry)) status ⌝ }
 {
+    let o = length_of(ids[0]);
+    let p = length_of(ids[12]);
     Record {
         ours: [
             ids[1],
@@ -85,7 +94,7 @@ pub fn load(ids: &[u8; 24], words: &[u64], status: Status) -> Record
             ids[10],
             ids[11],
         ],
-        oursLen: ids[0] as usize,
+        oursLen: o,
         peer: [
             ids[13],
             ids[14],
@@ -99,7 +108,7 @@ pub fn load(ids: &[u8; 24], words: &[u64], status: Status) -> Record
             ids[22],
             ids[23],
         ],
-        peerLen: ids[12] as usize,
+        peerLen: p,
         status,
         expected: words[2],
         next: words[3],

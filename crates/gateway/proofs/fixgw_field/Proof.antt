@@ -1,25 +1,20 @@
 -- `fixgw_field`: the case of the item, in words.
 use borrow.Author.Needs.{needs}
-use mathlib.Core.Path.{sym, ap, _∙_}
-use Rattle.gateway.specs.Border.{fieldNumber, fieldWords}
 use Rattle.gateway.proofs.fixgw_field.Statement.{statement}
 use Rattle.gateway.proofs.fixgw_field.Tie as tie
+use Rattle.gateway.proofs.Readings.{field-is}
 
 returns : tie.Need-returns
-returns c =
-    (ap fieldNumber (sym (c .before .before .tag .given .1) ∙ c .before .before .before .before .field-at .ensures), ap fieldWords (sym (c .before .before .tag .given .1) ∙ c .before .before .before .before .field-at .ensures))
+returns c = field-is _ _ (c .before .before .before .before .field-at .ensures) (c .before .before .tag .given .1)
 
 returns-2 : tie.Need-returns-2
-returns-2 c =
-    (ap fieldNumber (sym (c .before .before .start .given .1) ∙ c .before .before .before .before .field-at .ensures), ap fieldWords (sym (c .before .before .start .given .1) ∙ c .before .before .before .before .field-at .ensures))
+returns-2 c = field-is _ _ (c .before .before .before .before .field-at .ensures) (c .before .before .start .given .1)
 
 returns-3 : tie.Need-returns-3
-returns-3 c =
-    (ap fieldNumber (sym (c .before .enum-told .given .1) ∙ c .before .before .before .field-at .ensures), ap fieldWords (sym (c .before .enum-told .given .1) ∙ c .before .before .before .field-at .ensures))
+returns-3 c = field-is _ _ (c .before .before .before .field-at .ensures) (c .before .enum-told .given .1)
 
 returns-4 : tie.Need-returns-4
-returns-4 c =
-    (ap fieldNumber (sym (c .before .enum-told2 .given .1) ∙ c .before .before .before .field-at .ensures), ap fieldWords (sym (c .before .enum-told2 .given .1) ∙ c .before .before .before .field-at .ensures))
+returns-4 c = field-is _ _ (c .before .before .before .field-at .ensures) (c .before .enum-told2 .given .1)
 
 pub fixgw-field-spec : {M : Type 1} → statement M
 fixgw-field-spec =

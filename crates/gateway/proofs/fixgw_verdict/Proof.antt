@@ -1,21 +1,21 @@
 -- `fixgw_verdict`: the case of the verdict, in words.
 use borrow.Author.Needs.{needs}
-use mathlib.Core.Path.{sym, ap, _∙_}
-use Rattle.gateway.specs.Border.{verdictNumber, verdictWords}
 use Rattle.gateway.proofs.fixgw_verdict.Statement.{statement}
 use Rattle.gateway.proofs.fixgw_verdict.Tie as tie
+use Rattle.dictionary.specs.Verdict.{numbers}
+use Rattle.gateway.proofs.Readings.{verdict-is}
 
 returns : tie.Need-returns
-returns c =
-    (ap verdictNumber (sym (c .before .enum-told .given .1) ∙ c .before .before .before .verdict-on .ensures), ap verdictWords (sym (c .before .enum-told .given .1) ∙ c .before .before .before .verdict-on .ensures))
+unfolding numbers
+returns c = verdict-is _ (c .before .before .before .verdict-on .ensures) (c .before .enum-told .given .1)
 
 returns-2 : tie.Need-returns-2
-returns-2 c =
-    (ap verdictNumber (sym (c .before .before .reason .given .1) ∙ c .before .before .before .before .verdict-on .ensures), ap verdictWords (sym (c .before .before .reason .given .1) ∙ c .before .before .before .before .verdict-on .ensures))
+unfolding numbers
+returns-2 c = verdict-is _ (c .before .before .before .before .verdict-on .ensures) (c .before .before .reason .given .1)
 
 returns-3 : tie.Need-returns-3
-returns-3 c =
-    (ap verdictNumber (sym (c .before .enum-told2 .given .1) ∙ c .before .before .before .verdict-on .ensures), ap verdictWords (sym (c .before .enum-told2 .given .1) ∙ c .before .before .before .verdict-on .ensures))
+unfolding numbers
+returns-3 c = verdict-is _ (c .before .before .before .verdict-on .ensures) (c .before .enum-told2 .given .1)
 
 pub fixgw-verdict-spec : {M : Type 1} → statement M
 fixgw-verdict-spec =
