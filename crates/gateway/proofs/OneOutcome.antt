@@ -9,7 +9,7 @@ use Rattle.frame.specs.Frame.{fixt}
 use Rattle.frame.specs.Line.{Line}
 use Rattle.frame.proofs.Unique.{reads-one}
 use Rattle.gateway.specs.Border.{readNumber, readWords, ReadOut, PutOut, DropOut, BodyOut, its-body, no-frame, FieldOut, FirstOut, VerdictOut}
-use Rattle.gateway.specs.Calls.{Left, LeftByReconnect, LeftByNew, LeftByWrite, WriteOut, NewOut, ReconnectOut, StepOut, TickOut}
+use Rattle.gateway.specs.Calls.{Left, LeftByReconnect, LeftByNew, LeftByWrite, WriteOut, NewOut, ReconnectOut, StepOut, TickOut, LogoutOut, TestRequestOut}
 use Rattle.gateway.proofs.Bodies.{same-lengths}
 
 -- two that are the same third
@@ -73,3 +73,9 @@ module _ (ids : Bytes) (words : List ℕ) {r r′ : ℕ} {words₁ words₂ : Li
 
     pub tick-one : (time : ℕ) (buf : Bytes) → TickOut ids words time buf r words₁ out buf₁ → TickOut ids words time buf r′ words₂ out′ buf₂ → (r ≡ r′) × ((words₁ ≡ words₂) × ((out ≡ out′) × (buf₁ ≡ buf₂)))
     tick-one time buf A B = parts (both A B)
+
+    pub logout-one : (time : ℕ) (buf : Bytes) → LogoutOut ids words time buf r words₁ out buf₁ → LogoutOut ids words time buf r′ words₂ out′ buf₂ → (r ≡ r′) × ((words₁ ≡ words₂) × ((out ≡ out′) × (buf₁ ≡ buf₂)))
+    logout-one time buf A B = parts (both A B)
+
+    pub test-request-one : (id : Bytes) (time : ℕ) (buf : Bytes) → TestRequestOut ids words id time buf r words₁ out buf₁ → TestRequestOut ids words id time buf r′ words₂ out′ buf₂ → (r ≡ r′) × ((words₁ ≡ words₂) × ((out ≡ out′) × (buf₁ ≡ buf₂)))
+    test-request-one id time buf A B = parts (both A B)

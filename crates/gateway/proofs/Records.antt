@@ -17,7 +17,7 @@ use Rattle.frame.proofs.Tests.{both}
 use Rattle.session.specs.Words.{if_then_else_}
 use Rattle.session.specs.Session.{numbers, compID, fresh, turned}
 use Rattle.session.specs.Held.{sessionOf, answeredBy, Leaves, answeredNew}
-use Rattle.session.specs.Calls.{keeping, step, tick, new, reconnect}
+use Rattle.session.specs.Calls.{keeping, step, tick, logout, test-request, new, reconnect}
 use Rattle.session.specs.declared.Record.{Record}
 use Rattle.session.specs.declared.Answered.{Answered}
 use Rattle.session.specs.declared.Status.{Status}
@@ -26,7 +26,7 @@ use Rattle.session.specs.declared.Refusal.the-variants.{BadRecord}
 use Rattle.session.specs.declared.Answer.the-variants.{Done, Refused}
 use Rattle.gateway.specs.Numbers.{refusalOf, valueOf}
 use Rattle.gateway.specs.Record.{eleven, compIDsOf, wordsOf, saved, spare, statusOf, statusIf, statusIn, recordWith, recordIf, recordIn}
-use Rattle.gateway.specs.Calls.{unread, stepFrom, stepOut, replyFrom, tickOut, reconnectFrom, reconnectOut, newIf, newOut}
+use Rattle.gateway.specs.Calls.{unread, stepFrom, stepOut, replyFrom, tickOut, logoutOut, testRequestOut, reconnectFrom, reconnectOut, newIf, newOut}
 use Rattle.gateway.specs.code.Held.{statusHeld}
 use Rattle.gateway.specs.declared.record.StatusWord.{StatusWord}
 use Rattle.gateway.specs.declared.record.StatusWord.the-variants.{Is, Other}
@@ -82,6 +82,14 @@ module _ (ids : Bytes) (words : List ℕ) {x : StatusWord} (read : statusHeld x 
   unfolding tickOut
   tick-unread time buf = ap (replyFrom words buf (λ r. tick (sessionOf r) time buf)) no-record
 
+  pub logout-unread : (time : ℕ) (buf : Bytes) → unread words (0 ∷ []) buf ≡ logoutOut ids words time buf
+  unfolding logoutOut
+  logout-unread time buf = ap (replyFrom words buf (λ r. logout (sessionOf r) time buf)) no-record
+
+  pub test-request-unread : (id : Bytes) (time : ℕ) (buf : Bytes) → unread words (0 ∷ []) buf ≡ testRequestOut ids words id time buf
+  unfolding testRequestOut
+  test-request-unread id time buf = ap (replyFrom words buf (λ r. test-request (sessionOf r) id time buf)) no-record
+
   pub reconnect-unread : record { number = 11; words = words } ≡ reconnectOut ids words
   unfolding reconnectOut
   reconnect-unread = ap (reconnectFrom words) no-record
@@ -99,6 +107,14 @@ module _ (ids : Bytes) (words : List ℕ) {x : StatusWord} {st : Status} {r : Re
     pub tick-left : (time : ℕ) (buf : Bytes) {buf′ : Bytes} → Leaves r (tick (sessionOf r) time buf) a buf′ → record { number = n; words = words′; out = a .len ∷ []; buffer = buf′ } ≡ tickOut ids words time buf
     unfolding tickOut
     tick-left time buf leaves = rw (numbered, saves, leaves .answered, leaves .buffer) (ap (replyFrom words buf (λ y. tick (sessionOf y) time buf)) a-record)
+
+    pub logout-left : (time : ℕ) (buf : Bytes) {buf′ : Bytes} → Leaves r (logout (sessionOf r) time buf) a buf′ → record { number = n; words = words′; out = a .len ∷ []; buffer = buf′ } ≡ logoutOut ids words time buf
+    unfolding logoutOut
+    logout-left time buf leaves = rw (numbered, saves, leaves .answered, leaves .buffer) (ap (replyFrom words buf (λ y. logout (sessionOf y) time buf)) a-record)
+
+    pub test-request-left : (id : Bytes) (time : ℕ) (buf : Bytes) {buf′ : Bytes} → Leaves r (test-request (sessionOf r) id time buf) a buf′ → record { number = n; words = words′; out = a .len ∷ []; buffer = buf′ } ≡ testRequestOut ids words id time buf
+    unfolding testRequestOut
+    test-request-left id time buf leaves = rw (numbered, saves, leaves .answered, leaves .buffer) (ap (replyFrom words buf (λ y. test-request (sessionOf y) id time buf)) a-record)
 
     pub reconnect-left : a ≡ answeredBy r (reconnect (sessionOf r)) → record { number = n; words = words′ } ≡ reconnectOut ids words
     unfolding reconnectOut

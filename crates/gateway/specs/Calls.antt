@@ -12,7 +12,7 @@ use Rattle.writer.specs.Call as Writer
 use Rattle.writer.specs.declared.Values.{Values}
 use Rattle.session.specs.Session.{No, numbers}
 use Rattle.session.specs.Held.{sessionOf, with, recordOf}
-use Rattle.session.specs.Calls.{Outcome, step, tick, new, reconnect}
+use Rattle.session.specs.Calls.{Outcome, step, tick, logout, test-request, new, reconnect}
 use Rattle.session.specs.declared.Record.{Record}
 use Rattle.session.specs.declared.Refusal.the-variants.{BadRecord}
 use Rattle.gateway.specs.Numbers.{refusalOf, valueOf}
@@ -58,6 +58,19 @@ tickOut ids words time buf = replyFrom words buf (λ r. tick (sessionOf r) time 
 
 abbrev pub TickOut : Bytes → List ℕ → ℕ → Bytes → ℕ → List ℕ → List ℕ → Bytes → Type 0
 TickOut ids words time buf r words′ out buf′ = record { number = r; words = words′; out = out; buffer = buf′ } ≡ tickOut ids words time buf
+
+-- fixgw_logout and fixgw_test_request, messages of the venue's own: the reply's length
+unfoldable pub logoutOut : Bytes → List ℕ → ℕ → Bytes → Left
+logoutOut ids words time buf = replyFrom words buf (λ r. logout (sessionOf r) time buf) (recordIn ids words)
+
+abbrev pub LogoutOut : Bytes → List ℕ → ℕ → Bytes → ℕ → List ℕ → List ℕ → Bytes → Type 0
+LogoutOut ids words time buf r words′ out buf′ = record { number = r; words = words′; out = out; buffer = buf′ } ≡ logoutOut ids words time buf
+
+unfoldable pub testRequestOut : Bytes → List ℕ → Bytes → ℕ → Bytes → Left
+testRequestOut ids words id time buf = replyFrom words buf (λ r. test-request (sessionOf r) id time buf) (recordIn ids words)
+
+abbrev pub TestRequestOut : Bytes → List ℕ → Bytes → ℕ → Bytes → ℕ → List ℕ → List ℕ → Bytes → Type 0
+TestRequestOut ids words id time buf r words′ out buf′ = record { number = r; words = words′; out = out; buffer = buf′ } ≡ testRequestOut ids words id time buf
 
 -- fixgw_reconnect
 pub record LeftByReconnect : Type 0 where

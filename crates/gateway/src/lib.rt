@@ -18,7 +18,7 @@ use values::values_of;
 use writer::Written;
 ghost use mathlib.Core.Path.{_≡_};
 ghost use Rattle.gateway.specs.Border.{version, ReadOut, PutOut, DropOut, BodyOut, FieldOut, FirstOut, VerdictOut};
-ghost use Rattle.gateway.specs.Calls.{WriteOut, NewOut, ReconnectOut, StepOut, TickOut};
+ghost use Rattle.gateway.specs.Calls.{WriteOut, NewOut, ReconnectOut, StepOut, TickOut, LogoutOut, TestRequestOut};
 
 // The library's version: major * 10000 + minor * 100 + patch.
 #[no_mangle]
@@ -277,6 +277,55 @@ pub extern "C" fn fixgw_tick(
     };
     let r = load(ids, words, status);
     let left = session::tick(r, time, buf);
+    let answer = left.answer;
+    save(words, left.after);
+    *out = [left.len as u64];
+    number_of(answer)
+}
+
+// The venue's own Logout stands at the front of the buffer, and the record is Closed.
+#[no_mangle]
+pub extern "C" fn fixgw_logout(
+    ids: &[u8; 24],
+    words: &mut [u64],
+    time: u64,
+    buf: &mut [u8],
+    out: &mut [u64; 1],
+) -> u32
+    ensures { λ r. ⌜ LogoutOut (now (ids .entry)) (now (words .entry)) time (now (buf .entry)) r (now (words .exit)) (now (out .exit)) (now (buf .exit)) ⌝ }
+{
+    let named = status_in(words);
+    let StatusWord::Is(status) = named else {
+        *out = [0];
+        return 11;
+    };
+    let r = load(ids, words, status);
+    let left = session::logout(r, time, buf);
+    let answer = left.answer;
+    save(words, left.after);
+    *out = [left.len as u64];
+    number_of(answer)
+}
+
+// The venue's own Test Request with this 112 stands at the front of the buffer.
+#[no_mangle]
+pub extern "C" fn fixgw_test_request(
+    ids: &[u8; 24],
+    words: &mut [u64],
+    id: &[u8],
+    time: u64,
+    buf: &mut [u8],
+    out: &mut [u64; 1],
+) -> u32
+    ensures { λ r. ⌜ TestRequestOut (now (ids .entry)) (now (words .entry)) (now (id .entry)) time (now (buf .entry)) r (now (words .exit)) (now (out .exit)) (now (buf .exit)) ⌝ }
+{
+    let named = status_in(words);
+    let StatusWord::Is(status) = named else {
+        *out = [0];
+        return 11;
+    };
+    let r = load(ids, words, status);
+    let left = session::test_request(r, id, time, buf);
     let answer = left.answer;
     save(words, left.after);
     *out = [left.len as u64];

@@ -5,7 +5,9 @@ use Rattle.gateway.proofs.fixgw_reconnect.Tie as tie
 use Rattle.gateway.proofs.Records.{held-length, reconnect-unread, reconnect-left}
 
 returns : tie.Need-returns
-returns c = reconnect-unread (c .before .before .before .before .before .args .ids .now) (c .before .before .before .before .before .args .words .now) (c .before .before .status-in .ensures) (c .enum-told .given .1)
+returns c =
+    let a = c .before .before .before .before .before .args in
+    reconnect-unread (a .ids .now) (a .words .now) (c .before .before .status-in .ensures) (c .enum-told .given .1)
 
 load-requires : tie.Need-load-requires
 load-requires c κs = held-length _ (c .before .before .before .before .status-in .ensures) (c .before .before .named .given .1)
@@ -14,7 +16,9 @@ save-requires : tie.Need-save-requires
 save-requires c κs = held-length _ (c .before .before .before .before .before .before .before .status-in .ensures) (c .before .before .before .before .before .named .given .1)
 
 returns-2 : tie.Need-returns-2
-returns-2 c = reconnect-left (c .before .before .before .before .before .before .before .before .before .before .before .before .before .before .args .ids .now) (c .before .before .before .before .before .before .before .before .before .before .before .before .before .before .args .words .now) (c .before .before .before .before .before .before .before .before .before .before .before .status-in .ensures) (c .before .before .before .before .before .before .before .before .before .named .given .1) (c .before .before .before .before .before .before .load .ensures) (c .number-of .ensures) (c .before .before .before .save .ensures) (c .before .before .before .before .before .reconnect .ensures)
+returns-2 c =
+    let a = c .before .before .before .before .before .before .before .before .before .before .before .before .before .before .args in
+    reconnect-left (a .ids .now) (a .words .now) (c .before .before .before .before .before .before .before .before .before .before .before .status-in .ensures) (c .before .before .before .before .before .before .before .before .before .named .given .1) (c .before .before .before .before .before .before .load .ensures) (c .number-of .ensures) (c .before .before .before .save .ensures) (c .before .before .before .before .before .reconnect .ensures)
 
 pub fixgw-reconnect-spec : {M : Type 1} → statement M
 fixgw-reconnect-spec =

@@ -5,7 +5,9 @@ use Rattle.gateway.proofs.fixgw_tick.Tie as tie
 use Rattle.gateway.proofs.Records.{held-length, tick-unread, tick-left}
 
 returns : tie.Need-returns
-returns c = tick-unread (c .before .before .before .before .before .before .before .args .ids .now) (c .before .before .before .before .before .before .before .args .words .now) (c .before .before .before .status-in .ensures) (c .before .enum-told .given .1) (c .before .before .before .before .before .before .before .args .time) (c .before .before .before .before .before .before .before .args .buf .now)
+returns c =
+    let a = c .before .before .before .before .before .before .before .args in
+    tick-unread (a .ids .now) (a .words .now) (c .before .before .before .status-in .ensures) (c .before .enum-told .given .1) (a .time) (a .buf .now)
 
 load-requires : tie.Need-load-requires
 load-requires c κs = held-length _ (c .before .before .before .before .status-in .ensures) (c .before .before .named .given .1)
@@ -14,7 +16,9 @@ save-requires : tie.Need-save-requires
 save-requires c κs = held-length _ (c .before .before .before .before .before .before .before .before .before .before .status-in .ensures) (c .before .before .before .before .before .before .before .before .named .given .1)
 
 returns-2 : tie.Need-returns-2
-returns-2 c = tick-left (c .before .before .before .before .before .before .before .before .before .before .before .before .before .before .before .before .before .before .before .args .ids .now) (c .before .before .before .before .before .before .before .before .before .before .before .before .before .before .before .before .before .before .before .args .words .now) (c .before .before .before .before .before .before .before .before .before .before .before .before .before .before .before .status-in .ensures) (c .before .before .before .before .before .before .before .before .before .before .before .before .before .named .given .1) (c .before .before .before .before .before .before .before .before .before .before .load .ensures) (c .number-of .ensures) (c .before .before .before .before .save .ensures) (c .before .before .before .before .before .before .before .before .before .before .before .before .before .before .before .before .before .before .before .args .time) (c .before .before .before .before .before .before .before .before .before .before .before .before .before .before .before .before .before .before .before .args .buf .now) (c .before .before .before .before .before .before .before .before .tick .ensures)
+returns-2 c =
+    let a = c .before .before .before .before .before .before .before .before .before .before .before .before .before .before .before .before .before .before .before .args in
+    tick-left (a .ids .now) (a .words .now) (c .before .before .before .before .before .before .before .before .before .before .before .before .before .before .before .status-in .ensures) (c .before .before .before .before .before .before .before .before .before .before .before .before .before .named .given .1) (c .before .before .before .before .before .before .before .before .before .before .load .ensures) (c .number-of .ensures) (c .before .before .before .before .save .ensures) (a .time) (a .buf .now) (c .before .before .before .before .before .before .before .before .tick .ensures)
 
 pub fixgw-tick-spec : {M : Type 1} → statement M
 fixgw-tick-spec =
