@@ -22,5 +22,6 @@ pub mod Streams
 pub mod Worked
 pub mod Pieces
 pub mod Hosted
+pub mod Promise
 pub mod Desk
 pub mod Decimals
