@@ -23,5 +23,6 @@ pub mod Worked
 pub mod Pieces
 pub mod Hosted
 pub mod Promise
+pub mod OneOutcome
 pub mod Desk
 pub mod Decimals

@@ -1,7 +1,7 @@
 -- Document 01, "The good frame", sentence by sentence, over a rule.
 use Prim.Native.Nat.{ℕ, _+_, _-_, _/_, _%_, _≤_, _<_}
 use mathlib.Core.Path.{_≡_}
-use mathlib.Core.Bool.{true}
+use mathlib.Core.Bool.{Bool, true}
 use mathlib.Core.List.{[], _∷_, _++_}
 use lib.ListN.{length, take, drop, getD}
 use Rattle.frame.specs.Bytes.{Bytes, byte, fix, sum, value, numeral, At}
@@ -75,6 +75,11 @@ pub record Live (R : Rule) (s : Bytes) (p : ℕ) : Type 0 where
   pub more : Bytes
   pub size : ℕ
   pub goodAt : GoodAt R (s ++ more) p size
+
+-- Whether f is exactly one good frame: yes only for one, and for every one.
+pub record Whether (R : Rule) (f : Bytes) (b : Bool) : Type 0 where
+  pub only : b ≡ true → Good R f
+  pub every : Good R f → b ≡ true
 
 -- The body of exactly one good frame, as the layers above ask for it; no bytes where f is none. (A body has at least five.)
 pub data BodyOf (R : Rule) (f : Bytes) : Bytes → Type 0 where
