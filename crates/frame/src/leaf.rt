@@ -107,7 +107,7 @@ pub fn checksum(s: &[u8]) -> u8
     ensures { λ r. ⌜ r ≡ sum (now (s .entry)) % 256 ⌝ }
 {
     let mut t: u8 = 0;
-    let mut i = 0;
+    let mut i: usize = 0;
     while i < s.len() {
         t = std::num::wrapping_add_u8(t, s[i]);
         i += 1;
