@@ -13,7 +13,7 @@ use Rattle.frame.specs.Reading.{refusal, Reads}
 use Rattle.frame.specs.Mark.{MarkOk}
 use Rattle.frame.specs.Line.{Line, line, pending, dropped, Hosted}
 use Rattle.frame.specs.Promise.{SameFrame, NoOverlap, Within, Promise, FixtNumbers}
-use Rattle.frame.proofs.Numerals.{numeral-true, digits-row, split-digits}
+use Rattle.frame.proofs.Numerals.{Digits, numeral-true, digits-row, split-digits}
 use Rattle.frame.proofs.Good.{good-longest, good-shortest, good-length, good-digits, good-split, good-unique, same-length}
 use Rattle.frame.proofs.Unique.{reads-one}
 use Rattle.frame.proofs.Marks.{fixt-ok, fix42-ok}
@@ -51,11 +51,14 @@ module _ (R : Rule) (ok : MarkOk (R .mark)) where
       empty (x ∷ l) e = absurd (omega arith)
 
   -- ---- the longest frame: a body of 2,048 bytes, its length written in four digits
+  four : Digits (fix "2048")
+  four = ((lit≤ tt, lit≤ tt), ((lit≤ tt, lit≤ tt), ((lit≤ tt, lit≤ tt), ((lit≤ tt, lit≤ tt), tt))))
+
   longest-length : 4 ≤ R .most → Length R (fix "2048")
   longest-length h =
       record {
         written = numeral-true (R .most) (fix "2048")
-            (record { some-digit = omega arith; few = h; whole = digits-row (fix "2048") ((lit≤ tt, lit≤ tt), ((lit≤ tt, lit≤ tt), ((lit≤ tt, lit≤ tt), ((lit≤ tt, lit≤ tt), tt)))); no-zero = λ e. omega arith });
+            (record { some-digit = omega arith; few = h; whole = digits-row (fix "2048") four; no-zero = λ e. omega arith });
         low = lit≤ tt;
         high = lit≤ tt;
       }
@@ -77,7 +80,7 @@ module _ (R : Rule) (ok : MarkOk (R .mark)) where
 
       digits : ds ≡ w .good .digits
       digits =
-          split-digits ds (w .good .digits) _ _ ((lit≤ tt, lit≤ tt), ((lit≤ tt, lit≤ tt), ((lit≤ tt, lit≤ tt), ((lit≤ tt, lit≤ tt), tt)))) (good-digits R g (w .good))
+          split-digits ds (w .good .digits) _ _ four (good-digits R g (w .good))
           (append-cancel-left (R .mark) _ _ (sym (regroup (R .mark) ds (w .rest)) ∙ good-split R g [] (w .good)))
 
   -- ---- the pending rest
