@@ -1,17 +1,17 @@
 -- The good frame over any rule: its length, its parts, where it stands; no good frame is a proper beginning of another.
-use Prim.Native.Nat.{ℕ, _+_, _-_, _%_, _≤_, _<_}
+use Prim.Native.Nat.{ℕ, _+_, _-_, _≤_, _<_}
 use native.Mathlib.Nat.{add-zero}
 use native.Mathlib.Decide.{decLt}
 use native.Mathlib.Omega.{arith}
 use mathlib.Core.Path.{_≡_, refl, sym, ap, _∙_, subst}
-use mathlib.Core.List.{List, [], _∷_, _++_, append-assoc, append-nil, append-cancel-left, tail-eq-of-cons-eq}
-use lib.ListN.{length, take, drop, getD, length-append, take-append-drop}
+use mathlib.Core.List.{[], _∷_, _++_, append-assoc, append-nil, append-cancel-left, tail-eq-of-cons-eq}
+use lib.ListN.{length, take, drop, length-append, take-append-drop}
 use lib.Seq.{take-append-seam, drop-append-seam, take-length, take-at}
 use Rattle.frame.specs.Bytes.{Bytes, value, At}
-use Rattle.frame.specs.Frame.{Rule, Good, GoodAt, Live, front, trailer, sumOf}
+use Rattle.frame.specs.Frame.{Rule, Good, GoodAt, Live, front, trailer, sumOf, longest}
 use Rattle.frame.specs.code.Walk.{Open}
 use Rattle.frame.proofs.Lists.{part-length, at-part, at-whole, at-more, part-more}
-use Rattle.frame.proofs.Numerals.{Digits, numeral-means, split-digits, row-digits}
+use Rattle.frame.proofs.Numerals.{Digits, numeral-means, split-digits, row-digits, four-digits}
 
 -- two ways to write one list that begin with parts of one length begin with the same part
 pub same-start : (x y c d : Bytes) → length x ≡ length y → x ++ c ≡ y ++ d → x ≡ y
@@ -30,9 +30,11 @@ module _ (R : Rule) where
       let e₄ = length-append (G .digits) (1 ∷ G .body) in
       omega (arith, G .inner .sized)
 
-  -- "The longest frame is 2,073 bytes": the mark, `most` digits and 2,056 bytes more
-  pub good-longest : (g : Bytes) (G : Good R g) → length g ≤ length (R .mark) + (R .most + 2056)
-  good-longest g G = omega (arith, good-length g G, (numeral-means (R .most) (G .digits) (G .len .written)) .few, G .len .high)
+  -- "The longest frame is 2,073 bytes"
+  pub good-longest : (g : Bytes) (G : Good R g) → length g ≤ longest R
+  good-longest g G =
+      let few = four-digits (R .most) (G .digits) (numeral-means (R .most) (G .digits) (G .len .written)) (omega (arith, G .len .high)) in
+      omega (arith, good-length g G, G .len .high)
 
   pub good-shortest : (g : Bytes) (G : Good R g) → length (R .mark) + 14 ≤ length g
   good-shortest g G = omega (arith, good-length g G, (numeral-means (R .most) (G .digits) (G .len .written)) .some-digit, G .len .low)
@@ -75,7 +77,7 @@ module _ (R : Rule) where
   good-at-mark {s} {p} {n} G =
       subst (λ (x : ℕ). At s x (R .mark)) (add-zero p) (at-whole s p n 0 (R .mark) (G .inside) (good-mark (take n (drop p s)) (G .good)))
 
-  pub good-at-length : {s : Bytes} {p n : ℕ} → GoodAt R s p n → (length (R .mark) + 14 ≤ n) × (n ≤ length (R .mark) + (R .most + 2056))
+  pub good-at-length : {s : Bytes} {p n : ℕ} → GoodAt R s p n → (length (R .mark) + 14 ≤ n) × (n ≤ longest R)
   good-at-length {s} {p} {n} G =
       let g = take n (drop p s) in
       omega (arith, good-shortest g (G .good), good-longest g (G .good), part-length s p n (G .inside))

@@ -22,5 +22,7 @@ pub mod Streams
 pub mod Worked
 pub mod Pieces
 pub mod Hosted
+pub mod Promise
+pub mod OneOutcome
 pub mod Desk
 pub mod Decimals

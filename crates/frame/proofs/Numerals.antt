@@ -152,6 +152,18 @@ split-digits (d ∷ ds) [] a b h _ e = let k : d ≡ 1 = head-eq-of-cons-eq e in
 split-digits (d ∷ ds) (d′ ∷ es) a b h k e =
     ap₂ (λ (x : ℕ) (l : Bytes). x ∷ l) (head-eq-of-cons-eq e) (split-digits ds es a b (h .1) (k .1) (tail-eq-of-cons-eq e))
 
+-- a number below 10,000 without a leading zero has at most four digits
+pub four-digits : (most : ℕ) (ds : Bytes) → Numeral most ds → value ds < 10000 → length ds ≤ 4
+four-digits most [] w k = omega arith
+four-digits most (a ∷ []) w k = omega arith
+four-digits most (a ∷ b ∷ []) w k = omega arith
+four-digits most (a ∷ b ∷ c ∷ []) w k = omega arith
+four-digits most (a ∷ b ∷ c ∷ d ∷ []) w k = omega arith
+four-digits most (a ∷ b ∷ c ∷ d ∷ e ∷ ds) w k =
+    let h = row-digits (a ∷ b ∷ c ∷ d ∷ e ∷ ds) (w .whole) in
+    let z = w .no-zero in
+    absurd (omega (arith, h .0, value-from (((((0 * 10 + (a - 48)) * 10 + (b - 48)) * 10 + (c - 48)) * 10 + (d - 48)) * 10 + (e - 48)) ds))
+
 -- a number below 5 without a leading zero has one digit, and is not 0
 pub small-one : (most : ℕ) (ds : Bytes) → Numeral most ds → value ds < 5 → (length ds ≡ 1) × (0 < value ds)
 small-one most [] w k = absurd (omega (arith, w .some-digit))

@@ -1,23 +1,21 @@
 -- F5: reading in pieces. However a stream is cut, the frames that come out, and when, and the rest that stays, are those of the whole.
 use Prim.Native.Nat.{ℕ, zero, suc, _+_, _-_, _≤_, _<_}
-use native.Mathlib.Numerals.{add-one}
 use native.Mathlib.Decide.{decLe, decLt}
 use native.Mathlib.Omega.{arith}
 use mathlib.Core.Path.{_≡_, refl, sym, ap, ap₂, _∙_, subst}
-use mathlib.Core.Logic.{inl}
 use mathlib.Core.List.{List, [], _∷_, _++_, append-assoc, append-nil, append-cancel-left}
-use lib.ListN.{length, take, drop, getD, length-append, length-drop, length-take, take-append-drop}
-use lib.Seq.{take-at, take-suc, take-append-le, drop-append-le}
+use lib.ListN.{length, take, drop, getD, length-append, take-append-drop}
+use lib.Seq.{take-at, take-all, take-suc, take-append-le, drop-append-le}
 use Rattle.frame.specs.Bytes.{Bytes}
-use Rattle.frame.specs.Frame.{Rule, Good, GoodAt}
-use Rattle.frame.specs.Reading.{refusal, Reads}
+use Rattle.frame.specs.Frame.{Rule, Good, GoodAt, longest}
 use Rattle.frame.specs.Mark.{MarkOk}
 use Rattle.frame.specs.Stream.{Frames, rest, next, Drained, keep, Fed, end, piece, joined}
+use Rattle.frame.specs.Promise.{EndsIn, ComesOut}
 use Rattle.frame.proofs.Lists.{part-more}
 use Rattle.frame.proofs.Good.{good-at-length, good-more, good-less, good-unique, good-here}
 use Rattle.frame.proofs.Apart.{apart, left-more}
 use Rattle.frame.proofs.Streams.{frames, frames-at, frames-are, are-frames, frames-around, clear-rest}
-use Rattle.frame.proofs.Worked.{drained-at, drained-frames, drained-join, drained-of, drained-short}
+use Rattle.frame.proofs.Worked.{drained-at, drained-frames, drained-join, drained-of, drained-one, drained-short}
 
 -- pieces, and further pieces
 pub joined-append : {A : Type 0} (xs ys : List (List A)) → joined (xs ++ ys) ≡ joined xs ++ joined ys
@@ -75,8 +73,16 @@ module _ (R : Rule) where
     frames-cut F = sym (frames-are R ok (drained-frames R (fed-whole F)))
 
     -- F5: less than a longest frame stays
-    pub fed-short : {xs : List Bytes} {fss : List (List Bytes)} {r : Bytes} → Fed R [] xs fss r → length r < length (R .mark) + (R .most + 2056)
+    pub fed-short : {xs : List Bytes} {fss : List (List Bytes)} {r : Bytes} → Fed R [] xs fss r → length r < longest R
     fed-short F = drained-short R ok (fed-whole F)
+
+    -- a cutting has one outcome
+    pub fed-one : {r q r′ q′ : Bytes} {xs : List Bytes} {fss gss : List (List Bytes)} → r ≡ q → Fed R r xs fss r′ → Fed R q xs gss q′ → (fss ≡ gss) × (r′ ≡ q′)
+    fed-one e end end = (refl, e)
+    fed-one e (piece {x = x} D F) (piece E H) =
+        let d = drained-one R ok (ap (λ (y : Bytes). y ++ x) e) D E in
+        let f = fed-one (d .1) F H in
+        (ap₂ (λ (y : List Bytes) (z : List (List Bytes)). y ∷ z) (d .0) (f .0), f .1)
 
     -- every cutting has its outcome
     pub fed-of : (r : Bytes) (xs : List Bytes) → (fss : List (List Bytes)) × ((r′ : Bytes) × Fed R r xs fss r′)
@@ -148,22 +154,70 @@ module _ (R : Rule) where
             let F = begun-none g₀ g₁ (subst (λ (y : Bytes). Good R y) f′ G) (omega arith) (are-frames R ok a) in
             ([], sym (append-nil (frames R ok s) ∙ ap (λ (y : Bytes). frames R ok y) f ∙ frames-are R ok F))
 
-    -- F5, demand 3: "However the stream is cut, the good frame comes out while the piece with its last byte is worked off": g ends in piece k
-    pub comes-out : {xs : List Bytes} {fss : List (List Bytes)} {r : Bytes} → Fed R [] xs fss r → (k : ℕ) → k < length xs → (a g b : Bytes) → Good R g
-        → joined (take (suc k) xs) ≡ a ++ (g ++ b) → length (joined (take k xs)) < length a + length g
-        → (us : List Bytes) × ((vs : List Bytes) × (getD fss k [] ≡ us ++ (g ∷ vs)))
-    comes-out {xs} {fss} F k h a g b G e l =
+    -- a piece that is there, by which g has ended, and the bytes up to its end
+    ends-in : {xs : List Bytes} {k : ℕ} {a g b : Bytes} → EndsIn xs k a g b → (k < length xs) × ((b′ : Bytes) × (joined (take (suc k) xs) ≡ a ++ (g ++ b′)))
+    ends-in {xs} {k} {a} {g} {b} E = (there (decLt k (length xs)), (b′, e ∙ append-assoc a g b′))
+      where
+        s : Bytes
+        s = joined (take (suc k) xs)
+
+        b′ : Bytes
+        b′ = drop (length (a ++ g)) s
+
+        whole : a ++ g ++ b ≡ s ++ joined (drop (suc k) xs)
+        whole =
+            append-assoc a g b ∙ sym (E .stream) ∙ ap joined (sym (take-append-drop (suc k) xs)) ∙ joined-append (take (suc k) xs) (drop (suc k) xs)
+
+        e : s ≡ a ++ g ++ b′
+        e = begins (a ++ g) b s (joined (drop (suc k) xs)) whole (omega (arith, length-append a g, E .by-then))
+
+        there : Dec (k < length xs) → k < length xs
+        there (yes l) = l
+        there (no l) =
+            let f : take k xs ≡ take (suc k) xs = take-all k xs (omega arith) ∙ sym (take-all (suc k) xs (omega arith)) in
+            absurd (omega (arith, E .not-before, E .by-then, ap (λ (ys : List Bytes). length (joined ys)) f))
+
+    -- F5, demand 3: "However the stream is cut, the good frame comes out while the piece with its last byte is worked off"
+    pub comes-out : {xs : List Bytes} {fss : List (List Bytes)} {r : Bytes} → Fed R [] xs fss r → (k : ℕ) (a g b : Bytes) → Good R g → EndsIn xs k a g b → ComesOut R fss k a g
+    comes-out {xs} {fss} F k a g b G E =
+        let h = (ends-in E) .0 in
+        let b′ = (ends-in E) .1 .0 in
+        let e = (ends-in E) .1 .1 in
         let s = joined (take k xs) in
         let x = getD xs k [] in
         let s′ : joined (take (suc k) xs) ≡ s ++ x = one-more xs k [] h in
-        let w = frames-before s x a g b G (sym s′ ∙ e) l in
+        let w = frames-before s x a g b′ G (sym s′ ∙ e) (E .not-before) in
         let p : joined (take k fss) ≡ frames R ok s = frames-so-far F k in
-        let q : frames R ok s ++ getD fss k [] ≡ frames R ok s ++ (w .0 ++ (g ∷ frames R ok b)) =
+        let q : frames R ok s ++ getD fss k [] ≡ frames R ok s ++ (w .0 ++ (g ∷ frames R ok b′)) =
         ap (λ (y : List Bytes). y ++ getD fss k []) (sym p)
         ∙ sym (one-more fss k [] (omega (arith, fed-length F)))
         ∙ frames-so-far F (suc k)
         ∙ ap (λ (y : Bytes). frames R ok y) e
-        ∙ frames-around R ok a g b G
-        ∙ ap (λ (y : List Bytes). y ++ (g ∷ frames R ok b)) (w .1)
-        ∙ append-assoc (frames R ok s) (w .0) (g ∷ frames R ok b) in
-        (w .0, (frames R ok b, append-cancel-left (frames R ok s) _ _ q))
+        ∙ frames-around R ok a g b′ G
+        ∙ ap (λ (y : List Bytes). y ++ (g ∷ frames R ok b′)) (w .1)
+        ∙ append-assoc (frames R ok s) (w .0) (g ∷ frames R ok b′) in
+        record {
+          before = w .0;
+          after = frames R ok b′;
+          here = append-cancel-left (frames R ok s) _ _ q;
+          behind = frames-at R refl (w .1 ∙ ap (λ (y : List Bytes). y ++ w .0) (sym p)) (are-frames R ok a);
+        }
+
+-- of bytes cut into pieces, the n-th is in one of them
+piece-of : (xs : List Bytes) (n : ℕ) → 0 < n → n ≤ length (joined xs) → (k : ℕ) × ((length (joined (take k xs)) < n) × (n ≤ length (joined (take (suc k) xs))))
+piece-of [] n h l = absurd (omega arith)
+piece-of (x ∷ xs) n h l = go (decLe n (length x)) (λ i. piece-of xs (n - length x) i)
+  where
+    go : Dec (n ≤ length x)
+        → (0 < n - length x → n - length x ≤ length (joined xs) → (k : ℕ) × ((length (joined (take k xs)) < n - length x) × (n - length x ≤ length (joined (take (suc k) xs)))))
+        → (k : ℕ) × ((length (joined (take k (x ∷ xs))) < n) × (n ≤ length (joined (take (suc k) (x ∷ xs)))))
+    go (yes y) later = (0, (h, omega (arith, length-append x [])))
+    go (no y) later =
+        let w = later (omega arith) (omega (arith, l, length-append x (joined xs))) in
+        (suc (w .0), (omega (arith, w .1 .0, length-append x (joined (take (w .0) xs))), omega (arith, w .1 .1, length-append x (joined (take (suc (w .0)) xs)))))
+
+-- the last byte of some bytes g is in a piece
+pub some-piece : (xs : List Bytes) (a g b : Bytes) → 0 < length g → joined xs ≡ a ++ (g ++ b) → (k : ℕ) × EndsIn xs k a g b
+some-piece xs a g b h e =
+    let w = piece-of xs (length a + length g) (omega arith) (omega (arith, ap length e, length-append a (g ++ b), length-append g b)) in
+    (w .0, record { stream = e; not-before = w .1 .0; by-then = w .1 .1 })

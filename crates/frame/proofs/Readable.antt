@@ -8,7 +8,7 @@ use mathlib.Core.List.{[], _∷_, _++_, append-nil, append-assoc}
 use lib.ListN.{length, take, drop, getD, length-append, take-append-drop, List·getD-append}
 use lib.Seq.{take-at, drop-at, length-take-le, getD-append-add, getD-drop, getD-take}
 use Rattle.frame.specs.Bytes.{Bytes, fix, value, numeral, At}
-use Rattle.frame.specs.Frame.{Rule, Length, Body, Good, GoodAt, Live, front, trailer, sumOf}
+use Rattle.frame.specs.Frame.{Rule, Length, Body, Good, GoodAt, Live, front, trailer, sumOf, longest}
 use Rattle.frame.specs.Reading.{Answer, frame, refusal, Reads}
 use Rattle.frame.specs.Mark.{MarkOk}
 use Rattle.frame.proofs.Lists.{part-length, regroup}
@@ -95,9 +95,6 @@ module _ (R : Rule) where
       (suc (length s)) (λ n G. omega (arith, G .inside))
 
   -- ---- a live position: where any bytes could follow, some of at most a frame's length could
-  abbrev longest : ℕ
-  longest = length (R .mark) + (R .most + 2056)
-
   module _ (ok : MarkOk (R .mark)) where
     -- a good frame is made of bytes
     good-small : (g : Bytes) → Good R g → (i : ℕ) → i < length g → getD g i 0 < 256
@@ -211,13 +208,13 @@ module _ (R : Rule) where
       live? : Dec (Live R s p)
       live? = go (good-at? s p)
         where
-          to : (k : ℕ) × ((k < suc longest) × Some k Ends) → Live R s p
+          to : (k : ℕ) × ((k < suc (longest R)) × Some k Ends) → Live R s p
           to w = let S = w .1 .1 in record { more = S .bytes; size = S .here .0; goodAt = S .here .1 }
 
-          from : (((n : ℕ) × GoodAt R s p n) → ⊥) → Live R s p → (k : ℕ) × ((k < suc longest) × Some k Ends)
+          from : (((n : ℕ) × GoodAt R s p n) → ⊥) → Live R s p → (k : ℕ) × ((k < suc (longest R)) × Some k Ends)
           from f w = pick (decLt (length s) (p + w .size))
             where
-              pick : Dec (length s < p + w .size) → (k : ℕ) × ((k < suc longest) × Some k Ends)
+              pick : Dec (length s < p + w .size) → (k : ℕ) × ((k < suc (longest R)) × Some k Ends)
               pick (yes l) = (p + w .size - length s, (omega (arith, (good-at-length R (w .goodAt)) .1), live-cut w l))
               pick (no l) = absurd (f (w .size, good-less R s (w .more) (w .goodAt) (omega arith)))
 
@@ -225,7 +222,7 @@ module _ (R : Rule) where
           go (yes w) = yes (good-live R (w .1))
           go (no f) =
               turn to (from f)
-              (some-below (λ k. (k < suc longest) × Some k Ends) (λ k. both? (decLt k (suc longest)) (some-bytes k Ends (λ t. good-at? (s ++ t) p))) (suc longest) (λ k w. w .0))
+              (some-below (λ k. (k < suc (longest R)) × Some k Ends) (λ k. both? (decLt k (suc (longest R))) (some-bytes k Ends (λ t. good-at? (s ++ t) p))) (suc (longest R)) (λ k w. w .0))
 
     -- every byte string has its reading
     pub reads-of : (s : Bytes) → (a : Answer) × Reads R s a

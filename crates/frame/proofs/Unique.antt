@@ -1,20 +1,16 @@
--- F2: any two outcomes that a reading's contract allows are equal; and what an outcome says of bytes that are one good frame.
-use Prim.Native.Nat.{ℕ, zero, suc, _+_, _≤_, _<_}
+-- F2: any two readings of a byte string are equal; and what a reading says of bytes that are one good frame.
+use Prim.Native.Nat.{ℕ, zero, suc, _≤_, _<_}
 use native.Mathlib.Omega.{arith}
 use native.Mathlib.Decide.{decLt}
 use mathlib.Core.Path.{_≡_, refl, sym, ap, ap₂, _∙_, subst}
 use mathlib.Core.Logic.{_⊎_, inl, inr}
-use mathlib.Core.Bool.{Bool, true, false}
-use mathlib.Core.List.{List, [], _∷_}
-use lib.ListN.{length, take, drop, length-take}
+use lib.ListN.{length, take, drop}
 use lib.Seq.{take-length}
-use Rattle.frame.specs.Bytes.{Bytes, value}
-use Rattle.frame.specs.Frame.{Rule, Good, GoodAt, Live, BodyOf, its-body, no-frame}
-use Rattle.frame.specs.code.Leaf.{Number, Digits}
-use Rattle.frame.specs.Reading.{Answer, frame, refusal, numbers, Leftmost, Unfinished, Reads, answered, Handed}
-use Rattle.frame.specs.declared.Reading.{Reading}
+use Rattle.frame.specs.Bytes.{Bytes}
+use Rattle.frame.specs.Frame.{Rule, Good, GoodAt, Live}
+use Rattle.frame.specs.Reading.{Answer, frame, refusal, Leftmost, Unfinished, Reads, ReadsAs, answered, Handed}
 use Rattle.frame.specs.declared.Reading.the-variants.{Frame, NoFrame}
-use Rattle.frame.proofs.Good.{good-unique, good-at-length, good-whole, good-body}
+use Rattle.frame.proofs.Good.{good-unique, good-at-length, good-whole}
 
 -- what holds at p, and for no place before q
 pub not-before : (p q : ℕ) (P : ℕ → Type 0) → P p → ((k : ℕ) → k < q → P k → ⊥) → q ≤ p
@@ -23,6 +19,27 @@ not-before p q P h none = go (decLt p q)
     go : Dec (p < q) → q ≤ p
     go (yes l) = absurd (none p l h)
     go (no l) = omega arith
+
+-- an answer in numbers alone tells the answer
+pub answered-same : (at n at′ n′ : ℕ) → answered at n ≡ answered at′ n′ → (at ≡ at′) × (n ≡ n′)
+answered-same at n at′ n′ e =
+    (sym (answered-at at n) ∙ ap at-of e ∙ answered-at at′ n′, sym (answered-length at n) ∙ ap length-of e ∙ answered-length at′ n′)
+  where
+    at-of : Answer → ℕ
+    at-of (frame p k) = p
+    at-of (refusal j d) = d
+
+    length-of : Answer → ℕ
+    length-of (frame p k) = k
+    length-of (refusal j d) = 0
+
+    answered-at : (p k : ℕ) → at-of (answered p k) ≡ p
+    answered-at p zero = refl
+    answered-at p (suc k) = refl
+
+    answered-length : (p k : ℕ) → length-of (answered p k) ≡ k
+    answered-length p zero = refl
+    answered-length p (suc k) = refl
 
 module _ (R : Rule) (s : Bytes) where
   pub left-one : {p n q m : ℕ} → Leftmost R s p n → Leftmost R s q m → (p ≡ q) × (n ≡ m)
@@ -56,46 +73,15 @@ module _ (R : Rule) (s : Bytes) where
   reads-one (refusal k d) (frame p n) A B = absurd (A .1 .none p n (B .here))
   reads-one (refusal k d) (refusal j f) A B = ap₂ refusal (A .0 ∙ sym (B .0)) (unfinished-one (A .1) (B .1))
 
-  -- F2 for the enum
-  pub reading-one : (a b : Reading) → Reads R s (numbers a) → Reads R s (numbers b) → a ≡ b
-  reading-one (Frame p n) (Frame q m) A B = let e = left-one A B in ap₂ Frame (e .0) (e .1)
-  reading-one (Frame p n) (NoFrame d) A B = absurd (B .1 .none p n (A .here))
-  reading-one (NoFrame d) (Frame p n) A B = absurd (A .1 .none p n (B .here))
-  reading-one (NoFrame d) (NoFrame f) A B = ap NoFrame (unfinished-one (A .1) (B .1))
-
-  -- F2 for the part of the caller's bytes and the number
-  abbrev at-of : Answer → ℕ
-  at-of (frame p n) = p
-  at-of (refusal k d) = d
-
-  abbrev length-of : Answer → ℕ
-  length-of (frame p n) = n
-  length-of (refusal k d) = 0
-
-  answered-at : (at n : ℕ) → at-of (answered at n) ≡ at
-  answered-at at zero = refl
-  answered-at at (suc n) = refl
-
-  answered-length : (at n : ℕ) → length-of (answered at n) ≡ n
-  answered-length at zero = refl
-  answered-length at (suc n) = refl
-
-  pub handed-one : (r r′ : Bytes) (at at′ : ℕ) → Handed R s r at → Handed R s r′ at′ → (r ≡ r′) × (at ≡ at′)
-  handed-one r r′ at at′ A B =
-      let e = reads-one (answered at (length r)) (answered at′ (length r′)) (A .reads) (B .reads) in
-      let e₁ : at ≡ at′ = sym (answered-at at (length r)) ∙ ap at-of e ∙ answered-at at′ (length r′) in
-      let e₂ : length r ≡ length r′ = sym (answered-length at (length r)) ∙ ap length-of e ∙ answered-length at′ (length r′) in
-      (A .part ∙ ap₂ (λ (n k : ℕ). take n (drop k s)) e₂ e₁ ∙ sym (B .part), e₁)
-
   -- ---- s is one good frame just where the reading hands out all of it
   frame-left : {at n : ℕ} → Reads R s (answered at n) → 0 < n → Leftmost R s at n
   frame-left {n = zero} A h = absurd (omega arith)
   frame-left {n = suc n} A h = A
 
-  pub told-frame : (r : Bytes) (at : ℕ) → Handed R s r at → (length r ≡ 0 → ⊥) → Reads R s (numbers (Frame at (length r)))
+  pub told-frame : (r : Bytes) (at : ℕ) → Handed R s r at → (length r ≡ 0 → ⊥) → ReadsAs R s (Frame at (length r))
   told-frame r at A h = frame-left (A .reads) (omega arith)
 
-  pub told-none : (r : Bytes) (at : ℕ) → Handed R s r at → length r ≡ 0 → Reads R s (numbers (NoFrame at))
+  pub told-none : (r : Bytes) (at : ℕ) → Handed R s r at → length r ≡ 0 → ReadsAs R s (NoFrame at)
   told-none r at A e = subst (λ (n : ℕ). Reads R s (answered at n)) e (A .reads)
 
   pub whole-handed : (r : Bytes) (at : ℕ) → Handed R s r at → Good R s → (at ≡ 0) × (length r ≡ length s)
@@ -107,43 +93,9 @@ module _ (R : Rule) (s : Bytes) where
       pick (suc n) e =
           let L : Leftmost R s 0 (suc n) =
           record { here = subst (λ (k : ℕ). GoodAt R s 0 k) e (good-whole R s G); left = λ q m l. absurd (omega arith) } in
-          let f = reads-one (answered at (length r)) (frame 0 (suc n)) (A .reads) L in
-          (sym (answered-at at (length r)) ∙ ap at-of f, sym (answered-length at (length r)) ∙ ap length-of f ∙ sym e)
+          let f = answered-same at (length r) 0 (suc n) (reads-one (answered at (length r)) (answered 0 (suc n)) (A .reads) L) in
+          (f .0, f .1 ∙ sym e)
 
   pub handed-whole : (r : Bytes) (at : ℕ) → Handed R s r at → 0 < length r → at ≡ 0 → length r ≡ length s → Good R s
   handed-whole r at A h e k =
       subst (λ (l : Bytes). Good R l) (ap₂ (λ (n i : ℕ). take n (drop i s)) k e ∙ take-length s) ((frame-left (A .reads) h) .here .good)
-
--- one outcome of asking for the body
-pub body-one : (R : Rule) {f r r′ : Bytes} → BodyOf R f r → BodyOf R f r′ → r ≡ r′
-body-one R {f} (its-body G) (its-body H) = good-body R f G H
-body-one R (its-body G) (no-frame h) = absurd (h G)
-body-one R (no-frame h) (its-body G) = absurd (h G)
-body-one R (no-frame h) (no-frame k) = refl
-
--- of asking whether bytes are one good frame
-pub whether-one : (R : Rule) {s : Bytes} (b b′ : Bool) → (b ≡ true → Good R s) × (Good R s → b ≡ true) → (b′ ≡ true → Good R s) × (Good R s → b′ ≡ true) → b ≡ b′
-whether-one R true b′ A B = sym (B .1 (A .0 refl))
-whether-one R false true A B = A .1 (B .0 refl)
-whether-one R false false A B = refl
-
--- of reading digits
-number-one : {s : Bytes} {p most v c v′ c′ : ℕ} → Number s p most v c → Number s p most v′ c′ → (v ≡ v′) × (c ≡ c′)
-number-one {s} {p} {most} {c = c} {c′ = c′} A B =
-    let e : c ≡ c′ = omega (arith, not-more A B, not-more B A) in
-    (A .worth ∙ ap (λ (n : ℕ). value (take n (drop p s))) e ∙ sym (B .worth), e)
-  where
-    not-more : {v v′ c c′ : ℕ} → Number s p most v c → Number s p most v′ c′ → c′ ≤ c
-    not-more {c = c} {c′ = c′} X Y = go (decLt c c′)
-      where
-        go : Dec (c < c′) → c′ ≤ c
-        go (yes l) = absurd (X .stop (omega (arith, Y .few)) (omega (arith, Y .within)) (Y .digits c l))
-        go (no l) = omega arith
-
-pub digits-one : {s : Bytes} {p most v c v′ c′ : ℕ} → Digits s p most v c → Digits s p most v′ c′ → (v ≡ v′) × (c ≡ c′)
-digits-one {s} {p} {most} {v} {c} {v′} {c′} A B = go (decLt (length s) p) (decLt 12 most)
-  where
-    go : Dec (length s < p) → Dec (12 < most) → (v ≡ v′) × (c ≡ c′)
-    go (yes l) d = (A .behind l .0 ∙ sym (B .behind l .0), A .behind l .1 ∙ sym (B .behind l .1))
-    go (no l) (yes h) = (A .above h .0 ∙ sym (B .above h .0), A .above h .1 ∙ sym (B .above h .1))
-    go (no l) (no h) = number-one (A .inside (omega arith) (omega arith)) (B .inside (omega arith) (omega arith))

@@ -9,7 +9,7 @@ use mathlib.Core.List.{List, [], _∷_, _++_, append-assoc, append-nil}
 use lib.ListN.{length, take, drop, length-append, length-drop}
 use lib.Seq.{drop-append-le, drop-drop}
 use Rattle.frame.specs.Bytes.{Bytes}
-use Rattle.frame.specs.Frame.{Rule, Good, GoodAt, Live}
+use Rattle.frame.specs.Frame.{Rule, Good, GoodAt, Live, longest}
 use Rattle.frame.specs.Reading.{Answer, frame, refusal, Leftmost, Unfinished, Reads}
 use Rattle.frame.specs.Mark.{MarkOk}
 use Rattle.frame.specs.Stream.{Frames, rest, next, Drained, keep, hand}
@@ -162,17 +162,17 @@ module _ (R : Rule) where
     drained-of s = drained-within (suc (length s)) s (omega arith)
 
     -- "Under refusal 1 at most 2,072 bytes stay pending": less than a longest frame
-    pub rest-short : (s : Bytes) {d : ℕ} → Unfinished R s d → length (drop d s) < length (R .mark) + (R .most + 2056)
+    pub rest-short : (s : Bytes) {d : ℕ} → Unfinished R s d → length (drop d s) < longest R
     rest-short s {d} U = go (U .stop)
       where
-        go : (d ≡ length s) ⊎ ((d < length s) × Live R s d) → length (drop d s) < length (R .mark) + (R .most + 2056)
+        go : (d ≡ length s) ⊎ ((d < length s) × Live R s d) → length (drop d s) < longest R
         go (inl e) = omega (arith, length-drop d s)
         go (inr v) = fits (decLe (d + v .1 .size) (length s))
           where
-            fits : Dec (d + v .1 .size ≤ length s) → length (drop d s) < length (R .mark) + (R .most + 2056)
+            fits : Dec (d + v .1 .size ≤ length s) → length (drop d s) < longest R
             fits (yes k) = absurd (U .none d (v .1 .size) (good-less R s (v .1 .more) (v .1 .goodAt) k))
             fits (no k) = omega (arith, length-drop d s, (good-at-length R (v .1 .goodAt)) .1)
 
-    pub drained-short : {s r : Bytes} {fs : List Bytes} → Drained R s fs r → length r < length (R .mark) + (R .most + 2056)
+    pub drained-short : {s r : Bytes} {fs : List Bytes} → Drained R s fs r → length r < longest R
     drained-short {s} (keep d A) = rest-short s (A .1)
     drained-short (hand p n A D) = drained-short D

@@ -1,8 +1,8 @@
 -- Document 01, "The good frame", sentence by sentence, over a rule.
 use Prim.Native.Nat.{ℕ, _+_, _-_, _/_, _%_, _≤_, _<_}
 use mathlib.Core.Path.{_≡_}
-use mathlib.Core.Bool.{true}
-use mathlib.Core.List.{List, [], _∷_, _++_}
+use mathlib.Core.Bool.{Bool, true}
+use mathlib.Core.List.{[], _∷_, _++_}
 use lib.ListN.{length, take, drop, getD}
 use Rattle.frame.specs.Bytes.{Bytes, byte, fix, sum, value, numeral, At}
 
@@ -60,6 +60,11 @@ pub record Good (R : Rule) (g : Bytes) : Type 0 where
   pub whole : g ≡ front R digits body ++ trailer (sumOf R digits body)
   pub once : (q : ℕ) → 0 < q → At g q (R .mark) → ⊥
 
+-- "The longest frame is 2,073 bytes": the mark, the digits of 2,048, `|`, 2,048 bytes, the trailer. (A greater digit limit makes no longer frame: no
+-- zero leads, so a length up to 2,048 has no more than these digits.)
+abbrev pub longest : Rule → ℕ
+longest R = length (R .mark) + (length (fix "2048") + (length (fix "|") + (2048 + length (trailer 0))))
+
 -- A good frame of n bytes stands in s at p.
 pub record GoodAt (R : Rule) (s : Bytes) (p n : ℕ) : Type 0 where
   pub inside : p + n ≤ length s
@@ -70,6 +75,11 @@ pub record Live (R : Rule) (s : Bytes) (p : ℕ) : Type 0 where
   pub more : Bytes
   pub size : ℕ
   pub goodAt : GoodAt R (s ++ more) p size
+
+-- Whether f is exactly one good frame: yes only for one, and for every one.
+pub record Whether (R : Rule) (f : Bytes) (b : Bool) : Type 0 where
+  pub only : b ≡ true → Good R f
+  pub every : Good R f → b ≡ true
 
 -- The body of exactly one good frame, as the layers above ask for it; no bytes where f is none. (A body has at least five.)
 pub data BodyOf (R : Rule) (f : Bytes) : Bytes → Type 0 where

@@ -4,4 +4,5 @@ pub mod Mark
 pub mod Reading
 pub mod Stream
 pub mod Line
+pub mod Promise
 pub mod code

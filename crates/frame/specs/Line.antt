@@ -1,5 +1,6 @@
 -- A line buffer that the host lends, the two calls that change it, and the host's loop over these calls and the reading.
 use Prim.Native.Nat.{ℕ, _+_, _-_, _≤_, _<_}
+use mathlib.Core.Path.{_≡_}
 use mathlib.Core.List.{List, [], _∷_, _++_}
 use mathlib.Core.Bool.{cond}
 use lib.Dec.{leb}
@@ -40,6 +41,13 @@ dropped l n =
       buffer = drop n (pending l) ++ drop (length (pending l) - n) (l .buffer);
       held = length (pending l) - n;
     }
+
+-- What the two calls answer and leave, with every byte of the buffer: how many bytes were put, and how many are then pending.
+abbrev pub Puts : Bytes → ℕ → Bytes → ℕ → Bytes → Type 0
+Puts buffer held piece count left = line left (held + count) ≡ put (line buffer held) piece
+
+abbrev pub Drops : Bytes → ℕ → ℕ → ℕ → Bytes → Type 0
+Drops buffer held n still left = line left still ≡ dropped (line buffer held) n
 
 -- The host reads what is pending and drops, until refusal 1.
 pub data Worked (R : Rule) : Line → List Bytes → Line → Type 0 where

@@ -1,5 +1,5 @@
 -- One reading of a byte string: what it answers, and what document 01 allows it to answer.
-use Prim.Native.Nat.{ℕ, zero, suc, _≤_, _<_}
+use Prim.Native.Nat.{ℕ, zero, suc, _<_}
 use mathlib.Core.Path.{_≡_}
 use mathlib.Core.Logic.{_⊎_}
 use lib.ListN.{length, take, drop}
@@ -33,6 +33,10 @@ pub record Unfinished (R : Rule) (s : Bytes) (d : ℕ) : Type 0 where
 abbrev pub Reads : Rule → Bytes → Answer → Type 0
 Reads R s (frame skip len) = Leftmost R s skip len
 Reads R s (refusal number drop) = (number ≡ 1) × Unfinished R s drop
+
+-- the same for the code's enum
+abbrev pub ReadsAs : Rule → Bytes → Reading → Type 0
+ReadsAs R s r = Reads R s (numbers r)
 
 -- The answer in numbers alone: `at` bytes to skip or drop, and a frame of n bytes; n is 0 under refusal 1, since no good frame is empty.
 abbrev pub answered : ℕ → ℕ → Answer

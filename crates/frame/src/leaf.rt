@@ -1,8 +1,8 @@
 // The leaves of the scan: bytes compared, digits read, bytes summed, a byte and a row of bytes looked for.
 ghost use mathlib.Core.Path.{_≡_};
-ghost use mathlib.Core.Bool.{Bool, true, false};
-ghost use Prim.Native.Nat.{ℕ, _+_, _-_, _*_, _%_, _≤_, _<_};
-ghost use lib.ListN.{length, take, drop, getD};
+ghost use mathlib.Core.Bool.{true, false};
+ghost use Prim.Native.Nat.{_+_, _-_, _*_, _%_, _≤_, _<_};
+ghost use lib.ListN.{length};
 ghost use Rattle.frame.specs.Bytes.{sum};
 ghost use Rattle.frame.specs.code.Leaf.{wordAt, Standing, Matched, Number, Digits, FirstByte, Calm, Free, NextStart, Around, Searched};
 
@@ -90,7 +90,7 @@ pub fn number(s: &[u8], at: usize, most: usize) -> Num
 
 // The same for any place and any limit: no digits behind the end, and none above a limit of 12.
 pub fn digits(s: &[u8], at: usize, most: usize) -> Num
-    ensures { λ r. ⌜ Digits (now (s .entry)) at most (r .value) (r .count) ⌝ }
+    ensures { λ r. ⌜ Digits (now (s .entry)) at most r ⌝ }
 {
     let none = Num { value: 0, count: 0 };
     if s.len() < at {
@@ -107,7 +107,7 @@ pub fn checksum(s: &[u8]) -> u8
     ensures { λ r. ⌜ r ≡ sum (now (s .entry)) % 256 ⌝ }
 {
     let mut t: u8 = 0;
-    let mut i = 0;
+    let mut i: usize = 0;
     while i < s.len() {
         t = std::num::wrapping_add_u8(t, s[i]);
         i += 1;

@@ -13,11 +13,9 @@ pub use line::put_piece;
 use parts::Part;
 use parts::Step;
 use parts::look;
-ghost use mathlib.Core.Bool.{true};
-ghost use mathlib.Core.Path.{_≡_};
-ghost use Rattle.frame.specs.Frame.{ruleOf, fixt, Good, BodyOf};
+ghost use Rattle.frame.specs.Frame.{ruleOf, fixt, Whether, BodyOf};
 ghost use Rattle.frame.specs.Mark.{MarkOk};
-ghost use Rattle.frame.specs.Reading.{Reads, numbers, Handed};
+ghost use Rattle.frame.specs.Reading.{ReadsAs, Handed};
 
 // One reading's answer: a frame with the bytes skipped before it, or refusal 1 with the bytes to drop.
 pub enum Reading {
@@ -80,7 +78,7 @@ pub fn read<'a>(s: &'a [u8], at: &mut usize) -> &'a [u8]
 
 // The same in numbers alone.
 pub fn reading_of(s: &[u8]) -> Reading
-    ensures { λ r. ⌜ Reads fixt (now (s .entry)) (numbers r) ⌝ }
+    ensures { λ r. ⌜ ReadsAs fixt (now (s .entry)) r ⌝ }
 {
     let mut at: usize = 0;
     let n = read(s, &mut at).len();
@@ -92,7 +90,7 @@ pub fn reading_of(s: &[u8]) -> Reading
 
 // Whether s is exactly one good frame.
 pub fn is_frame(s: &[u8]) -> bool
-    ensures { λ b. ⌜ ((b ≡ true → Good fixt (now (s .entry))) × (Good fixt (now (s .entry)) → b ≡ true)) ⌝ }
+    ensures { λ r. ⌜ Whether fixt (now (s .entry)) r ⌝ }
 {
     let mut at: usize = 0;
     let n = read(s, &mut at).len();

@@ -5,7 +5,7 @@ ghost use Prim.Native.Nat.{_+_, _-_, _≤_};
 ghost use lib.Dec.{leb};
 ghost use lib.ListN.{length, drop};
 ghost use lib.Seq.{paste};
-ghost use Rattle.frame.specs.Line.{line, put, dropped};
+ghost use Rattle.frame.specs.Line.{Puts, Drops};
 
 // Puts the first n bytes of src into buf, from at on.
 fn copy_in(buf: &mut [u8], at: usize, src: &[u8], n: usize)
@@ -43,7 +43,7 @@ fn lesser(a: usize, b: usize) -> usize
 
 // Puts a piece behind the pending bytes, as much of it as fits, and answers how much that was. The bytes behind it stay as they are.
 pub fn put_piece(buf: &mut [u8], held: usize, piece: &[u8]) -> usize
-    ensures { λ r. ⌜ line (now (buf .exit)) (held + r) ≡ put (line (now (buf .entry)) held) (now (piece .entry)) ⌝ }
+    ensures { λ r. ⌜ Puts (now (buf .entry)) held (now (piece .entry)) r (now (buf .exit)) ⌝ }
 {
     let len = buf.len();
     if len <= held {
@@ -56,7 +56,7 @@ pub fn put_piece(buf: &mut [u8], held: usize, piece: &[u8]) -> usize
 
 // Drops n bytes from the front of the pending ones and answers how many are then pending. The bytes behind these stay as they are.
 pub fn drop_front(buf: &mut [u8], held: usize, n: usize) -> usize
-    ensures { λ r. ⌜ line (now (buf .exit)) r ≡ dropped (line (now (buf .entry)) held) n ⌝ }
+    ensures { λ r. ⌜ Drops (now (buf .entry)) held n r (now (buf .exit)) ⌝ }
 {
     let h = lesser(held, buf.len());
     if h <= n {

@@ -14,29 +14,29 @@ use Rattle.frame.proofs.body_of.Tie as tie
 
 number-requires : tie.Need-number-requires
 unfolding fixt
-number-requires c κs = let G = c .before .is-frame .ensures .0 (c .if1 .taken) in omega (arith, good-shortest fixt _ G)
+number-requires c κs = let G = c .before .is-frame .ensures .only (c .if1 .taken) in omega (arith, good-shortest fixt _ G)
 
 sub-result : tie.Need-sub-result
 unfolding fixt
 sub-result c =
-    let G = c .before .before .is-frame .ensures .0 (c .before .if1 .taken) in omega (arith, (body-fits fixt _ G _ _ (c .number .ensures)) .0)
+    let G = c .before .before .is-frame .ensures .only (c .before .if1 .taken) in omega (arith, (body-fits fixt _ G _ _ (c .number .ensures)) .0)
 
 part-result-start : tie.Need-part-result-start
 unfolding fixt
 part-result-start c =
-    let G = c .before .before .is-frame .ensures .0 (c .before .if1 .taken) in omega (arith, (body-fits fixt _ G _ _ (c .number .ensures)) .0)
+    let G = c .before .before .is-frame .ensures .only (c .before .if1 .taken) in omega (arith, (body-fits fixt _ G _ _ (c .number .ensures)) .0)
 
 returns : tie.Need-returns
 unfolding fixt
 returns c =
     let f = now (c .before .before .before .before .before .args .f) in
     let n = c .before .number .result .count in
-    let G = c .before .before .before .is-frame .ensures .0 (c .before .before .if1 .taken) in
+    let G = c .before .before .before .is-frame .ensures .only (c .before .before .if1 .taken) in
     let e : 13 + (n + 1) ≡ 14 + n = omega arith in
     subst (λ (k : ℕ). BodyOf fixt f (take (length f - 7 - k) (drop k f))) e (body-is fixt f G _ _ (c .before .number .ensures))
 
 returns-2 : tie.Need-returns-2
-returns-2 c = no-frame (λ G. absurd (subst T (sym (c .before .before .is-frame .ensures .1 G) ∙ c .before .if1 .left) tt))
+returns-2 c = no-frame (λ G. absurd (subst T (sym (c .before .before .is-frame .ensures .every G) ∙ c .before .if1 .left) tt))
 
 pub body-of-spec : {M : Type 1} → statement M
 body-of-spec =

@@ -4,6 +4,7 @@ use mathlib.Core.Path.{_≡_}
 use mathlib.Core.Bool.{Bool, true, false}
 use lib.ListN.{length, take, drop, getD}
 use Rattle.frame.specs.Bytes.{Bytes, value, At, Digit}
+use Rattle.frame.specs.declared.leaf.Num.{Num}
 
 -- eight bytes as one number, the first one least
 abbrev pub wordAt : Bytes → ℕ → ℕ
@@ -39,10 +40,10 @@ pub record Number (s : Bytes) (p most v c : ℕ) : Type 0 where
   pub stop : c < most → p + c < length s → Digit (getD s (p + c) 0) → ⊥
 
 -- the same for every place and limit: a place behind the end and a limit above 12 have none
-pub record Digits (s : Bytes) (p most v c : ℕ) : Type 0 where
-  pub inside : p ≤ length s → most ≤ 12 → Number s p most v c
-  pub behind : length s < p → (v ≡ 0) × (c ≡ 0)
-  pub above : 12 < most → (v ≡ 0) × (c ≡ 0)
+pub record Digits (s : Bytes) (p most : ℕ) (r : Num) : Type 0 where
+  pub inside : p ≤ length s → most ≤ 12 → Number s p most (r .value) (r .count)
+  pub behind : length s < p → (r .value ≡ 0) × (r .count ≡ 0)
+  pub above : 12 < most → (r .value ≡ 0) × (r .count ≡ 0)
 
 -- the first place from a on, before e, at which the byte x stands; or e
 pub record FirstByte (s : Bytes) (a e x r : ℕ) : Type 0 where

@@ -34,7 +34,7 @@ returns-3 c =
     let s = now (a .s) in
     let S = c .before .before .before .before .before .before .before .before .pre .1 in
     let F = c .before .holds .ensures in
-    past-inside R s (c .before .before .before .before .before .before .before .before .pre .0) (a .p) (a .a) (a .n) S (length s) _ (omega arith) (c .if4 .taken) F (mark-inside R s (a .p) (a .a) (a .n) S (length s) (omega arith) _ (F .found (c .if4 .taken)))
+    past-inside R s (c .before .before .before .before .before .before .before .before .pre .0) (a .p) (a .a) (a .n) S (length s) _ (omega arith) (omega arith) F (mark-inside R s (a .p) (a .a) (a .n) S (length s) (omega arith) _ (F .found (omega arith)))
 
 returns-4 : tie.Need-returns-4
 returns-4 c =
@@ -59,7 +59,7 @@ returns-6 c =
     let s = now (a .s) in
     let S = c .before .before .before .before .before .before .before .before .before .before .pre .1 in
     let F = c .before .holds2 .ensures in
-    past-inside R s (c .before .before .before .before .before .before .before .before .before .before .pre .0) (a .p) (a .a) (a .n) S (a .a + a .n) _ (omega arith) (c .if6 .taken) F (mark-inside R s (a .p) (a .a) (a .n) S (a .a + a .n) (omega arith) _ (F .found (c .if6 .taken)))
+    past-inside R s (c .before .before .before .before .before .before .before .before .before .before .pre .0) (a .p) (a .a) (a .n) S (a .a + a .n) _ (omega arith) (omega arith) F (mark-inside R s (a .p) (a .a) (a .n) S (a .a + a .n) (omega arith) _ (F .found (omega arith)))
 
 returns-7 : tie.Need-returns-7
 returns-7 c =

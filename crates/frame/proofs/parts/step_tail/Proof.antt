@@ -49,7 +49,7 @@ returns c =
 sub-t20 : tie.Need-sub-t20
 sub-t20 c =
     let a = c .before .before .before .before .before .before .before .before .args in
-    past-room (ruleOf (now (a .mark))) (now (a .s)) (c .before .before .before .before .before .before .before .before .pre .0) (a .p) (a .a) (c .before .before .before .before .before .before .before .before .pre .1)
+    omega (arith, past-room (ruleOf (now (a .mark))) (now (a .s)) (c .before .before .before .before .before .before .before .before .pre .0) (a .p) (a .a) (c .before .before .before .before .before .before .before .before .pre .1))
 
 returns-2 : tie.Need-returns-2
 returns-2 c =
@@ -72,7 +72,7 @@ returns-3 c =
 sub-t30 : tie.Need-sub-t30
 sub-t30 c =
     let a = c .before .before .before .before .before .before .before .before .args in
-    past-room (ruleOf (now (a .mark))) (now (a .s)) (c .before .before .before .before .before .before .before .before .pre .0) (a .p) (a .a) (c .before .before .before .before .before .before .before .before .pre .1)
+    omega (arith, past-room (ruleOf (now (a .mark))) (now (a .s)) (c .before .before .before .before .before .before .before .before .pre .0) (a .p) (a .a) (c .before .before .before .before .before .before .before .before .pre .1))
 
 returns-4 : tie.Need-returns-4
 returns-4 c =
