@@ -10,3 +10,4 @@ pub mod Turns
 pub mod Types
 pub mod Clean
 pub mod Promise
+pub mod OneOutcome
