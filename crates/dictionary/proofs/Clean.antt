@@ -1,27 +1,32 @@
--- What a clean verdict says: the first field of a tag of the dictionary is of its kind, and each required tag is there.
+-- What a clean verdict says: each part is a field that passed, so the first field of a tag of the dictionary is of its kind; and each required tag
+-- is there.
 use Prim.Native.Nat.{ℕ, _≤_}
 use native.Mathlib.Omega.{arith}
 use borrow.Author.Tests.{eqb-true}
-use mathlib.Core.Path.{_≡_, refl, ap, sym, _∙_}
+use mathlib.Core.Path.{_≡_, refl, ap, sym, _∙_, subst}
 use mathlib.Core.List.{List, [], _∷_, _++_}
 use mathlib.Core.Bool.{Bool, true, false, cond, not, _&&_, _||_, false≢true}
 use mathlib.Core.Option.{Option, none, some}
 use mathlib.Core.Logic.{_⊎_, inl, inr}
 use lib.Dec.{eqb}
 use lib.ListN.{length, drop}
-use Rattle.frame.specs.Bytes.{Bytes, any, has, starts, within, value}
+use Rattle.frame.specs.Bytes.{Bytes, all, has, starts, within}
 use Rattle.fields.specs.Field.{Part, field, malformed, partOf, parts, firstOfParts, firstField, isBody}
 use Rattle.fields.proofs.Firsts.{tagged, starts-append, tag-part, part-split}
-use Rattle.kinds.specs.Kind.{formed, allowed}
-use Rattle.dictionary.specs.Dictionary.{Row, header, fields, kindIn, rowsOf, inDictionary}
-use Rattle.dictionary.specs.Verdict.{Open, Place, outside, inside, Past, _when_, firstOf, missing, closing, left, rule9, rule10, said, skipped, taken, after, verdictBy, walk, nothingYet, msgType, judgedAs, verdict}
+use Rattle.dictionary.specs.Dictionary.{Row, №453, №580, theNine, header, fields, rowsOf, listed, administrative, inDictionary}
+use Rattle.dictionary.specs.Verdict.{Open, Place, outside, inside, Past, _when_, firstOf, missing, closing, left, rule1, rule2, rule4, rule6, rule9, rule10, said, skipped, taken, after, verdictBy, walk, nothingYet, msgType, judgedAs, verdict}
 use Rattle.dictionary.specs.declared.MsgType.{MsgType}
 use Rattle.dictionary.specs.declared.Says.{Says}
 use Rattle.dictionary.specs.declared.Says.the-variants.{Nothing, Reason}
 use Rattle.dictionary.specs.declared.Verdict.{Verdict}
 use Rattle.dictionary.specs.declared.Verdict.the-variants.{Clean, NoBody}
+use Rattle.dictionary.specs.Promise.{OfKind, required, Passed, PassedPart, AllPassed, CleanBody}
+use Rattle.dictionary.specs.code.Held.{tags}
 use Rattle.frame.proofs.Numerals.{within-is}
-use Rattle.dictionary.proofs.Turns.{Silent, silent, silent-at}
+use Rattle.frame.proofs.Tests.{both}
+use Rattle.dictionary.proofs.Lists.{all-nine}
+use Rattle.dictionary.proofs.Saying.{unknown-tag}
+use Rattle.dictionary.proofs.Turns.{silent, silent-at, unknown-skipped}
 
 -- a field of a tag is a part that begins with the tag and `=`
 part-starts : (t : ℕ) (p v : Bytes) → partOf p ≡ field t v → starts (tagged t) p ≡ true
@@ -46,17 +51,38 @@ when-not : (b : Bool) (a t : ℕ) → (Reason a t when not b) ≡ Nothing → b 
 when-not true a t h = refl
 when-not false a t h = let z : _≡_ {A = ℕ} 0 1 = cc in absurd (omega arith)
 
-pub record OfKind (m : MsgType) (t : ℕ) (v : Bytes) : Type 0 where
-  pub form : formed (kindIn (rowsOf m) t) v ≡ true
-  pub value : allowed (kindIn (rowsOf m) t) v ≡ true
+when-so : (b : Bool) (a t : ℕ) → (Reason a t when b) ≡ Nothing → b ≡ false
+when-so true a t h = let z : _≡_ {A = ℕ} 0 1 = cc in absurd (omega arith)
+when-so false a t h = refl
 
-silent-kind : (m : MsgType) (w : Past) (t : ℕ) (v : Bytes) → Silent m w t v → OfKind m t v
-unfolding rule9 rule10
-silent-kind m w t v S = record { form = when-not _ 6 t (S .silent9); value = when-not _ 5 t (S .silent10) }
+long-enough : (v : Bytes) → eqb (length v) 0 ≡ false → 1 ≤ length v
+long-enough [] h = absurd (false≢true (sym h))
+long-enough (x ∷ v) h = omega arith
 
--- t is a required tag of some rows
-abbrev pub required : List Row → ℕ → Bool
-required rows t = any (λ (r : Row). r .required && eqb (r .tag) t) rows
+-- A PART OF WHICH NO RULE SPOKE
+passed-field : (m : MsgType) (w : Past) (t : ℕ) (v : Bytes) → said m w (field t v) ≡ Nothing → Passed m t v
+unfolding skipped rule4 rule6 rule9 rule10
+passed-field m w t v h =
+    record {
+      skipped = λ k. both (administrative m) (not (inDictionary t)) (unknown-skipped m w t v k (sym h)) .0;
+      own = λ k. when-not (listed (rowsOf m) t) 2 t (silent m w t v k (sym h) .silent6);
+      filled = λ k. long-enough v (when-so (eqb (length v) 0) 4 t (silent m w t v k (sym h) .silent4));
+      of-kind = λ k. record { form = when-not _ 6 t (silent m w t v k (sym h) .silent9); value = when-not _ 5 t (silent m w t v k (sym h) .silent10) };
+    }
+
+passed-part : (m : MsgType) (w : Past) (q : Part) → said m w q ≡ Nothing → PassedPart m q
+unfolding said rule2
+passed-part m w malformed h =
+    let n = silent-at (rule1 (w .place) malformed ∷ Reason 0 0 ∷ []) (sym h) 1 (omega arith) in
+    let z : _≡_ {A = ℕ} 0 1 = cc in
+    absurd (omega arith)
+passed-part m w (field t v) h = passed-field m w t v h
+
+walk-passed : (m : MsgType) (ps : List Bytes) (w : Past) → walk m w ps ≡ Clean → AllPassed m ps
+walk-passed m [] w h = tt
+walk-passed m (p ∷ ps) w h =
+    let c = by-clean (said m w (partOf p)) (walk m (after m w (partOf p)) ps) h in
+    (passed-part m w (partOf p) (c .0), walk-passed m ps (after m w (partOf p)) (c .1))
 
 none-missing : (rows : List Row) (met : List ℕ) (t : ℕ) → required rows t ≡ true → missing rows met ≡ Nothing → has met t ≡ true
 none-missing [] met t r h = absurd (false≢true r)
@@ -73,19 +99,16 @@ none-some : (v : Bytes) → _≡_ {A = Option Bytes} none (some v) → ⊥
 none-some v e = let z : _≡_ {A = ℕ} 0 1 = cc in omega arith
 
 module _ (m : MsgType) (t : ℕ) (low : 1 ≤ t) (high : t ≤ 99_999) where
-  walk-kind : (ps : List Bytes) (w : Past) (v : Bytes) → inDictionary t ≡ true → walk m w ps ≡ Clean → firstOfParts (tagged t) ps ≡ some v → OfKind m t v
-  walk-kind [] w v k h e = absurd (none-some v e)
-  walk-kind (p ∷ ps) w v k h e =
-      let c = by-clean (said m w (partOf p)) (walk m (after m w (partOf p)) ps) h in
-      go (starts (tagged t) p) refl (c .0) e (walk-kind ps (after m w (partOf p)) v k (c .1))
+  first-passed : (ps : List Bytes) (v : Bytes) → AllPassed m ps → firstOfParts (tagged t) ps ≡ some v → Passed m t v
+  first-passed [] v h e = absurd (none-some v e)
+  first-passed (p ∷ ps) v h e = go (starts (tagged t) p) refl e (first-passed ps v (h .1))
     where
-      go : (b : Bool) → starts (tagged t) p ≡ b → said m w (partOf p) ≡ Nothing → cond b (some (drop (length (tagged t)) p)) (firstOfParts (tagged t) ps) ≡ some v
-          → (firstOfParts (tagged t) ps ≡ some v → OfKind m t v) → OfKind m t v
-      go true s c g ih =
+      go : (b : Bool) → starts (tagged t) p ≡ b → cond b (some (drop (length (tagged t)) p)) (firstOfParts (tagged t) ps) ≡ some v
+          → (firstOfParts (tagged t) ps ≡ some v → Passed m t v) → Passed m t v
+      go true s g ih =
           let x : drop (length (tagged t)) p ≡ v = cc in
-          let q : partOf p ≡ field t v = tag-part t p low high s ∙ ap (field t) x in
-          silent-kind m w t v (silent m w t v k (sym c ∙ ap (said m w) q))
-      go false s c g ih = ih g
+          subst (PassedPart m) (tag-part t p low high s ∙ ap (field t) x) (h .0)
+      go false s g ih = ih g
 
   -- REQUIRED TAGS
   Found : List Bytes → Type 0
@@ -153,11 +176,15 @@ clean-type body h = go (isBody body) (msgType body) h
     go true (some m) e = (m, refl)
     go false o e = let z : _≡_ {A = ℕ} 0 1 = cc in absurd (omega arith)
 
--- THE FIRST FIELD OF A TAG OF THE DICTIONARY IS OF ITS KIND
+-- EVERY PART IS A FIELD THAT PASSED
+pub clean-passed : (m : MsgType) (body : Bytes) → verdict body ≡ Clean → msgType body ≡ some m → AllPassed m (parts body)
+clean-passed m body h y = walk-passed m (parts body) nothingYet (clean-walk m body h y)
+
+-- so THE FIRST FIELD OF A TAG OF THE DICTIONARY IS OF ITS KIND
 pub clean-kind : (m : MsgType) (t : ℕ) (body v : Bytes) → verdict body ≡ Clean → msgType body ≡ some m → within 1 99_999 t ≡ true → inDictionary t ≡ true
     → firstField t body ≡ some v → OfKind m t v
 unfolding firstField
-clean-kind m t body v h y n k e = walk-kind m t (within-is 1 99_999 t n .0) (within-is 1 99_999 t n .1) (parts body) nothingYet v k (clean-walk m body h y) e
+clean-kind m t body v h y n k e = first-passed m t (within-is 1 99_999 t n .0) (within-is 1 99_999 t n .1) (parts body) v (clean-passed m body h y) e .of-kind k
 
 -- EACH REQUIRED TAG OF THE HEADER AND OF THE MESSAGE IS THERE
 pub clean-required : (m : MsgType) (t : ℕ) (body : Bytes) → verdict body ≡ Clean → msgType body ≡ some m → within 1 99_999 t ≡ true → required (header ++ fields m) t ≡ true
@@ -168,3 +195,49 @@ clean-required m t body h y n r = go (walk-required m t (within-is 1 99_999 t n 
     go : (_≡_ {A = Bool} false true) ⊎ Found m t (within-is 1 99_999 t n .0) (within-is 1 99_999 t n .1) (parts body) → (v : Bytes) × (firstOfParts (tagged t) (parts body) ≡ some v)
     go (inl x) = absurd (false≢true x)
     go (inr f) = f
+
+-- THE TABLE'S TAGS have one to five digits
+abbrev tagged-row : Row → Bool
+tagged-row r = within 1 99_999 (r .tag)
+
+required-tag : (rows : List Row) (t : ℕ) → all tagged-row rows ≡ true → required rows t ≡ true → within 1 99_999 t ≡ true
+required-tag [] t h k = absurd (false≢true k)
+required-tag (r ∷ rows) t h k = let w = both (tagged-row r) (all tagged-row rows) h in go (r .required) (eqb (r .tag) t) refl k (w .0) (required-tag rows t (w .1))
+  where
+    go : (q b : Bool) → eqb (r .tag) t ≡ b → ((q && b) || required rows t) ≡ true → within 1 99_999 (r .tag) ≡ true → (required rows t ≡ true → within 1 99_999 t ≡ true) → within 1 99_999 t ≡ true
+    go true true e k l f = ap (within 1 99_999) (sym (eqb-true (r .tag) t e)) ∙ l
+    go true false e k l f = f k
+    go false b e k l f = f k
+
+rows-tagged : all (λ (m : MsgType). all tagged-row (header ++ fields m)) theNine ≡ true
+unfolding header fields №453 №580
+rows-tagged = refl
+
+listed-tag : (l : List ℕ) (t : ℕ) → all (within 1 99_999) l ≡ true → has l t ≡ true → within 1 99_999 t ≡ true
+listed-tag [] t h k = absurd (false≢true k)
+listed-tag (x ∷ l) t h k = let w = both (within 1 99_999 x) (all (within 1 99_999) l) h in go (eqb x t) refl k (listed-tag l t (w .1)) (w .0)
+  where
+    go : (b : Bool) → eqb x t ≡ b → (b || has l t) ≡ true → (has l t ≡ true → within 1 99_999 t ≡ true) → within 1 99_999 x ≡ true → within 1 99_999 t ≡ true
+    go true e k f g = ap (within 1 99_999) (sym (eqb-true x t e)) ∙ g
+    go false e k f g = f k
+
+known-tagged : (t : ℕ) → inDictionary t ≡ true → within 1 99_999 t ≡ true
+unfolding tags
+known-tagged t h = listed-tag tags t refl (go (has tags t) refl)
+  where
+    go : (b : Bool) → has tags t ≡ b → b ≡ true
+    go true e = refl
+    go false e = absurd (false≢true (sym (unknown-tag t e) ∙ h))
+
+-- ALL THAT A CLEAN VERDICT SAYS
+pub clean-body : (body : Bytes) → verdict body ≡ Clean → CleanBody body
+clean-body body h =
+    let y = clean-type body h in
+    let m = y .0 in
+    record {
+      type = m;
+      named = y .1;
+      passed = clean-passed m body h (y .1);
+      of-kind = λ t v k e. clean-kind m t body v h (y .1) (known-tagged t k) k e;
+      there = λ t r. clean-required m t body h (y .1) (required-tag (header ++ fields m) t (all-nine (λ (n : MsgType). all tagged-row (header ++ fields n)) rows-tagged m) r) r;
+    }

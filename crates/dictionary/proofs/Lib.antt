@@ -10,3 +10,6 @@ pub mod Turns
 pub mod Types
 pub mod Clean
 pub mod Promise
+pub mod Findings
+pub mod OneOutcome
+pub mod Taken

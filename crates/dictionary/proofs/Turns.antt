@@ -10,7 +10,7 @@ use Rattle.frame.specs.Bytes.{Bytes, has}
 use Rattle.fields.specs.Field.{field, parts}
 use Rattle.fields.proofs.Rows.{Step}
 use Rattle.dictionary.specs.Dictionary.{header, fields, listed, groupsOf, member, inDictionary, administrative}
-use Rattle.dictionary.specs.Verdict.{Open, Place, outside, inside, Past, _when_, firstOf, firstMember, left, rule1, rule6, rule8, rule9, rule10, skipped, said, opened, taken, after, walk}
+use Rattle.dictionary.specs.Verdict.{Open, Place, outside, inside, Past, _when_, firstOf, firstMember, left, rule1, rule4, rule6, rule8, rule9, rule10, skipped, said, opened, taken, after, walk}
 use Rattle.dictionary.specs.code.Held.{tags, Looked, Marked, Stood, away, within, insideOf, pastHeader, Stands, Noted, leftOf, begunOf}
 use Rattle.dictionary.specs.declared.MsgType.{MsgType}
 use Rattle.dictionary.specs.declared.Says.{Says}
@@ -29,6 +29,7 @@ silent-at (Nothing ∷ l) h (suc i) k = silent-at l h i (omega arith)
 silent-at ((Reason a t) ∷ l) h i k = let z : _≡_ {A = ℕ} 0 1 = cc in absurd (omega arith)
 
 pub record Silent (m : MsgType) (w : Past) (t : ℕ) (v : Bytes) : Type 0 where
+  pub silent4 : rule4 t v ≡ Nothing
   pub silent6 : rule6 m t ≡ Nothing
   pub silent8 : rule8 m (left (w .place) (field t v)) t ≡ Nothing
   pub silent9 : rule9 m t v ≡ Nothing
@@ -37,10 +38,10 @@ pub record Silent (m : MsgType) (w : Past) (t : ℕ) (v : Bytes) : Type 0 where
 pub silent : (m : MsgType) (w : Past) (t : ℕ) (v : Bytes) → inDictionary t ≡ true → Nothing ≡ said m w (field t v) → Silent m w t v
 silent m w t v k h =
     let f = silent-at (rulesHeard m w t v) (h ∙ known-says m w t v k) in
-    record { silent6 = f 3 (omega arith); silent8 = f 5 (omega arith); silent9 = f 6 (omega arith); silent10 = f 7 (omega arith) }
+    record { silent4 = f 1 (omega arith); silent6 = f 3 (omega arith); silent8 = f 5 (omega arith); silent9 = f 6 (omega arith); silent10 = f 7 (omega arith) }
 
 -- a skipped field
-unknown-skipped : (m : MsgType) (w : Past) (t : ℕ) (v : Bytes) → inDictionary t ≡ false → Nothing ≡ said m w (field t v) → skipped m t ≡ true
+pub unknown-skipped : (m : MsgType) (w : Past) (t : ℕ) (v : Bytes) → inDictionary t ≡ false → Nothing ≡ said m w (field t v) → skipped m t ≡ true
 unfolding skipped
 unknown-skipped m w t v k h = rw k (go (administrative m) (silent-at (rule1 (w .place) (field t v) ∷ cond (administrative m) Nothing (Reason 3 t) ∷ []) (h ∙ unknown-says m w t v k) 1 (omega arith)))
   where

@@ -15,7 +15,7 @@ use Rattle.fields.specs.First.{First, valueAt}
 use Rattle.fields.specs.declared.Place.{Place}
 use Rattle.fields.specs.declared.Place.the-variants.{At, Absent}
 use Rattle.kinds.proofs.Values.{same-long, same-true}
-use Rattle.dictionary.specs.Dictionary.{code35, theNine, typeAmong, typeOf, typeIs}
+use Rattle.dictionary.specs.Dictionary.{code35, theNine, typeAmong, typeOf, named, typeIs}
 use Rattle.dictionary.specs.Verdict.{typeBy, judgedAs, walk, nothingYet, verdict}
 use Rattle.dictionary.specs.declared.MsgType.{MsgType}
 use Rattle.dictionary.specs.declared.MsgType.the-variants.{TradeCaptureReportRequest}
@@ -56,6 +56,14 @@ pub type-coded : (v : Bytes) (m : MsgType) → typeOf v ≡ some m → v ≡ cod
 unfolding typeOf
 type-coded v m e = among-coded theNine v m e
 
+-- and the answer of `type_of` stands for it
+named-is : (o : Option MsgType) → typeIs (named o) ≡ o
+named-is none = refl
+named-is (some m) = refl
+
+pub type-told : (v : Bytes) {r : Named} → r ≡ named (typeOf v) → typeIs r ≡ typeOf v
+type-told v e = ap typeIs e ∙ named-is (typeOf v)
+
 -- THE VERDICT
 pub verdict-nobody : (body : Bytes) {b : Bool} → b ≡ isBody body → not b ≡ true → NoBody ≡ verdict body
 unfolding verdict
@@ -69,12 +77,12 @@ module _ (body : Bytes) {b : Bool} (p : b ≡ isBody body) (q : not b ≡ false)
   pub verdict-absent : r ≡ Absent → Finding 11 35 ≡ verdict body
   verdict-absent h = sym (by-type (ap (valueAt body) h))
 
-  module _ {s e : ℕ} (h : r ≡ At s e) {k : Named} (t : typeIs k ≡ typeOf (take (e - s) (drop s body))) where
+  module _ {s e : ℕ} (h : r ≡ At s e) {k : Named} (t : k ≡ named (typeOf (take (e - s) (drop s body)))) where
     pub verdict-other : k ≡ Other → Finding 11 35 ≡ verdict body
-    verdict-other o = sym (by-type (ap (valueAt body) h) ∙ rw (sym t ∙ ap typeIs o))
+    verdict-other o = sym (by-type (ap (valueAt body) h) ∙ rw (sym (type-told (take (e - s) (drop s body)) t) ∙ ap typeIs o))
 
     pub verdict-walked : {m : MsgType} {f : Verdict} → k ≡ Of m → f ≡ walk m nothingYet (parts body) → f ≡ verdict body
-    verdict-walked o w = w ∙ sym (by-type (ap (valueAt body) h) ∙ rw (sym t ∙ ap typeIs o))
+    verdict-walked o w = w ∙ sym (by-type (ap (valueAt body) h) ∙ rw (sym (type-told (take (e - s) (drop s body)) t) ∙ ap typeIs o))
 
 pub body-short : (body : Bytes) {b : Bool} → b ≡ isBody body → not b ≡ false → length body ≤ 2048
 unfolding isBody

@@ -106,7 +106,11 @@ typeAmong (m ∷ ms) v = cond (same v (code35 m)) (some m) (typeAmong ms v)
 unfoldable pub typeOf : Bytes → Option MsgType
 typeOf v = typeAmong theNine v
 
--- what the code's answer stands for
+-- the code's answer for it, and what such an answer stands for
+abbrev pub named : Option MsgType → Named
+named (some m) = Of m
+named none = Other
+
 abbrev pub typeIs : Named → Option MsgType
 typeIs (Of m) = some m
 typeIs Other = none

@@ -231,9 +231,9 @@ fn rules_9_and_10(e: Entry, v: &[u8]) -> Says
 pub fn of_malformed(st: State, met: &[bool; 128]) -> Says
     ensures { λ r. ⌜ OfMalformed (now (met .entry)) st r ⌝ }
 {
-    let r1 = rule_1(st, met, 0, false);
-    let Says::Nothing = r1 else {
-        return r1;
+    let end = rule_1(st, met, 0, false);
+    let Says::Nothing = end else {
+        return end;
     };
     Says::Reason { reason: 0, tag: 0 }
 }

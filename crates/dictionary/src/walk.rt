@@ -26,7 +26,7 @@ ghost use Prim.Native.Nat.{_≤_};
 ghost use lib.ListN.{length};
 ghost use Rattle.fields.specs.Field.{parts};
 ghost use mathlib.Core.List.{[], _∷_};
-ghost use Rattle.dictionary.specs.Dictionary.{typeOf, typeIs};
+ghost use Rattle.dictionary.specs.Dictionary.{typeOf, named};
 ghost use Rattle.dictionary.specs.Verdict.{verdictBy, walk, nothingYet, verdict};
 ghost use Rattle.dictionary.specs.code.Held.{Finished};
 
@@ -133,7 +133,7 @@ pub enum Named {
 
 // The type that a value of 35 names.
 pub fn type_of(v: &[u8]) -> Named
-    ensures { λ r. ⌜ typeIs r ≡ typeOf (now (v .entry)) ⌝ }
+    ensures { λ r. ⌜ r ≡ named (typeOf (now (v .entry))) ⌝ }
 {
     if v.len() == 1 {
         return type_of_one(v[0]);
@@ -145,7 +145,7 @@ pub fn type_of(v: &[u8]) -> Named
 }
 
 fn type_of_one(c: u8) -> Named
-    ensures { λ r. ⌜ typeIs r ≡ typeOf (c ∷ []) ⌝ }
+    ensures { λ r. ⌜ r ≡ named (typeOf (c ∷ [])) ⌝ }
 {
     match c {
         b'0' => Named::Of(MsgType::Heartbeat),

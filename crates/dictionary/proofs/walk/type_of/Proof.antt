@@ -1,19 +1,20 @@
 -- The types of one byte, AD, and others.
 use borrow.Author.Needs.{needs}
-use Rattle.dictionary.specs.Dictionary.{typeOf}
+use Rattle.frame.specs.Bytes.{Bytes}
+use Rattle.dictionary.specs.Dictionary.{typeOf, named}
 use Rattle.dictionary.proofs.Types.{one-byte, two-bytes, other-bytes}
 use mathlib.Core.Path.{ap, _∙_}
 use Rattle.dictionary.proofs.walk.type_of.Statement.{statement}
 use Rattle.dictionary.proofs.walk.type_of.Tie as tie
 
 returns : tie.Need-returns
-returns c = c .type-of-one .ensures ∙ ap typeOf (one-byte _ (c .before .before .if1 .taken))
+returns c = c .type-of-one .ensures ∙ ap (λ (v : Bytes). named (typeOf v)) (one-byte _ (c .before .before .if1 .taken))
 
 returns-2 : tie.Need-returns-2
-returns-2 c = two-bytes _ (c .before .same .ensures) (c .if2 .taken)
+returns-2 c = ap named (two-bytes _ (c .before .same .ensures) (c .if2 .taken))
 
 returns-3 : tie.Need-returns-3
-returns-3 c = other-bytes _ (c .before .before .before .if1 .left) (c .before .same .ensures) (c .if2 .left)
+returns-3 c = ap named (other-bytes _ (c .before .before .before .if1 .left) (c .before .same .ensures) (c .if2 .left))
 
 pub type-of-spec : {M : Type 1} → statement M
 type-of-spec =
