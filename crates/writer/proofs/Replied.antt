@@ -1,4 +1,4 @@
--- The calls of the six replies: what their tests say in numbers, what a call leaves behind them, and that any two outcomes of a call are equal.
+-- The calls of the seven replies: what their tests say in numbers, what a call leaves behind them, and that any two outcomes of a call are equal.
 use Prim.Native.Nat.{ℕ, _+_, _-_, _≤_, _<_}
 use native.Mathlib.Omega.{arith}
 use mathlib.Core.Path.{_≡_, refl, sym, ap, _∙_}

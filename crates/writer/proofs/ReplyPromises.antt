@@ -5,14 +5,14 @@ use mathlib.Core.List.{List, [], _∷_}
 use mathlib.Core.Bool.{Bool, true, false, cond}
 use lib.Dec.{eqb}
 use Rattle.frame.specs.Bytes.{Bytes, fix}
-use Rattle.dictionary.specs.declared.MsgType.the-variants.{Heartbeat, ResendRequest, Reject, SequenceReset, Logout, Logon}
+use Rattle.dictionary.specs.declared.MsgType.the-variants.{Heartbeat, TestRequest, ResendRequest, Reject, SequenceReset, Logout, Logon}
 use Rattle.dictionary.specs.Dictionary.{code35, administrative}
 use Rattle.writer.specs.Message.{absent, number, bytes, Field, _is_, shown, given}
-use Rattle.writer.specs.Reply.{optional, unlessZero, values, ofHeartbeat, ofLogon, ofResendRequest, ofReject, ofGapFill, ofLogout}
+use Rattle.writer.specs.Reply.{optional, unlessZero, values, ofHeartbeat, ofTestRequest, ofLogon, ofResendRequest, ofReject, ofGapFill, ofLogout}
 use Rattle.writer.specs.Promise.{ReadsBack}
 use Rattle.writer.proofs.Frames.{AllBytes}
 use Rattle.writer.proofs.ReadBack.{OfBytes, small-bytes}
-use Rattle.writer.proofs.Sent.{TextOf, Sendable, heartbeat-fit, logon-fit, resend-request-fit, reject-fit, gap-fill-fit, logout-fit}
+use Rattle.writer.proofs.Sent.{TextOf, Sendable, heartbeat-fit, test-request-fit, logon-fit, resend-request-fit, reject-fit, gap-fill-fit, logout-fit}
 use Rattle.writer.proofs.Promises.{decimal-bytes, reads-back}
 
 -- the values of a reply are bytes
@@ -49,6 +49,11 @@ module _ (ours peers : Bytes) (n : ℕ) (stamp : Bytes) (S : Sendable ours peers
   heartbeat-promised there id T b =
       reads-back Heartbeat refl (ofHeartbeat ours peers n stamp (optional there id)) (heartbeat-fit ours peers n stamp S there id T)
       (all-bytes (112 is optional there id ∷ []) (optional-bytes there id b, tt))
+
+  pub test-request-promised : (id : Bytes) → TextOf 64 id → AllBytes id → ReadsBack TestRequest (ofTestRequest ours peers n stamp id)
+  unfolding administrative code35
+  test-request-promised id T b =
+      reads-back TestRequest refl (ofTestRequest ours peers n stamp id) (test-request-fit ours peers n stamp S id T) (all-bytes (112 is bytes id ∷ []) (b, tt))
 
   pub logon-promised : (seconds : ℕ) (reset : Bool) → 1 ≤ seconds → seconds ≤ 60 → ReadsBack Logon (ofLogon ours peers n stamp seconds (optional reset (fix "Y")))
   unfolding administrative code35

@@ -11,12 +11,12 @@ use Rattle.frame.specs.Bytes.{Bytes, fix, has, decimal}
 use Rattle.frame.proofs.Numerals.{is-within}
 use Rattle.kinds.specs.Kind.{text, number_to_, Y/N, time, kindOf, formed, allowed}
 use Rattle.dictionary.specs.declared.MsgType.{MsgType}
-use Rattle.dictionary.specs.declared.MsgType.the-variants.{Heartbeat, ResendRequest, Reject, SequenceReset, Logout, Logon}
+use Rattle.dictionary.specs.declared.MsgType.the-variants.{Heartbeat, TestRequest, ResendRequest, Reject, SequenceReset, Logout, Logon}
 use Rattle.dictionary.specs.Dictionary.{№453, №580, header, fields, code35, groupsOf, rowsOf, listed, kindIn, administrative}
 use Rattle.writer.specs.Message.{Value, absent, shown}
 use Rattle.writer.specs.Tags.{tags}
 use Rattle.writer.specs.Call.{rejected, required, unwritable, refused8}
-use Rattle.writer.specs.Reply.{optional, unlessZero, ofHeartbeat, ofLogon, ofResendRequest, ofReject, ofGapFill, ofLogout}
+use Rattle.writer.specs.Reply.{optional, unlessZero, ofHeartbeat, ofTestRequest, ofLogon, ofResendRequest, ofReject, ofGapFill, ofLogout}
 use Rattle.writer.proofs.Rows.{plain-decimal, Plain}
 use Rattle.writer.proofs.Accepted.{not-rejected, number-formed, number-allowed}
 use Rattle.writer.proofs.Writes.{few-digits}
@@ -128,6 +128,12 @@ module _ (ours peers : Bytes) (n : ℕ) (stamp : Bytes) (S : Sendable ours peers
   heartbeat-fit there id T =
       let H = in-header Heartbeat refl in
       rw (H .from, H .target, H .seq, H .sent, optional-fit Heartbeat 112 there id refl (λ e. text-fit Heartbeat 112 refl 64 64 id refl (T e) (omega arith)))
+
+  pub test-request-fit : (id : Bytes) → TextOf 64 id → refused8 TestRequest (ofTestRequest ours peers n stamp id) ≡ false
+  unfolding refused8 tags required rowsOf header fields №453 №580 groupsOf kindOf administrative code35
+  test-request-fit id T =
+      let H = in-header TestRequest refl in
+      rw (H .from, H .target, H .seq, H .sent, text-fit TestRequest 112 refl 64 64 id refl T (omega arith))
 
   pub logon-fit : (seconds : ℕ) (reset : Bool) → 1 ≤ seconds → seconds ≤ 60 → refused8 Logon (ofLogon ours peers n stamp seconds (optional reset (fix "Y"))) ≡ false
   unfolding refused8 tags required rowsOf header fields №453 №580 groupsOf kindOf administrative code35

@@ -1,4 +1,4 @@
--- The calls of the six replies: which values they take, and what they leave in the buffer.
+-- The calls of the seven replies: which values they take, and what they leave in the buffer.
 use Prim.Native.Nat.{ℕ, _+_, _≤_}
 use mathlib.Core.Path.{_≡_}
 use mathlib.Core.Bool.{Bool, true, false, _&&_}
@@ -15,7 +15,7 @@ nineDigits n = leb n 999_999_999
 unfoldable pub sendable : Bytes → Bytes → ℕ → Bytes → ℕ → ℕ → ℕ → Bool
 sendable ours peers n time at room len = leb (length ours) 11 && leb (length peers) 11 && nineDigits n && leb (length time) 24 && leb (at + room) len
 
--- of a Heartbeat besides: "112: 64"
+-- of a Heartbeat and a Test Request besides: "112: 64"
 abbrev pub echoable : Bytes → Bool
 echoable id = leb (length id) 64
 

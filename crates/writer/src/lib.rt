@@ -17,6 +17,7 @@ pub use replies::logon;
 pub use replies::logout;
 pub use replies::reject;
 pub use replies::resend_request;
+pub use replies::test_request;
 ghost use mathlib.Core.Path.{_≡_};
 ghost use mathlib.Core.Bool.{true};
 ghost use Prim.Native.Nat.{_≤_};

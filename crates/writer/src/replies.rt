@@ -8,11 +8,11 @@ ghost use mathlib.Core.Bool.{_&&_};
 ghost use Prim.Native.Nat.{_+_, _≤_, _<_};
 ghost use lib.ListN.{length, take};
 ghost use Rattle.frame.specs.Bytes.{fix};
-ghost use Rattle.dictionary.specs.declared.MsgType.the-variants.{Heartbeat, ResendRequest, Reject, SequenceReset, Logout, Logon};
+ghost use Rattle.dictionary.specs.declared.MsgType.the-variants.{ResendRequest, Reject, SequenceReset, Logout, Logon};
 ghost use Rattle.writer.specs.Message.{bytes, _is_, field, row, framed, message};
-ghost use Rattle.writer.specs.Reply.{optional, unlessZero, ofHeartbeat, ofLogon, ofResendRequest, ofReject, ofGapFill, ofLogout, heartbeat, logon, resendRequest, reject, gapFill, logout};
+ghost use Rattle.writer.specs.Reply.{optional, unlessZero, ofLogon, ofResendRequest, ofReject, ofGapFill, ofLogout, heartbeat, testRequest, logon, resendRequest, reject, gapFill, logout};
 ghost use Rattle.writer.specs.Wrote.{Wrote};
-ghost use Rattle.writer.specs.code.Ranges.{Ranged, ids, headed};
+ghost use Rattle.writer.specs.code.Ranges.{Ranged, ids, headed, echoed};
 ghost use Rattle.writer.specs.Replied.{nineDigits, sendable, echoable, rejectable, Replied};
 
 // Whether every reply takes these values, and a buffer of `len` bytes has so much room behind the place.
@@ -118,8 +118,10 @@ fn put_reply(buf: &mut [u8], at: usize, body: &[u8], k: usize) -> usize
     put_frame(buf, at, &body[..k])
 }
 
-fn heartbeat_body(
+// The body of a message of this code with its 112.
+fn echo_body(
     body: &mut [u8],
+    code: &[u8],
     ours: &[u8],
     peers: &[u8],
     n: u64,
@@ -128,12 +130,38 @@ fn heartbeat_body(
     id: &[u8],
 ) -> usize
     requires { ⌜ Ranged (now ours) (now peers) n ⌝ }
-    requires { ⌜ (length (now time) ≤ 24) × (length (now id) ≤ 64) × (256 ≤ length (now body)) ⌝ }
-    ensures bytes { λ r. ⌜ Wrote (now (body .entry)) (now (body .exit)) 0 r (row (message Heartbeat (ofHeartbeat (now (ours .entry)) (now (peers .entry)) n (now (time .entry)) (optional there (now (id .entry)))))) ⌝ }
+    requires { ⌜ (length (now code) ≤ 1) × (length (now time) ≤ 24) × (length (now id) ≤ 64) × (256 ≤ length (now body)) ⌝ }
+    ensures bytes { λ r. ⌜ Wrote (now (body .entry)) (now (body .exit)) 0 r (row (echoed (now (code .entry)) (now (ours .entry)) (now (peers .entry)) n (now (time .entry)) (optional there (now (id .entry))))) ⌝ }
     ensures room { λ r. ⌜ r ≤ 162 ⌝ }
 {
-    let a = put_head(body, b"0", ours, peers, n, time);
+    let a = put_head(body, code, ours, peers, n, time);
     put_optional(body, a, 112, there, id)
+}
+
+// A Heartbeat or a Test Request, by its code.
+fn echo(
+    buf: &mut [u8],
+    at: usize,
+    code: &[u8],
+    ours: &[u8],
+    peers: &[u8],
+    n: u64,
+    time: &[u8],
+    there: bool,
+    id: &[u8],
+) -> usize
+    requires { ⌜ length (now code) ≤ 1 ⌝ }
+    ensures { λ r. ⌜ Replied (sendable (now (ours .entry)) (now (peers .entry)) n (now (time .entry)) at 187 (length (now (buf .entry))) && echoable (now (id .entry))) (now (buf .entry)) (now (buf .exit)) at r 187 (framed (row (echoed (now (code .entry)) (now (ours .entry)) (now (peers .entry)) n (now (time .entry)) (optional there (now (id .entry)))))) ⌝ }
+{
+    if !sendable(ours, peers, n, time, at, 187, buf.len()) {
+        return at;
+    }
+    if 64 < id.len() {
+        return at;
+    }
+    let mut body = [0u8; 256];
+    let k = echo_body(&mut body, code, ours, peers, n, time, there, id);
+    put_reply(buf, at, &body, k)
 }
 
 // The Heartbeat of a tick, or the answer to a Test Request, with its 112.
@@ -149,15 +177,22 @@ pub fn heartbeat(
 ) -> usize
     ensures { λ r. ⌜ Replied (sendable (now (ours .entry)) (now (peers .entry)) n (now (time .entry)) at 187 (length (now (buf .entry))) && echoable (now (id .entry))) (now (buf .entry)) (now (buf .exit)) at r 187 (heartbeat (now (ours .entry)) (now (peers .entry)) n (now (time .entry)) (optional there (now (id .entry)))) ⌝ }
 {
-    if !sendable(ours, peers, n, time, at, 187, buf.len()) {
-        return at;
-    }
-    if 64 < id.len() {
-        return at;
-    }
-    let mut body = [0u8; 256];
-    let k = heartbeat_body(&mut body, ours, peers, n, time, there, id);
-    put_reply(buf, at, &body, k)
+    echo(buf, at, b"0", ours, peers, n, time, there, id)
+}
+
+// A Test Request of ours, with its 112.
+pub fn test_request(
+    buf: &mut [u8],
+    at: usize,
+    ours: &[u8],
+    peers: &[u8],
+    n: u64,
+    time: &[u8],
+    id: &[u8],
+) -> usize
+    ensures { λ r. ⌜ Replied (sendable (now (ours .entry)) (now (peers .entry)) n (now (time .entry)) at 187 (length (now (buf .entry))) && echoable (now (id .entry))) (now (buf .entry)) (now (buf .exit)) at r 187 (testRequest (now (ours .entry)) (now (peers .entry)) n (now (time .entry)) (now (id .entry))) ⌝ }
+{
+    echo(buf, at, b"1", ours, peers, n, time, true, id)
 }
 
 fn logon_body(
