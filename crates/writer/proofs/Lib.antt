@@ -18,3 +18,4 @@ pub mod Replied
 pub mod Sent
 pub mod Promises
 pub mod ReplyPromises
+pub mod OneOutcome

@@ -1,4 +1,4 @@
--- D4 for the writer call; any two outcomes of a call are equal; different values never write the same bytes.
+-- D4 for the writer call; different values never write the same bytes.
 use Prim.Native.Nat.{ℕ, zero, suc, _+_, _-_, _<_}
 use native.Mathlib.Omega.{arith}
 use mathlib.Core.Path.{_≡_, refl, sym, ap, _∙_}
@@ -74,10 +74,6 @@ value-bytes vs s h t = go (getD (vs .given) k false) (numeric t)
 
 -- THE WRITER CALL
 module _ (type : Bytes) (vs : Values) (s d : Bytes) where
-  -- any two outcomes that its contract allows are equal
-  pub one-outcome : {o p : Outcome} → o ≡ write type vs s d → p ≡ write type vs s d → o ≡ p
-  one-outcome e f = e ∙ sym f
-
   pub ends : Ends type vs s d (write type vs s d)
   unfolding write
   ends = go (admin type) refl
