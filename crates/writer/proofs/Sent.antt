@@ -16,6 +16,7 @@ use Rattle.dictionary.specs.Dictionary.{№453, №580, header, fields, code35,
 use Rattle.writer.specs.Message.{Value, absent, shown}
 use Rattle.writer.specs.Tags.{tags}
 use Rattle.writer.specs.Call.{rejected, required, unwritable, refused8}
+use Rattle.writer.specs.Promise.{TextOf, TimeOf, Sendable}
 use Rattle.writer.specs.Reply.{optional, unlessZero, ofHeartbeat, ofTestRequest, ofLogon, ofResendRequest, ofReject, ofGapFill, ofLogout}
 use Rattle.writer.proofs.Rows.{plain-decimal, Plain}
 use Rattle.writer.proofs.Accepted.{not-rejected, number-formed, number-allowed}
@@ -24,27 +25,6 @@ use Rattle.writer.proofs.Writes.{few-digits}
 no-bar-in : (l : Bytes) → Plain l → has l 1 ≡ false
 no-bar-in [] h = refl
 no-bar-in (x ∷ l) h = rw (ne-eqb x 1 (h .0 .0), no-bar-in l (h .1))
-
--- bytes that are a time of the dictionary
-pub record TimeOf (v : Bytes) : Type 0 where
-  pub long : length v ≡ 24
-  pub no-bar : has v 1 ≡ false
-  pub form : formed time v ≡ true
-  pub right : allowed time v ≡ true
-
--- 1 to l bytes, none `|`
-pub record TextOf (l : ℕ) (v : Bytes) : Type 0 where
-  pub filled : 1 ≤ length v
-  pub short : length v ≤ l
-  pub no-bar : has v 1 ≡ false
-
--- what the session knows of what it sends: "CompIDs (1 to 11 bytes, no `|`)", "numbers 1 to 999,999,999"
-pub record Sendable (ours peers : Bytes) (n : ℕ) (stamp : Bytes) : Type 0 where
-  pub our-id : TextOf 11 ours
-  pub peer-id : TextOf 11 peers
-  pub counted : 1 ≤ n
-  pub few : n ≤ 999_999_999
-  pub timed : TimeOf stamp
 
 -- ONE VALUE, by its kind
 module _ (m : MsgType) (t : ℕ) (own : listed (rowsOf m) t ≡ true) where
