@@ -3,16 +3,20 @@ use Prim.Native.Nat.{ℕ, _+_, _≤_}
 use native.Mathlib.Omega.{arith}
 use mathlib.Core.Path.{_≡_, sym, _∙_, subst}
 use mathlib.Core.List.{[], _∷_}
-use mathlib.Core.Bool.{true}
+use mathlib.Core.Bool.{Bool, true}
 use mathlib.Core.Option.{none}
-use lib.ListN.{take}
+use lib.ListN.{length, take}
+use borrow.Author.Tests.{le-leb}
 use Rattle.frame.specs.Bytes.{Bytes, Byted}
+use Rattle.frame.proofs.Tests.{both-true}
+use Rattle.dictionary.specs.declared.MsgType.{MsgType}
+use Rattle.writer.specs.Message.{Value}
 use Rattle.writer.specs.Call.{Outcome, Writes, numbers}
 use Rattle.writer.specs.Replied.{sendable}
-use Rattle.writer.specs.Promise.{Ends, CallPromise, SameGiven, Sendable, Replies, Promise}
+use Rattle.writer.specs.Promise.{ReadsBack, Ends, CallPromise, SameGiven, Sendable, Sent, Replies, Promise}
 use Rattle.writer.specs.declared.Values.{Values}
 use Rattle.writer.specs.declared.Written.{Written}
-use Rattle.writer.proofs.Replied.{is-sendable}
+use Rattle.writer.proofs.Replied.{is-sendable, is-rejectable}
 use Rattle.writer.proofs.Endings.{ends, refusal-8-or-9, refusal-keeps, message-promised, same-shown, same-read}
 use Rattle.writer.proofs.ReplyPromises.{heartbeat-promised, test-request-promised, logon-promised, resend-request-promised, reject-promised, gap-fill-promised, logout-promised}
 use Rattle.writer.proofs.Joined.{joined-frames}
@@ -48,15 +52,19 @@ taken S at room len h =
 replies : (ours peers : Bytes) (n : ℕ) (stamp : Bytes) → Sendable ours peers n stamp → Byted ours → Byted peers → Byted stamp → Replies ours peers n stamp
 replies ours peers n stamp S bo bp bs =
     record {
-      taken = taken S;
-      heartbeat = heartbeat-promised ours peers n stamp S bo bp bs;
-      test-request = test-request-promised ours peers n stamp S bo bp bs;
-      logon = logon-promised ours peers n stamp S bo bp bs;
-      resend-request = resend-request-promised ours peers n stamp S bo bp bs;
-      reject = reject-promised ours peers n stamp S bo bp bs;
-      gap-fill = gap-fill-promised ours peers n stamp S bo bp bs;
-      logout = logout-promised ours peers n stamp S bo bp bs;
+      heartbeat = λ there id T l b. sent (le-leb (length id) 64 l) (heartbeat-promised ours peers n stamp S bo bp bs there id T b);
+      test-request = λ id T b. sent (le-leb (length id) 64 (T .short)) (test-request-promised ours peers n stamp S bo bp bs id T b);
+      logon = λ seconds reset low high. sent (le-leb seconds 999_999_999 (omega (arith, high))) (logon-promised ours peers n stamp S bo bp bs seconds reset low high);
+      resend-request = λ expected low high. sent (le-leb expected 999_999_999 high) (resend-request-promised ours peers n stamp S bo bp bs expected low high);
+      reject = λ refused tag typed kind why low high small T l b few.
+          sent (is-rejectable (record { numbered = omega (arith, high); tagged = omega (arith, small); typed = l; reasoned = omega (arith, few) }))
+          (reject-promised ours peers n stamp S bo bp bs refused tag typed kind why low high small T b few);
+      gap-fill = λ next low high. sent (le-leb next 999_999_999 high) (gap-fill-promised ours peers n stamp S bo bp bs next low high);
+      logout = λ status few. sent (le-leb status 999_999_999 few) (logout-promised ours peers n stamp S bo bp bs status few);
     }
+  where
+    sent : {own : Bool} {room : ℕ} {m : MsgType} {vs : ℕ → Value} → own ≡ true → ReadsBack m vs → Sent ours peers n stamp own room m vs
+    sent {own} {room} e R = record { fit = λ at len h. both-true (sendable ours peers n stamp at room len) own (taken S at room len h) e; reads-back = R }
 
 pub promise : Promise
 promise = record { call = call; told-apart = told-apart; replies = replies; one-by-one = joined-frames }

@@ -3,7 +3,7 @@ use Prim.Native.Nat.{ℕ, _+_, _≤_, _<_}
 use mathlib.Core.Path.{_≡_}
 use mathlib.Core.Logic.{_⊎_}
 use mathlib.Core.List.{List, [], _∷_}
-use mathlib.Core.Bool.{Bool, true, false}
+use mathlib.Core.Bool.{Bool, true, false, _&&_}
 use mathlib.Core.Option.{none, some}
 use lib.ListN.{length, take, drop}
 use Rattle.frame.specs.Bytes.{Bytes, byte, fix, has, Byted}
@@ -20,7 +20,7 @@ use Rattle.writer.specs.Message.{Value, shown, row, message, written}
 use Rattle.writer.specs.Tags.{tags}
 use Rattle.writer.specs.Call.{valueIn, refused8, admin, Outcome, refusing, writing, Writes, numbers}
 use Rattle.writer.specs.Reply.{optional, ofHeartbeat, ofTestRequest, ofLogon, ofResendRequest, ofReject, ofGapFill, ofLogout}
-use Rattle.writer.specs.Replied.{sendable}
+use Rattle.writer.specs.Replied.{echoRoom, logonRoom, resendRequestRoom, rejectRoom, gapFillRoom, logoutRoom, nineDigits, sendable, echoable, rejectable}
 use Rattle.writer.specs.declared.Values.{Values}
 use Rattle.writer.specs.declared.Written.{Written}
 use Rattle.writer.specs.declared.Written.the-variants.{Unfit, Short}
@@ -89,17 +89,22 @@ pub record Sendable (ours peers : Bytes) (n : ℕ) (stamp : Bytes) : Type 0 wher
   pub few : n ≤ 999_999_999
   pub timed : TimeOf stamp
 
--- what is promised of such values: where there is room the call of a reply takes them, and the message that it then puts is one that reads back
-pub record Replies (ours peers : Bytes) (n : ℕ) (stamp : Bytes) : Type 0 where
-  pub taken : (at room len : ℕ) → at + room ≤ len → sendable ours peers n stamp at room len ≡ true
-  pub heartbeat : (there : Bool) (id : Bytes) → (there ≡ true → TextOf 64 id) → Byted id → ReadsBack Heartbeat (ofHeartbeat ours peers n stamp (optional there id))
-  pub test-request : (id : Bytes) → TextOf 64 id → Byted id → ReadsBack TestRequest (ofTestRequest ours peers n stamp id)
-  pub logon : (seconds : ℕ) (reset : Bool) → 1 ≤ seconds → seconds ≤ 60 → ReadsBack Logon (ofLogon ours peers n stamp seconds (optional reset (fix "Y")))
-  pub resend-request : (expected : ℕ) → 1 ≤ expected → expected ≤ 999_999_999 → ReadsBack ResendRequest (ofResendRequest ours peers n stamp expected)
-  pub reject : (refused tag : ℕ) (typed : Bool) (kind : Bytes) (why : ℕ) → 1 ≤ refused → refused ≤ 999_999_999 → tag ≤ 999_999_999 → (typed ≡ true → TextOf 2 kind) → Byted kind
-      → why ≤ 999_999_999 → ReadsBack Reject (ofReject ours peers n stamp refused tag (optional typed kind) why)
-  pub gap-fill : (next : ℕ) → 1 ≤ next → next ≤ 999_999_999 → ReadsBack SequenceReset (ofGapFill ours peers n stamp next)
-  pub logout : (status : ℕ) → status ≤ 999_999_999 → ReadsBack Logout (ofLogout ours peers n stamp status)
+module _ (ours peers : Bytes) (n : ℕ) (stamp : Bytes) where
+  -- a reply: where there is room its call takes the values (`fit` of `Replied`), so that its message is put; and the message reads back
+  pub record Sent (own : Bool) (room : ℕ) (m : MsgType) (vs : ℕ → Value) : Type 0 where
+    pub fit : (at len : ℕ) → at + room ≤ len → (sendable ours peers n stamp at room len && own) ≡ true
+    pub reads-back : ReadsBack m vs
+
+  -- each of the seven, with its own values
+  pub record Replies : Type 0 where
+    pub heartbeat : (there : Bool) (id : Bytes) → (there ≡ true → TextOf 64 id) → length id ≤ 64 → Byted id → Sent (echoable id) echoRoom Heartbeat (ofHeartbeat ours peers n stamp (optional there id))
+    pub test-request : (id : Bytes) → TextOf 64 id → Byted id → Sent (echoable id) echoRoom TestRequest (ofTestRequest ours peers n stamp id)
+    pub logon : (seconds : ℕ) (reset : Bool) → 1 ≤ seconds → seconds ≤ 60 → Sent (nineDigits seconds) logonRoom Logon (ofLogon ours peers n stamp seconds (optional reset (fix "Y")))
+    pub resend-request : (expected : ℕ) → 1 ≤ expected → expected ≤ 999_999_999 → Sent (nineDigits expected) resendRequestRoom ResendRequest (ofResendRequest ours peers n stamp expected)
+    pub reject : (refused tag : ℕ) (typed : Bool) (kind : Bytes) (why : ℕ) → 1 ≤ refused → refused ≤ 999_999_999 → tag ≤ 999_999_999 → (typed ≡ true → TextOf 2 kind) → length kind ≤ 2
+        → Byted kind → why ≤ 999_999_999 → Sent (rejectable refused tag kind why) rejectRoom Reject (ofReject ours peers n stamp refused tag (optional typed kind) why)
+    pub gap-fill : (next : ℕ) → 1 ≤ next → next ≤ 999_999_999 → Sent (nineDigits next) gapFillRoom SequenceReset (ofGapFill ours peers n stamp next)
+    pub logout : (status : ℕ) → status ≤ 999_999_999 → Sent (nineDigits status) logoutRoom Logout (ofLogout ours peers n stamp status)
 
 -- messages one behind the other
 abbrev pub AllGood : List Bytes → Type 0
