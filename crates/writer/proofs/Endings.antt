@@ -1,5 +1,5 @@
 -- D4 for the writer call, by the way in which it ends; different values never write the same bytes.
-use Prim.Native.Nat.{ℕ, zero, suc, _+_, _-_, _<_}
+use Prim.Native.Nat.{ℕ, zero, suc, _-_}
 use native.Mathlib.Omega.{arith}
 use mathlib.Core.Path.{_≡_, refl, sym, ap, _∙_}
 use mathlib.Core.Logic.{_⊎_, inl, inr}
@@ -15,7 +15,7 @@ use Rattle.fields.specs.Field.{firstField}
 use Rattle.frame.proofs.Decimals.{decimal-worth}
 use Rattle.dictionary.specs.declared.MsgType.{MsgType}
 use Rattle.dictionary.specs.Dictionary.{code35, administrative}
-use Rattle.writer.specs.Message.{Value, absent, number, bytes, shown, row, message, written, given}
+use Rattle.writer.specs.Message.{Value, absent, number, bytes, shown, row, message, written}
 use Rattle.writer.specs.Tags.{tags, numeric}
 use Rattle.writer.specs.Call.{placeIn, part, valueIn, refused8, admin, Outcome, refusing, writing, fitted, writeAs, write, numbers}
 use Rattle.writer.specs.Promise.{ReadsBack, MessageOf, Ends, another-type, unfit-value, short-buffer, whole}
@@ -97,14 +97,6 @@ module _ (type : Bytes) (vs : Values) (s d : Bytes) where
   refusal-8-or-9 (unfit-value m a r) k e = inl (cc)
   refusal-8-or-9 (short-buffer m a r l) k e = inr (cc)
   refusal-8-or-9 (whole m a r l) k e = let z : _≡_ {A = ℕ} 0 1 = cc in absurd (omega arith)
-
-  -- .. 9 only where the type and the values are fit, ..
-  pub refusal-9 : {o : Outcome} → Ends type vs s d o → numbers (o .answer) .0 ≡ some 9
-      → (m : MsgType) × ((admin type ≡ some m) × ((refused8 m (valueIn vs s) ≡ false) × (length d < length (written m (valueIn vs s)))))
-  refusal-9 (another-type a) e = let z : _≡_ {A = ℕ} 8 9 = cc in absurd (omega arith)
-  refusal-9 (unfit-value m a r) e = let z : _≡_ {A = ℕ} 8 9 = cc in absurd (omega arith)
-  refusal-9 (short-buffer m a r l) e = (m, (a, (r, l)))
-  refusal-9 (whole m a r l) e = let z : _≡_ {A = ℕ} 0 1 = cc in absurd (omega arith)
 
   -- .. and "under every refusal, the buffer keeps its old bytes"
   pub refusal-keeps : {o : Outcome} → Ends type vs s d o → (k : ℕ) → numbers (o .answer) .0 ≡ some k → o .buffer ≡ d

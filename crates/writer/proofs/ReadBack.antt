@@ -14,16 +14,16 @@ use Rattle.fields.specs.Field.{firstField}
 use Rattle.frame.proofs.Tests.{both, neither, or-last}
 use Rattle.dictionary.specs.declared.MsgType.{MsgType}
 use Rattle.dictionary.specs.declared.Verdict.the-variants.{Clean}
-use Rattle.dictionary.specs.Dictionary.{code35, administrative, typeOf, rowsOf, listed}
+use Rattle.dictionary.specs.Dictionary.{code35, administrative, rowsOf, listed}
 use Rattle.dictionary.specs.Verdict.{verdict, walk, nothingYet}
 use Rattle.writer.specs.Message.{Value, bytes, shown, row, order, valued, message, written}
 use Rattle.writer.specs.Tags.{tags}
 use Rattle.writer.specs.Call.{unwritable, refused8}
 use Rattle.writer.proofs.Rows.{plain-of, Fit, FitOne, partsOf, cut-row, orLater, shownFor, first-of-row}
 use Rattle.writer.proofs.Frames.{sound-row, good-framed, begins-35}
-use Rattle.writer.proofs.Wholes.{body-true, framed-one}
+use Rattle.writer.proofs.Wholes.{body-true}
 use Rattle.writer.proofs.Accepted.{accepted}
-use Rattle.writer.proofs.Seven.{filtered-has, known, named, withType, message-is, type-fits, type-read}
+use Rattle.writer.proofs.Seven.{filtered-has, known, withType, message-is, type-fits, type-read}
 use Rattle.writer.proofs.Clean.{message-clean}
 use Rattle.writer.proofs.Sizes.{Fine, not-own, fine-first, fine-later, all-fine, type-byte, body-length, body-longest}
 
