@@ -6,7 +6,7 @@ use mathlib.Core.List.{List, [], _∷_, _++_, append-assoc}
 use mathlib.Core.Option.{Option, none, some}
 use lib.Dec.{lit<}
 use lib.ListN.{length, getD, length-append}
-use Rattle.frame.specs.Bytes.{Bytes, fix, value, decimal, At}
+use Rattle.frame.specs.Bytes.{Bytes, fix, value, decimal, At, Byted}
 use Rattle.frame.specs.Frame.{fixt, Length, Body, Good, front, trailer, sumOf}
 use Rattle.frame.proofs.Lists.{at-byte}
 use Rattle.frame.proofs.Numerals.{Digits}
@@ -24,16 +24,13 @@ Clear l = (i : ℕ) → getD l i 0 ≡ 1 → getD l (suc i) 0 ≡ 57 → getD l 
 abbrev pub NoNine : Bytes → Type 0
 NoNine l = getD l 0 0 ≡ 57 → getD l 1 0 ≡ 61 → ⊥
 
-abbrev pub AllBytes : Bytes → Type 0
-AllBytes l = (i : ℕ) → getD l i 0 < 256
-
 abbrev pub Ends : Bytes → Type 0
 Ends l = 0 < length l → getD l (length l - 1) 0 ≡ 1
 
 pub record Sound (l : Bytes) : Type 0 where
   pub clear : Clear l
   pub no-nine : NoNine l
-  pub all-bytes : AllBytes l
+  pub all-bytes : Byted l
   pub ends : Ends l
 
 clear-part : (p r : Bytes) → Plain p → NoNine r → Clear r → Clear (p ++ (1 ∷ r))
@@ -47,7 +44,7 @@ other-tag [] r h n a b = absurd (omega arith)
 other-tag (d ∷ []) r h n a b = n (omega arith)
 other-tag (d ∷ d₂ ∷ l) r h n a b = absurd (omega (arith, h .1 .0))
 
-bytes-part : (p r : Bytes) → Plain p → AllBytes r → AllBytes (p ++ (1 ∷ r))
+bytes-part : (p r : Bytes) → Plain p → Byted r → Byted (p ++ (1 ∷ r))
 bytes-part [] r h k zero = omega arith
 bytes-part [] r h k (suc i) = k i
 bytes-part (x ∷ p) r h k zero = h .0 .1
@@ -100,7 +97,7 @@ length-good n l h =
     }
 
 -- the body's conditions, said of the digits of its length
-pub inside : (b : Bytes) → AllBytes b → At b 0 (fix "35=") → getD b (length b - 1) 0 ≡ 1 → Body (value (decimal (length b))) b
+pub inside : (b : Bytes) → Byted b → At b 0 (fix "35=") → getD b (length b - 1) 0 ≡ 1 → Body (value (decimal (length b))) b
 inside b all begins ends =
     let w : value (decimal (length b)) ≡ length b = decimal-worth (length b) in
     record { sized = sym w; begins = begins; ends = ap (λ (k : ℕ). getD b (k - 1) 0) w ∙ ends; bytes = all }

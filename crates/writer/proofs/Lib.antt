@@ -16,5 +16,8 @@ pub mod Filling
 pub mod Calls
 pub mod Replied
 pub mod Sent
-pub mod Promises
+pub mod Endings
 pub mod ReplyPromises
+pub mod Joined
+pub mod Promise
+pub mod OneOutcome

@@ -8,29 +8,29 @@ use mathlib.Core.Option.{Option, none, some}
 use lib.Dec.{eqb, ltb}
 use lib.ListN.{length}
 use borrow.Author.Tests.{eqb-true, eqb-false, eq-eqb, ne-eqb, ltb-true}
-use Rattle.frame.specs.Bytes.{Bytes, all, has}
+use Rattle.frame.specs.Bytes.{Bytes, all, has, Byted}
 use Rattle.frame.specs.Frame.{fixt, Good}
 use Rattle.fields.specs.Field.{firstField}
 use Rattle.frame.proofs.Tests.{both, neither, or-last}
 use Rattle.dictionary.specs.declared.MsgType.{MsgType}
 use Rattle.dictionary.specs.declared.Verdict.the-variants.{Clean}
-use Rattle.dictionary.specs.Dictionary.{code35, administrative, typeOf, rowsOf, listed}
+use Rattle.dictionary.specs.Dictionary.{code35, administrative, rowsOf, listed}
 use Rattle.dictionary.specs.Verdict.{verdict, walk, nothingYet}
 use Rattle.writer.specs.Message.{Value, bytes, shown, row, order, valued, message, written}
 use Rattle.writer.specs.Tags.{tags}
 use Rattle.writer.specs.Call.{unwritable, refused8}
 use Rattle.writer.proofs.Rows.{plain-of, Fit, FitOne, partsOf, cut-row, orLater, shownFor, first-of-row}
-use Rattle.writer.proofs.Frames.{AllBytes, sound-row, good-framed, begins-35}
-use Rattle.writer.proofs.Wholes.{body-true, framed-one}
+use Rattle.writer.proofs.Frames.{sound-row, good-framed, begins-35}
+use Rattle.writer.proofs.Wholes.{body-true}
 use Rattle.writer.proofs.Accepted.{accepted}
-use Rattle.writer.proofs.Seven.{filtered-has, known, named, withType, message-is, type-fits, type-read}
+use Rattle.writer.proofs.Seven.{filtered-has, known, withType, message-is, type-fits, type-read}
 use Rattle.writer.proofs.Clean.{message-clean}
 use Rattle.writer.proofs.Sizes.{Fine, not-own, fine-first, fine-later, all-fine, type-byte, body-length, body-longest}
 
 -- the bytes of a value are bytes
 abbrev pub OfBytes : Option Bytes → Type 0
 OfBytes none = Unit {0}
-OfBytes (some v) = AllBytes v
+OfBytes (some v) = Byted v
 
 all-has : (p : ℕ → Bool) (ts : List ℕ) (u : ℕ) → all p ts ≡ true → has ts u ≡ true → p u ≡ true
 all-has p [] u h k = absurd (false≢true k)
@@ -70,7 +70,7 @@ shown-valued t vs (u ∷ ts) = go (eqb u t) refl (shown (vs u)) refl (shown-valu
     go false e (some v) s r = rw (turned e) r
 
 -- bytes, by a test
-pub small-bytes : (l : Bytes) → all (λ x. ltb x 256) l ≡ true → AllBytes l
+pub small-bytes : (l : Bytes) → all (λ x. ltb x 256) l ≡ true → Byted l
 small-bytes [] h i = omega arith
 small-bytes (x ∷ l) h zero = ltb-true x 256 (both (ltb x 256) (all (λ x. ltb x 256) l) h .0)
 small-bytes (x ∷ l) h (suc i) = small-bytes l (both (ltb x 256) (all (λ x. ltb x 256) l) h .1) i
@@ -147,20 +147,3 @@ module _ (m : MsgType) (a : administrative m ≡ true) (vs : ℕ → Value) (ok 
       go : eqb 35 t ≡ false → (c : Bool) → has (order m) t ≡ c → has tags t ≡ false → cond (eqb 35 t || c) (shown (withType m vs t)) none ≡ none
       go e true k n = absurd (false≢true (sym n ∙ all-has (has tags) (order m) t (known m a .given) k))
       go e false k n = rw e
-
--- TWO DIFFERENT MESSAGES NEVER WRITE THE SAME BYTES
-module _ (m m′ : MsgType) (a : administrative m ≡ true) (a′ : administrative m′ ≡ true) (vs vs′ : ℕ → Value) (ok : refused8 m vs ≡ false) (ok′ : refused8 m′ vs′ ≡ false)
-    (b : (t : ℕ) → OfBytes (shown (vs t))) (b′ : (t : ℕ) → OfBytes (shown (vs′ t))) (e : written m vs ≡ written m′ vs′) where
-  same-body : row (message m vs) ≡ row (message m′ vs′)
-  unfolding written
-  same-body = framed-one (row (message m vs)) (row (message m′ vs′)) e
-
-  pub same-type : m ≡ m′
-  same-type =
-      let c : some (code35 m) ≡ some (code35 m′) = sym (type-back m a vs ok b) ∙ ap (firstField 35) same-body ∙ type-back m′ a′ vs′ ok′ b′ in
-      let d : code35 m ≡ code35 m′ = cc in
-      let n : some m ≡ some m′ = sym (named m a) ∙ ap typeOf d ∙ named m′ a′ in
-      cc
-
-  pub same-values : (t : ℕ) → has tags t ≡ true → shown (vs t) ≡ shown (vs′ t)
-  same-values t h = sym (value-back m a vs ok b t h) ∙ ap (firstField t) same-body ∙ value-back m′ a′ vs′ ok′ b′ t h

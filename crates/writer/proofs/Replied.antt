@@ -1,4 +1,4 @@
--- The calls of the six replies: what their tests say in numbers, what a call leaves behind them, and that any two outcomes of a call are equal.
+-- The calls of the seven replies: what their tests say in numbers, and what a call leaves behind them.
 use Prim.Native.Nat.{ℕ, _+_, _-_, _≤_, _<_}
 use native.Mathlib.Omega.{arith}
 use mathlib.Core.Path.{_≡_, refl, sym, ap, _∙_}
@@ -82,11 +82,3 @@ module _ {b all : Bool} (tested : b ≡ all) where
   put {own = own} h e w l =
       let fit = both-true all own (sym tested ∙ not-false b h) e in
       record { written = λ t. (w, l); refused = λ f. absurd (false≢true (sym f ∙ fit)) }
-
--- any two outcomes that the contract of a call allows are equal
-pub one-reply : {fit : Bool} {d a b : Bytes} {at to end room : ℕ} {xs : Bytes} → Replied fit d a at to room xs → Replied fit d b at end room xs → (a ≡ b) × (to ≡ end)
-one-reply {fit} {d} {a} {b} {at} {to} {end} {room} {xs} R S = go fit refl
-  where
-    go : (c : Bool) → fit ≡ c → (a ≡ b) × (to ≡ end)
-    go true e = let r = R .written e .0 in let s = S .written e .0 in (r .bytes ∙ sym (s .bytes), r .next ∙ sym (s .next))
-    go false e = let r = R .refused e in let s = S .refused e in (r .0 ∙ sym (s .0), r .1 ∙ sym (s .1))

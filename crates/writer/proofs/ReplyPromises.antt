@@ -4,16 +4,15 @@ use mathlib.Core.Path.{_≡_, refl}
 use mathlib.Core.List.{List, [], _∷_}
 use mathlib.Core.Bool.{Bool, true, false, cond}
 use lib.Dec.{eqb}
-use Rattle.frame.specs.Bytes.{Bytes, fix}
-use Rattle.dictionary.specs.declared.MsgType.the-variants.{Heartbeat, ResendRequest, Reject, SequenceReset, Logout, Logon}
+use Rattle.frame.specs.Bytes.{Bytes, fix, Byted}
+use Rattle.dictionary.specs.declared.MsgType.the-variants.{Heartbeat, TestRequest, ResendRequest, Reject, SequenceReset, Logout, Logon}
 use Rattle.dictionary.specs.Dictionary.{code35, administrative}
 use Rattle.writer.specs.Message.{absent, number, bytes, Field, _is_, shown, given}
-use Rattle.writer.specs.Reply.{optional, unlessZero, values, ofHeartbeat, ofLogon, ofResendRequest, ofReject, ofGapFill, ofLogout}
-use Rattle.writer.specs.Promise.{ReadsBack}
-use Rattle.writer.proofs.Frames.{AllBytes}
+use Rattle.writer.specs.Reply.{optional, unlessZero, values, ofHeartbeat, ofTestRequest, ofLogon, ofResendRequest, ofReject, ofGapFill, ofLogout}
+use Rattle.writer.specs.Promise.{ReadsBack, TextOf, Sendable}
 use Rattle.writer.proofs.ReadBack.{OfBytes, small-bytes}
-use Rattle.writer.proofs.Sent.{TextOf, Sendable, heartbeat-fit, logon-fit, resend-request-fit, reject-fit, gap-fill-fit, logout-fit}
-use Rattle.writer.proofs.Promises.{decimal-bytes, reads-back}
+use Rattle.writer.proofs.Sent.{heartbeat-fit, test-request-fit, logon-fit, resend-request-fit, reject-fit, gap-fill-fit, logout-fit}
+use Rattle.writer.proofs.Endings.{decimal-bytes, reads-back}
 
 -- the values of a reply are bytes
 abbrev AllOf : List Field → Type 0
@@ -28,7 +27,7 @@ given-bytes ((u is v) ∷ fs) h t = go (eqb u t) (given-bytes fs (h .1) t)
     go true k = h .0
     go false k = k
 
-optional-bytes : (there : Bool) (v : Bytes) → AllBytes v → OfBytes (shown (optional there v))
+optional-bytes : (there : Bool) (v : Bytes) → Byted v → OfBytes (shown (optional there v))
 optional-bytes true v h = h
 optional-bytes false v h = tt
 
@@ -40,15 +39,20 @@ unless-zero-bytes n = go (eqb n 0)
     go false = decimal-bytes n
 
 -- EACH REPLY
-module _ (ours peers : Bytes) (n : ℕ) (stamp : Bytes) (S : Sendable ours peers n stamp) (bo : AllBytes ours) (bp : AllBytes peers) (bs : AllBytes stamp) where
+module _ (ours peers : Bytes) (n : ℕ) (stamp : Bytes) (S : Sendable ours peers n stamp) (bo : Byted ours) (bp : Byted peers) (bs : Byted stamp) where
   all-bytes : (fs : List Field) → AllOf fs → (t : ℕ) → OfBytes (shown (values ours peers n stamp fs t))
   all-bytes fs h = given-bytes (49 is bytes ours ∷ 56 is bytes peers ∷ 34 is number n ∷ 52 is bytes stamp ∷ fs) (bo, (bp, (decimal-bytes n, (bs, h))))
 
-  pub heartbeat-promised : (there : Bool) (id : Bytes) → (there ≡ true → TextOf 64 id) → AllBytes id → ReadsBack Heartbeat (ofHeartbeat ours peers n stamp (optional there id))
+  pub heartbeat-promised : (there : Bool) (id : Bytes) → (there ≡ true → TextOf 64 id) → Byted id → ReadsBack Heartbeat (ofHeartbeat ours peers n stamp (optional there id))
   unfolding administrative code35
   heartbeat-promised there id T b =
       reads-back Heartbeat refl (ofHeartbeat ours peers n stamp (optional there id)) (heartbeat-fit ours peers n stamp S there id T)
       (all-bytes (112 is optional there id ∷ []) (optional-bytes there id b, tt))
+
+  pub test-request-promised : (id : Bytes) → TextOf 64 id → Byted id → ReadsBack TestRequest (ofTestRequest ours peers n stamp id)
+  unfolding administrative code35
+  test-request-promised id T b =
+      reads-back TestRequest refl (ofTestRequest ours peers n stamp id) (test-request-fit ours peers n stamp S id T) (all-bytes (112 is bytes id ∷ []) (b, tt))
 
   pub logon-promised : (seconds : ℕ) (reset : Bool) → 1 ≤ seconds → seconds ≤ 60 → ReadsBack Logon (ofLogon ours peers n stamp seconds (optional reset (fix "Y")))
   unfolding administrative code35
@@ -63,7 +67,7 @@ module _ (ours peers : Bytes) (n : ℕ) (stamp : Bytes) (S : Sendable ours peers
       reads-back ResendRequest refl (ofResendRequest ours peers n stamp expected) (resend-request-fit ours peers n stamp S expected low high)
       (all-bytes (7 is number expected ∷ 16 is number 0 ∷ []) (decimal-bytes expected, (decimal-bytes 0, tt)))
 
-  pub reject-promised : (refused tag : ℕ) (typed : Bool) (kind : Bytes) (why : ℕ) → 1 ≤ refused → refused ≤ 999_999_999 → tag ≤ 999_999_999 → (typed ≡ true → TextOf 2 kind) → AllBytes kind
+  pub reject-promised : (refused tag : ℕ) (typed : Bool) (kind : Bytes) (why : ℕ) → 1 ≤ refused → refused ≤ 999_999_999 → tag ≤ 999_999_999 → (typed ≡ true → TextOf 2 kind) → Byted kind
       → why ≤ 999_999_999 → ReadsBack Reject (ofReject ours peers n stamp refused tag (optional typed kind) why)
   unfolding administrative code35
   reject-promised refused tag typed kind why low high small T b few =

@@ -11,12 +11,13 @@ use Rattle.frame.specs.Bytes.{Bytes, fix, has, decimal}
 use Rattle.frame.proofs.Numerals.{is-within}
 use Rattle.kinds.specs.Kind.{text, number_to_, Y/N, time, kindOf, formed, allowed}
 use Rattle.dictionary.specs.declared.MsgType.{MsgType}
-use Rattle.dictionary.specs.declared.MsgType.the-variants.{Heartbeat, ResendRequest, Reject, SequenceReset, Logout, Logon}
+use Rattle.dictionary.specs.declared.MsgType.the-variants.{Heartbeat, TestRequest, ResendRequest, Reject, SequenceReset, Logout, Logon}
 use Rattle.dictionary.specs.Dictionary.{№453, №580, header, fields, code35, groupsOf, rowsOf, listed, kindIn, administrative}
 use Rattle.writer.specs.Message.{Value, absent, shown}
 use Rattle.writer.specs.Tags.{tags}
 use Rattle.writer.specs.Call.{rejected, required, unwritable, refused8}
-use Rattle.writer.specs.Reply.{optional, unlessZero, ofHeartbeat, ofLogon, ofResendRequest, ofReject, ofGapFill, ofLogout}
+use Rattle.writer.specs.Promise.{TextOf, TimeOf, Sendable}
+use Rattle.writer.specs.Reply.{optional, unlessZero, ofHeartbeat, ofTestRequest, ofLogon, ofResendRequest, ofReject, ofGapFill, ofLogout}
 use Rattle.writer.proofs.Rows.{plain-decimal, Plain}
 use Rattle.writer.proofs.Accepted.{not-rejected, number-formed, number-allowed}
 use Rattle.writer.proofs.Writes.{few-digits}
@@ -24,27 +25,6 @@ use Rattle.writer.proofs.Writes.{few-digits}
 no-bar-in : (l : Bytes) → Plain l → has l 1 ≡ false
 no-bar-in [] h = refl
 no-bar-in (x ∷ l) h = rw (ne-eqb x 1 (h .0 .0), no-bar-in l (h .1))
-
--- bytes that are a time of the dictionary
-pub record TimeOf (v : Bytes) : Type 0 where
-  pub long : length v ≡ 24
-  pub no-bar : has v 1 ≡ false
-  pub form : formed time v ≡ true
-  pub right : allowed time v ≡ true
-
--- 1 to l bytes, none `|`
-pub record TextOf (l : ℕ) (v : Bytes) : Type 0 where
-  pub filled : 1 ≤ length v
-  pub short : length v ≤ l
-  pub no-bar : has v 1 ≡ false
-
--- what the session knows of what it sends: "CompIDs (1 to 11 bytes, no `|`)", "numbers 1 to 999,999,999"
-pub record Sendable (ours peers : Bytes) (n : ℕ) (stamp : Bytes) : Type 0 where
-  pub our-id : TextOf 11 ours
-  pub peer-id : TextOf 11 peers
-  pub counted : 1 ≤ n
-  pub few : n ≤ 999_999_999
-  pub timed : TimeOf stamp
 
 -- ONE VALUE, by its kind
 module _ (m : MsgType) (t : ℕ) (own : listed (rowsOf m) t ≡ true) where
@@ -128,6 +108,12 @@ module _ (ours peers : Bytes) (n : ℕ) (stamp : Bytes) (S : Sendable ours peers
   heartbeat-fit there id T =
       let H = in-header Heartbeat refl in
       rw (H .from, H .target, H .seq, H .sent, optional-fit Heartbeat 112 there id refl (λ e. text-fit Heartbeat 112 refl 64 64 id refl (T e) (omega arith)))
+
+  pub test-request-fit : (id : Bytes) → TextOf 64 id → refused8 TestRequest (ofTestRequest ours peers n stamp id) ≡ false
+  unfolding refused8 tags required rowsOf header fields №453 №580 groupsOf kindOf administrative code35
+  test-request-fit id T =
+      let H = in-header TestRequest refl in
+      rw (H .from, H .target, H .seq, H .sent, text-fit TestRequest 112 refl 64 64 id refl T (omega arith))
 
   pub logon-fit : (seconds : ℕ) (reset : Bool) → 1 ≤ seconds → seconds ≤ 60 → refused8 Logon (ofLogon ours peers n stamp seconds (optional reset (fix "Y"))) ≡ false
   unfolding refused8 tags required rowsOf header fields №453 №580 groupsOf kindOf administrative code35

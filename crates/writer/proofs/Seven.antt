@@ -83,10 +83,6 @@ well-listed : (m : MsgType) → administrative m ≡ true → wellListed m ≡ t
 unfolding wellListed needed inOrder filtered tags order own code35 header fields №453 №580 groupsOf member rowsOf inDictionary
 well-listed = each (λ m. wellListed m ≡ true) (record { heartbeat = refl; test-request = refl; resend-request = refl; reject = refl; sequence-reset = refl; logout = refl; logon = refl })
 
-pub named : (m : MsgType) → administrative m ≡ true → typeOf (code35 m) ≡ some m
-unfolding code35 typeOf
-named = each (λ m. typeOf (code35 m) ≡ some m) (record { heartbeat = refl; test-request = refl; resend-request = refl; reject = refl; sequence-reset = refl; logout = refl; logon = refl })
-
 -- what the walk has to know of a message
 pub record Known (m : MsgType) : Type 0 where
   pub no-groups : groupsOf m ≡ []

@@ -1,5 +1,6 @@
 -- The writer call: "the values of one of the seven administrative messages" in, refusal 8, refusal 9 or the message out.
 use Prim.Native.Nat.{ℕ, suc, _-_}
+use mathlib.Core.Path.{_≡_}
 use mathlib.Core.List.{List, [], _∷_, _++_}
 use mathlib.Core.Bool.{Bool, false, cond, not, _&&_, _||_}
 use mathlib.Core.Option.{Option, none, some}
@@ -87,6 +88,10 @@ writeAs (some m) vs buf = cond (refused8 m vs) (refusing Unfit buf) (fitted (wri
 
 unfoldable pub write : Bytes → Values → Bytes → Bytes → Outcome
 write type vs text buf = writeAs (admin type) (valueIn vs text) buf
+
+-- what the call answers and what it leaves in the buffer
+abbrev pub Writes : Bytes → Values → Bytes → Bytes → Written → Bytes → Type 0
+Writes type vs text buf answer after = record { answer = answer; buffer = after } ≡ write type vs text buf
 
 -- this paper's number of the refusal, if it is one, and the values of each case: of a message its length
 abbrev pub numbers : Written → Option ℕ × List ℕ

@@ -6,4 +6,5 @@ pub mod Promise
 pub mod Whole
 pub mod Wrote
 pub mod Replied
+pub mod Cases
 pub mod code

@@ -1,4 +1,6 @@
--- The calls of the six replies: which values they take, and what they leave in the buffer.
+-- The calls of the seven replies: which values they take, and what they leave in the buffer. They ask for lengths, for numbers of nine digits and for room,
+-- and for nothing else. For values that fit but that no session has (an empty CompID, a CompID with a `|`, number 0, a time that is none) they put the bytes
+-- of just these values; that the message is a good frame with a clean verdict is promised for `Sendable` values (specs/Promise.antt), not for those.
 use Prim.Native.Nat.{ℕ, _+_, _≤_}
 use mathlib.Core.Path.{_≡_}
 use mathlib.Core.Bool.{Bool, true, false, _&&_}
@@ -7,19 +9,39 @@ use lib.ListN.{length}
 use Rattle.frame.specs.Bytes.{Bytes}
 use Rattle.writer.specs.Wrote.{Wrote}
 
--- "Numbers are 1 to 9 digits"
+-- how many bytes each asks for behind its place: no less than its longest message has
+abbrev pub echoRoom : ℕ
+echoRoom = 187
+
+abbrev pub logonRoom : ℕ
+logonRoom = 156
+
+abbrev pub resendRequestRoom : ℕ
+resendRequestRoom = 148
+
+abbrev pub rejectRoom : ℕ
+rejectRoom = 173
+
+abbrev pub gapFillRoom : ℕ
+gapFillRoom = 179
+
+abbrev pub logoutRoom : ℕ
+logoutRoom = 132
+
+-- "Numbers are 1 to 9 digits": at most nine, 0 is let through
 abbrev pub nineDigits : ℕ → Bool
 nineDigits n = leb n 999_999_999
 
--- of each reply: "CompIDs (1 to 11 bytes ..)", its number, a time with at most six decimals, and so much room behind its place in a buffer of len bytes
+-- of each reply: CompIDs of at most 11 bytes, a number of at most nine digits, a time of at most 24 bytes, and so much room behind its place in a buffer
+-- of len bytes
 unfoldable pub sendable : Bytes → Bytes → ℕ → Bytes → ℕ → ℕ → ℕ → Bool
 sendable ours peers n time at room len = leb (length ours) 11 && leb (length peers) 11 && nineDigits n && leb (length time) 24 && leb (at + room) len
 
--- of a Heartbeat besides: "112: 64"
+-- of a Heartbeat and a Test Request besides: an id of at most 64 bytes, also where it is not written
 abbrev pub echoable : Bytes → Bool
 echoable id = leb (length id) 64
 
--- of a Reject besides: its numbers, and a type as short as the nine
+-- of a Reject besides: its numbers, and a type as short as the nine, also where it is not written
 unfoldable pub rejectable : ℕ → ℕ → Bytes → ℕ → Bool
 rejectable refused tag type why = nineDigits refused && nineDigits tag && leb (length type) 2 && nineDigits why
 

@@ -4,7 +4,7 @@ use mathlib.Core.List.{List, [], _∷_}
 use mathlib.Core.Bool.{Bool, cond}
 use lib.Dec.{eqb}
 use Rattle.frame.specs.Bytes.{Bytes, fix}
-use Rattle.dictionary.specs.declared.MsgType.the-variants.{Heartbeat, ResendRequest, Reject, SequenceReset, Logout, Logon}
+use Rattle.dictionary.specs.declared.MsgType.the-variants.{Heartbeat, TestRequest, ResendRequest, Reject, SequenceReset, Logout, Logon}
 use Rattle.writer.specs.Message.{Value, absent, number, bytes, Field, _is_, written, given}
 
 -- bytes that are there, or not
@@ -23,6 +23,10 @@ module _ (ours peers : Bytes) (n : ℕ) (time : Bytes) where
   -- "Heartbeat with its 112"; the tick's has none
   abbrev pub ofHeartbeat : Value → ℕ → Value
   ofHeartbeat id = values (112 is id ∷ [])
+
+  -- a Test Request of ours: "1: 112 Y"
+  abbrev pub ofTestRequest : Bytes → ℕ → Value
+  ofTestRequest id = values (112 is bytes id ∷ [])
 
   -- "our Logon repeats its 98, 108 and 1137" ("98 {0}", "1137 {9}"); "our Logon with 141=Y"
   abbrev pub ofLogon : ℕ → Value → ℕ → Value
@@ -47,6 +51,9 @@ module _ (ours peers : Bytes) (n : ℕ) (time : Bytes) where
   -- the bytes of each
   unfoldable pub heartbeat : Value → Bytes
   heartbeat id = written Heartbeat (ofHeartbeat id)
+
+  unfoldable pub testRequest : Bytes → Bytes
+  testRequest id = written TestRequest (ofTestRequest id)
 
   unfoldable pub logon : ℕ → Value → Bytes
   logon seconds reset = written Logon (ofLogon seconds reset)

@@ -17,13 +17,14 @@ pub use replies::logon;
 pub use replies::logout;
 pub use replies::reject;
 pub use replies::resend_request;
+pub use replies::test_request;
 ghost use mathlib.Core.Path.{_≡_};
 ghost use mathlib.Core.Bool.{true};
 ghost use Prim.Native.Nat.{_≤_};
 ghost use lib.ListN.{length};
 ghost use Rattle.dictionary.specs.Dictionary.{code35, administrative};
 ghost use Rattle.writer.specs.Message.{framed};
-ghost use Rattle.writer.specs.Call.{fitted, valueIn, write};
+ghost use Rattle.writer.specs.Call.{fitted, valueIn, Writes};
 ghost use Rattle.writer.specs.code.Held.{PutBody};
 
 // The values of one message. Each of the 21 tags has its place (specs/Tags.antt); a value that is not given is absent. A number stands in `numbers`;
@@ -70,7 +71,7 @@ fn put_message(buf: &mut [u8], body: &[u8]) -> Written
 
 // One administrative message from its values, at the front of a buffer; or refusal 8 or 9, with the buffer as it was.
 pub fn write(code: &[u8], values: Values, text: &[u8], buf: &mut [u8]) -> Written
-    ensures { λ r. ⌜ record { answer = r; buffer = now (buf .exit) } ≡ write (now (code .entry)) values (now (text .entry)) (now (buf .entry)) ⌝ }
+    ensures { λ r. ⌜ Writes (now (code .entry)) values (now (text .entry)) (now (buf .entry)) r (now (buf .exit)) ⌝ }
 {
     let named = admin_of(code);
     let Admin::Is(m) = named else {

@@ -8,12 +8,12 @@ ghost use mathlib.Core.Bool.{_&&_};
 ghost use Prim.Native.Nat.{_+_, _≤_, _<_};
 ghost use lib.ListN.{length, take};
 ghost use Rattle.frame.specs.Bytes.{fix};
-ghost use Rattle.dictionary.specs.declared.MsgType.the-variants.{Heartbeat, ResendRequest, Reject, SequenceReset, Logout, Logon};
+ghost use Rattle.dictionary.specs.declared.MsgType.the-variants.{ResendRequest, Reject, SequenceReset, Logout, Logon};
 ghost use Rattle.writer.specs.Message.{bytes, _is_, field, row, framed, message};
-ghost use Rattle.writer.specs.Reply.{optional, unlessZero, ofHeartbeat, ofLogon, ofResendRequest, ofReject, ofGapFill, ofLogout, heartbeat, logon, resendRequest, reject, gapFill, logout};
+ghost use Rattle.writer.specs.Reply.{optional, unlessZero, ofLogon, ofResendRequest, ofReject, ofGapFill, ofLogout, heartbeat, testRequest, logon, resendRequest, reject, gapFill, logout};
 ghost use Rattle.writer.specs.Wrote.{Wrote};
-ghost use Rattle.writer.specs.code.Ranges.{Ranged, ids, headed};
-ghost use Rattle.writer.specs.Replied.{nineDigits, sendable, echoable, rejectable, Replied};
+ghost use Rattle.writer.specs.code.Ranges.{Ranged, ids, headed, echoed};
+ghost use Rattle.writer.specs.Replied.{echoRoom, logonRoom, resendRequestRoom, rejectRoom, gapFillRoom, logoutRoom, nineDigits, sendable, echoable, rejectable, Replied};
 
 // Whether every reply takes these values, and a buffer of `len` bytes has so much room behind the place.
 fn sendable(
@@ -118,8 +118,12 @@ fn put_reply(buf: &mut [u8], at: usize, body: &[u8], k: usize) -> usize
     put_frame(buf, at, &body[..k])
 }
 
-fn heartbeat_body(
+const ECHO_ROOM: usize = 187;
+
+// The body of a message of this code with its 112.
+fn echo_body(
     body: &mut [u8],
+    code: &[u8],
     ours: &[u8],
     peers: &[u8],
     n: u64,
@@ -128,12 +132,38 @@ fn heartbeat_body(
     id: &[u8],
 ) -> usize
     requires { ⌜ Ranged (now ours) (now peers) n ⌝ }
-    requires { ⌜ (length (now time) ≤ 24) × (length (now id) ≤ 64) × (256 ≤ length (now body)) ⌝ }
-    ensures bytes { λ r. ⌜ Wrote (now (body .entry)) (now (body .exit)) 0 r (row (message Heartbeat (ofHeartbeat (now (ours .entry)) (now (peers .entry)) n (now (time .entry)) (optional there (now (id .entry)))))) ⌝ }
+    requires { ⌜ (length (now code) ≤ 1) × (length (now time) ≤ 24) × (length (now id) ≤ 64) × (256 ≤ length (now body)) ⌝ }
+    ensures bytes { λ r. ⌜ Wrote (now (body .entry)) (now (body .exit)) 0 r (row (echoed (now (code .entry)) (now (ours .entry)) (now (peers .entry)) n (now (time .entry)) (optional there (now (id .entry))))) ⌝ }
     ensures room { λ r. ⌜ r ≤ 162 ⌝ }
 {
-    let a = put_head(body, b"0", ours, peers, n, time);
+    let a = put_head(body, code, ours, peers, n, time);
     put_optional(body, a, 112, there, id)
+}
+
+// A Heartbeat or a Test Request, by its code.
+fn echo(
+    buf: &mut [u8],
+    at: usize,
+    code: &[u8],
+    ours: &[u8],
+    peers: &[u8],
+    n: u64,
+    time: &[u8],
+    there: bool,
+    id: &[u8],
+) -> usize
+    requires { ⌜ length (now code) ≤ 1 ⌝ }
+    ensures { λ r. ⌜ Replied (sendable (now (ours .entry)) (now (peers .entry)) n (now (time .entry)) at echoRoom (length (now (buf .entry))) && echoable (now (id .entry))) (now (buf .entry)) (now (buf .exit)) at r echoRoom (framed (row (echoed (now (code .entry)) (now (ours .entry)) (now (peers .entry)) n (now (time .entry)) (optional there (now (id .entry)))))) ⌝ }
+{
+    if !sendable(ours, peers, n, time, at, ECHO_ROOM, buf.len()) {
+        return at;
+    }
+    if 64 < id.len() {
+        return at;
+    }
+    let mut body = [0u8; 256];
+    let k = echo_body(&mut body, code, ours, peers, n, time, there, id);
+    put_reply(buf, at, &body, k)
 }
 
 // The Heartbeat of a tick, or the answer to a Test Request, with its 112.
@@ -147,18 +177,27 @@ pub fn heartbeat(
     there: bool,
     id: &[u8],
 ) -> usize
-    ensures { λ r. ⌜ Replied (sendable (now (ours .entry)) (now (peers .entry)) n (now (time .entry)) at 187 (length (now (buf .entry))) && echoable (now (id .entry))) (now (buf .entry)) (now (buf .exit)) at r 187 (heartbeat (now (ours .entry)) (now (peers .entry)) n (now (time .entry)) (optional there (now (id .entry)))) ⌝ }
+    ensures { λ r. ⌜ Replied (sendable (now (ours .entry)) (now (peers .entry)) n (now (time .entry)) at echoRoom (length (now (buf .entry))) && echoable (now (id .entry))) (now (buf .entry)) (now (buf .exit)) at r echoRoom (heartbeat (now (ours .entry)) (now (peers .entry)) n (now (time .entry)) (optional there (now (id .entry)))) ⌝ }
 {
-    if !sendable(ours, peers, n, time, at, 187, buf.len()) {
-        return at;
-    }
-    if 64 < id.len() {
-        return at;
-    }
-    let mut body = [0u8; 256];
-    let k = heartbeat_body(&mut body, ours, peers, n, time, there, id);
-    put_reply(buf, at, &body, k)
+    echo(buf, at, b"0", ours, peers, n, time, there, id)
 }
+
+// A Test Request of ours, with its 112.
+pub fn test_request(
+    buf: &mut [u8],
+    at: usize,
+    ours: &[u8],
+    peers: &[u8],
+    n: u64,
+    time: &[u8],
+    id: &[u8],
+) -> usize
+    ensures { λ r. ⌜ Replied (sendable (now (ours .entry)) (now (peers .entry)) n (now (time .entry)) at echoRoom (length (now (buf .entry))) && echoable (now (id .entry))) (now (buf .entry)) (now (buf .exit)) at r echoRoom (testRequest (now (ours .entry)) (now (peers .entry)) n (now (time .entry)) (now (id .entry))) ⌝ }
+{
+    echo(buf, at, b"1", ours, peers, n, time, true, id)
+}
+
+const LOGON_ROOM: usize = 156;
 
 fn logon_body(
     body: &mut [u8],
@@ -192,9 +231,9 @@ pub fn logon(
     seconds: u64,
     reset: bool,
 ) -> usize
-    ensures { λ r. ⌜ Replied (sendable (now (ours .entry)) (now (peers .entry)) n (now (time .entry)) at 156 (length (now (buf .entry))) && nineDigits seconds) (now (buf .entry)) (now (buf .exit)) at r 156 (logon (now (ours .entry)) (now (peers .entry)) n (now (time .entry)) seconds (optional reset (fix "Y"))) ⌝ }
+    ensures { λ r. ⌜ Replied (sendable (now (ours .entry)) (now (peers .entry)) n (now (time .entry)) at logonRoom (length (now (buf .entry))) && nineDigits seconds) (now (buf .entry)) (now (buf .exit)) at r logonRoom (logon (now (ours .entry)) (now (peers .entry)) n (now (time .entry)) seconds (optional reset (fix "Y"))) ⌝ }
 {
-    if !sendable(ours, peers, n, time, at, 156, buf.len()) {
+    if !sendable(ours, peers, n, time, at, LOGON_ROOM, buf.len()) {
         return at;
     }
     if 999_999_999 < seconds {
@@ -204,6 +243,8 @@ pub fn logon(
     let k = logon_body(&mut body, ours, peers, n, time, seconds, reset);
     put_reply(buf, at, &body, k)
 }
+
+const RESEND_REQUEST_ROOM: usize = 148;
 
 fn resend_request_body(
     body: &mut [u8],
@@ -233,9 +274,9 @@ pub fn resend_request(
     time: &[u8],
     expected: u64,
 ) -> usize
-    ensures { λ r. ⌜ Replied (sendable (now (ours .entry)) (now (peers .entry)) n (now (time .entry)) at 148 (length (now (buf .entry))) && nineDigits expected) (now (buf .entry)) (now (buf .exit)) at r 148 (resendRequest (now (ours .entry)) (now (peers .entry)) n (now (time .entry)) expected) ⌝ }
+    ensures { λ r. ⌜ Replied (sendable (now (ours .entry)) (now (peers .entry)) n (now (time .entry)) at resendRequestRoom (length (now (buf .entry))) && nineDigits expected) (now (buf .entry)) (now (buf .exit)) at r resendRequestRoom (resendRequest (now (ours .entry)) (now (peers .entry)) n (now (time .entry)) expected) ⌝ }
 {
-    if !sendable(ours, peers, n, time, at, 148, buf.len()) {
+    if !sendable(ours, peers, n, time, at, RESEND_REQUEST_ROOM, buf.len()) {
         return at;
     }
     if 999_999_999 < expected {
@@ -245,6 +286,8 @@ pub fn resend_request(
     let k = resend_request_body(&mut body, ours, peers, n, time, expected);
     put_reply(buf, at, &body, k)
 }
+
+const REJECT_ROOM: usize = 173;
 
 fn reject_body(
     body: &mut [u8],
@@ -284,9 +327,9 @@ pub fn reject(
     kind: &[u8],
     why: u64,
 ) -> usize
-    ensures { λ r. ⌜ Replied (sendable (now (ours .entry)) (now (peers .entry)) n (now (time .entry)) at 173 (length (now (buf .entry))) && rejectable refused tag (now (kind .entry)) why) (now (buf .entry)) (now (buf .exit)) at r 173 (reject (now (ours .entry)) (now (peers .entry)) n (now (time .entry)) refused tag (optional typed (now (kind .entry))) why) ⌝ }
+    ensures { λ r. ⌜ Replied (sendable (now (ours .entry)) (now (peers .entry)) n (now (time .entry)) at rejectRoom (length (now (buf .entry))) && rejectable refused tag (now (kind .entry)) why) (now (buf .entry)) (now (buf .exit)) at r rejectRoom (reject (now (ours .entry)) (now (peers .entry)) n (now (time .entry)) refused tag (optional typed (now (kind .entry))) why) ⌝ }
 {
-    if !sendable(ours, peers, n, time, at, 173, buf.len()) {
+    if !sendable(ours, peers, n, time, at, REJECT_ROOM, buf.len()) {
         return at;
     }
     if !rejectable(refused, tag, kind, why) {
@@ -307,6 +350,8 @@ pub fn reject(
     );
     put_reply(buf, at, &body, k)
 }
+
+const GAP_FILL_ROOM: usize = 179;
 
 fn gap_fill_body(
     body: &mut [u8],
@@ -339,9 +384,9 @@ pub fn gap_fill(
     time: &[u8],
     next: u64,
 ) -> usize
-    ensures { λ r. ⌜ Replied (sendable (now (ours .entry)) (now (peers .entry)) n (now (time .entry)) at 179 (length (now (buf .entry))) && nineDigits next) (now (buf .entry)) (now (buf .exit)) at r 179 (gapFill (now (ours .entry)) (now (peers .entry)) n (now (time .entry)) next) ⌝ }
+    ensures { λ r. ⌜ Replied (sendable (now (ours .entry)) (now (peers .entry)) n (now (time .entry)) at gapFillRoom (length (now (buf .entry))) && nineDigits next) (now (buf .entry)) (now (buf .exit)) at r gapFillRoom (gapFill (now (ours .entry)) (now (peers .entry)) n (now (time .entry)) next) ⌝ }
 {
-    if !sendable(ours, peers, n, time, at, 179, buf.len()) {
+    if !sendable(ours, peers, n, time, at, GAP_FILL_ROOM, buf.len()) {
         return at;
     }
     if 999_999_999 < next {
@@ -351,6 +396,8 @@ pub fn gap_fill(
     let k = gap_fill_body(&mut body, ours, peers, n, time, next);
     put_reply(buf, at, &body, k)
 }
+
+const LOGOUT_ROOM: usize = 132;
 
 fn logout_body(
     body: &mut [u8],
@@ -379,9 +426,9 @@ pub fn logout(
     time: &[u8],
     status: u64,
 ) -> usize
-    ensures { λ r. ⌜ Replied (sendable (now (ours .entry)) (now (peers .entry)) n (now (time .entry)) at 132 (length (now (buf .entry))) && nineDigits status) (now (buf .entry)) (now (buf .exit)) at r 132 (logout (now (ours .entry)) (now (peers .entry)) n (now (time .entry)) status) ⌝ }
+    ensures { λ r. ⌜ Replied (sendable (now (ours .entry)) (now (peers .entry)) n (now (time .entry)) at logoutRoom (length (now (buf .entry))) && nineDigits status) (now (buf .entry)) (now (buf .exit)) at r logoutRoom (logout (now (ours .entry)) (now (peers .entry)) n (now (time .entry)) status) ⌝ }
 {
-    if !sendable(ours, peers, n, time, at, 132, buf.len()) {
+    if !sendable(ours, peers, n, time, at, LOGOUT_ROOM, buf.len()) {
         return at;
     }
     if 999_999_999 < status {

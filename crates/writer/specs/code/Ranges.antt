@@ -3,7 +3,7 @@ use Prim.Native.Nat.{ℕ, _≤_, _<_}
 use mathlib.Core.List.{List, [], _∷_, _++_}
 use lib.ListN.{length}
 use Rattle.frame.specs.Bytes.{Bytes}
-use Rattle.writer.specs.Message.{number, bytes, Field, _is_}
+use Rattle.writer.specs.Message.{Value, number, bytes, Field, _is_}
 
 -- "CompIDs (1 to 11 bytes ..)", "numbers 1 to 999,999,999"
 pub record Ranged (ours peers : Bytes) (n : ℕ) : Type 0 where
@@ -16,3 +16,7 @@ ids code ours peers n = 35 is bytes code ∷ 49 is bytes ours ∷ 56 is bytes pe
 
 abbrev pub headed : Bytes → Bytes → Bytes → ℕ → Bytes → List Field
 headed code ours peers n time = ids code ours peers n ++ (52 is bytes time ∷ [])
+
+-- a Heartbeat and a Test Request differ in their code alone
+abbrev pub echoed : Bytes → Bytes → Bytes → ℕ → Bytes → Value → List Field
+echoed code ours peers n time id = headed code ours peers n time ++ (112 is id ∷ [])

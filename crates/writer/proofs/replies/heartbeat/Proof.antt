@@ -1,46 +1,14 @@
--- `heartbeat`: nothing where its values do not fit, else the frame around its body.
+-- `heartbeat`: what `echo` puts for its code.
 use borrow.Author.Needs.{needs}
-use borrow.Author.Tests.{lt-leb, le-leb}
-use native.Mathlib.Omega.{arith}
-use denote.Ref.{now}
-use Rattle.dictionary.specs.declared.MsgType.the-variants.{Heartbeat}
-use Rattle.writer.specs.Message.{message, written}
-use Rattle.writer.specs.Reply.{heartbeat, ofHeartbeat, optional}
-use Rattle.writer.proofs.Calls.{reply-put}
-use Rattle.writer.proofs.Replied.{passed, unsendable, unfit-own, put}
+use Rattle.dictionary.specs.Dictionary.{fields, code35}
+use Rattle.writer.specs.Message.{order, own, written}
+use Rattle.writer.specs.Reply.{heartbeat}
 use Rattle.writer.proofs.replies.heartbeat.Statement.{statement}
 use Rattle.writer.proofs.replies.heartbeat.Tie as tie
 
 returns : tie.Need-returns
-returns c = unsendable (c .before .sendable .ensures) _ (c .if1 .taken)
-
-returns-2 : tie.Need-returns-2
-returns-2 c = unfit-own (c .before .before .sendable .ensures) (c .before .if1 .left) (lt-leb _ _ (c .if2 .taken))
-
-heartbeat-body-requires : tie.Need-heartbeat-body-requires
-heartbeat-body-requires c κs = let P = passed (c .before .before .before .sendable .ensures) (c .before .before .if1 .left) in search needs
-
-put-reply-requires : tie.Need-put-reply-requires
-put-reply-requires c κs = let P = passed (c .before .before .before .before .before .before .before .sendable .ensures) (c .before .before .before .before .before .before .if1 .left) in search needs
-
-returns-3 : tie.Need-returns-3
-unfolding heartbeat written
-returns-3 c =
-    let s = c .before .before .before .before .before .before .before .before .before .before .before .before .before .before .before .before .args in
-    put (c .before .before .before .before .before .before .before .before .before .before .sendable .ensures) (c .before .before .before .before .before .before .before .before .before .if1 .left) (le-leb _ _ (c .before .before .before .before .before .before .before .before .if2 .left))
-    (reply-put (message Heartbeat (ofHeartbeat (now (s .ours)) (now (s .peers)) (s .n) (now (s .time)) (optional (s .there) (now (s .id))))) (c .before .before .before .before .before .before .heartbeat-body .ensures .0) (omega arith) (c .before .before .put-reply .ensures .0))
-    (omega arith)
+unfolding heartbeat written order own fields code35
+returns c = c .before .before .echo .ensures
 
 pub heartbeat-spec : {M : Type 1} → statement M
-heartbeat-spec =
-    tie.close
-    (tie.spec
-    (λ c κs. search needs)
-    returns
-    returns-2
-    (λ c. search needs)
-    heartbeat-body-requires
-    (λ c. search needs)
-    put-reply-requires
-    (λ c. search needs)
-    returns-3)
+heartbeat-spec = tie.close (tie.spec (λ c. search needs) (λ c κs. search needs) (λ c. search needs) returns)

@@ -1,5 +1,5 @@
--- D4 for the writer call; any two outcomes of a call are equal; different values never write the same bytes.
-use Prim.Native.Nat.{ℕ, zero, suc, _+_, _-_, _<_}
+-- D4 for the writer call, by the way in which it ends; different values never write the same bytes.
+use Prim.Native.Nat.{ℕ, zero, suc, _-_}
 use native.Mathlib.Omega.{arith}
 use mathlib.Core.Path.{_≡_, refl, sym, ap, _∙_}
 use mathlib.Core.Logic.{_⊎_, inl, inr}
@@ -10,21 +10,21 @@ use lib.Dec.{leb, ltb}
 use lib.ListN.{length, take, drop, getD}
 use lib.Seq.{take-append-seam, drop-append-seam}
 use borrow.Author.Tests.{ltb-true, ltb-false}
-use Rattle.frame.specs.Bytes.{Bytes, has, value, decimal}
+use Rattle.frame.specs.Bytes.{Bytes, has, value, decimal, Byted}
+use Rattle.fields.specs.Field.{firstField}
 use Rattle.frame.proofs.Decimals.{decimal-worth}
 use Rattle.dictionary.specs.declared.MsgType.{MsgType}
-use Rattle.dictionary.specs.Dictionary.{administrative}
-use Rattle.writer.specs.Message.{Value, absent, number, bytes, shown, message, written, given}
+use Rattle.dictionary.specs.Dictionary.{code35, administrative}
+use Rattle.writer.specs.Message.{Value, absent, number, bytes, shown, row, message, written}
 use Rattle.writer.specs.Tags.{tags, numeric}
 use Rattle.writer.specs.Call.{placeIn, part, valueIn, refused8, admin, Outcome, refusing, writing, fitted, writeAs, write, numbers}
 use Rattle.writer.specs.Promise.{ReadsBack, MessageOf, Ends, another-type, unfit-value, short-buffer, whole}
 use Rattle.writer.specs.declared.Values.{Values}
 use Rattle.writer.specs.declared.Written.the-variants.{Unfit, Short}
 use Rattle.writer.proofs.Rows.{Plain, plain-decimal}
-use Rattle.writer.proofs.Frames.{AllBytes}
-use Rattle.writer.proofs.Wholes.{bytes-take}
+use Rattle.writer.proofs.Wholes.{bytes-take, framed-one}
 use Rattle.writer.proofs.Sizes.{body-longest}
-use Rattle.writer.proofs.ReadBack.{OfBytes, fine, written-good, written-clean, type-back, value-back, no-other, same-type, same-values}
+use Rattle.writer.proofs.ReadBack.{OfBytes, fine, written-good, written-clean, type-back, value-back, no-other}
 use Rattle.writer.proofs.Types.{named-by}
 
 pub reads-back : (m : MsgType) → administrative m ≡ true → (vs : ℕ → Value) → refused8 m vs ≡ false → ((t : ℕ) → OfBytes (shown (vs t))) → ReadsBack m vs
@@ -40,27 +40,27 @@ reads-back m a vs ok b =
     }
 
 -- VALUES OF BYTES
-plain-bytes : (l : Bytes) → Plain l → AllBytes l
+plain-bytes : (l : Bytes) → Plain l → Byted l
 plain-bytes [] h i = omega arith
 plain-bytes (x ∷ l) h zero = h .0 .1
 plain-bytes (x ∷ l) h (suc i) = plain-bytes l (h .1) i
 
-pub decimal-bytes : (n : ℕ) → AllBytes (decimal n)
+pub decimal-bytes : (n : ℕ) → Byted (decimal n)
 decimal-bytes n = plain-bytes (decimal n) (plain-decimal n)
 
-bytes-drop : (n : ℕ) (l : Bytes) → AllBytes l → AllBytes (drop n l)
+bytes-drop : (n : ℕ) (l : Bytes) → Byted l → Byted (drop n l)
 bytes-drop zero l h = h
 bytes-drop (suc n) [] h = h
 bytes-drop (suc n) (x ∷ l) h = bytes-drop n l (λ i. h (suc i))
 
-part-bytes : (s : Bytes) (a e : ℕ) → AllBytes s → AllBytes (part s a e)
+part-bytes : (s : Bytes) (a e : ℕ) → Byted s → Byted (part s a e)
 part-bytes s a e h = go (leb a e && leb e (length s))
   where
-    go : (b : Bool) → AllBytes (cond b (take (e - a) (drop a s)) [])
+    go : (b : Bool) → Byted (cond b (take (e - a) (drop a s)) [])
     go true = bytes-take (e - a) (drop a s) (bytes-drop a s h)
     go false = λ i. omega arith
 
-value-bytes : (vs : Values) (s : Bytes) → AllBytes s → (t : ℕ) → OfBytes (shown (valueIn vs s t))
+value-bytes : (vs : Values) (s : Bytes) → Byted s → (t : ℕ) → OfBytes (shown (valueIn vs s t))
 unfolding valueIn
 value-bytes vs s h t = go (getD (vs .given) k false) (numeric t)
   where
@@ -74,10 +74,6 @@ value-bytes vs s h t = go (getD (vs .given) k false) (numeric t)
 
 -- THE WRITER CALL
 module _ (type : Bytes) (vs : Values) (s d : Bytes) where
-  -- any two outcomes that its contract allows are equal
-  pub one-outcome : {o p : Outcome} → o ≡ write type vs s d → p ≡ write type vs s d → o ≡ p
-  one-outcome e f = e ∙ sym f
-
   pub ends : Ends type vs s d (write type vs s d)
   unfolding write
   ends = go (admin type) refl
@@ -102,14 +98,6 @@ module _ (type : Bytes) (vs : Values) (s d : Bytes) where
   refusal-8-or-9 (short-buffer m a r l) k e = inr (cc)
   refusal-8-or-9 (whole m a r l) k e = let z : _≡_ {A = ℕ} 0 1 = cc in absurd (omega arith)
 
-  -- .. 9 only where the type and the values are fit, ..
-  pub refusal-9 : {o : Outcome} → Ends type vs s d o → numbers (o .answer) .0 ≡ some 9
-      → (m : MsgType) × ((admin type ≡ some m) × ((refused8 m (valueIn vs s) ≡ false) × (length d < length (written m (valueIn vs s)))))
-  refusal-9 (another-type a) e = let z : _≡_ {A = ℕ} 8 9 = cc in absurd (omega arith)
-  refusal-9 (unfit-value m a r) e = let z : _≡_ {A = ℕ} 8 9 = cc in absurd (omega arith)
-  refusal-9 (short-buffer m a r l) e = (m, (a, (r, l)))
-  refusal-9 (whole m a r l) e = let z : _≡_ {A = ℕ} 0 1 = cc in absurd (omega arith)
-
   -- .. and "under every refusal, the buffer keeps its old bytes"
   pub refusal-keeps : {o : Outcome} → Ends type vs s d o → (k : ℕ) → numbers (o .answer) .0 ≡ some k → o .buffer ≡ d
   refusal-keeps (another-type a) k e = refl
@@ -118,7 +106,7 @@ module _ (type : Bytes) (vs : Values) (s d : Bytes) where
   refusal-keeps (whole m a r l) k e = let z : _≡_ {A = ℕ} 0 1 = cc in absurd (omega arith)
 
   -- a message of n bytes is what D4 promises
-  pub message-promised : AllBytes s → {o : Outcome} → Ends type vs s d o → (n : ℕ) → numbers (o .answer) ≡ (none, n ∷ []) → MessageOf type vs s d (o .buffer) n
+  pub message-promised : Byted s → {o : Outcome} → Ends type vs s d o → (n : ℕ) → numbers (o .answer) ≡ (none, n ∷ []) → MessageOf type vs s d (o .buffer) n
   message-promised b (another-type a) n e = let z : _≡_ {A = Option ℕ} (some 8) none = ap (λ (p : Option ℕ × List ℕ). p .0) e in let y : _≡_ {A = ℕ} 0 1 = cc in absurd (omega arith)
   message-promised b (unfit-value m a r) n e = let z : _≡_ {A = Option ℕ} (some 8) none = ap (λ (p : Option ℕ × List ℕ). p .0) e in let y : _≡_ {A = ℕ} 0 1 = cc in absurd (omega arith)
   message-promised b (short-buffer m a r l) n e = let z : _≡_ {A = Option ℕ} (some 9) none = ap (λ (p : Option ℕ × List ℕ). p .0) e in let y : _≡_ {A = ℕ} 0 1 = cc in absurd (omega arith)
@@ -138,7 +126,7 @@ module _ (type : Bytes) (vs : Values) (s d : Bytes) where
 
 -- TWO DIFFERENT SETS OF VALUES NEVER WRITE THE SAME BYTES
 -- a value of a call is told by its bytes, since its tag says whether it is a number
-same-shown : (t : ℕ) (vs ws : Values) (s r : Bytes) → shown (valueIn vs s t) ≡ shown (valueIn ws r t) → valueIn vs s t ≡ valueIn ws r t
+pub same-shown : (t : ℕ) (vs ws : Values) (s r : Bytes) → shown (valueIn vs s t) ≡ shown (valueIn ws r t) → valueIn vs s t ≡ valueIn ws r t
 unfolding valueIn
 same-shown t vs ws s r = go (getD (vs .given) k false) (getD (ws .given) k false) (numeric t)
   where
@@ -167,10 +155,11 @@ same-shown t vs ws s r = go (getD (vs .given) k false) (getD (ws .given) k false
     go false true false e = let z : _≡_ {A = ℕ} 0 1 = cc in absurd (omega arith)
     go false false m e = refl
 
-module _ (m m′ : MsgType) (a : administrative m ≡ true) (a′ : administrative m′ ≡ true) (vs ws : Values) (s r : Bytes) (b : AllBytes s) (c : AllBytes r)
-    (ok : refused8 m (valueIn vs s) ≡ false) (ok′ : refused8 m′ (valueIn ws r) ≡ false) (e : written m (valueIn vs s) ≡ written m′ (valueIn ws r)) where
-  pub same-message : m ≡ m′
-  same-message = same-type m m′ a a′ (valueIn vs s) (valueIn ws r) ok ok′ (value-bytes vs s b) (value-bytes ws r c) e
-
-  pub same-given : (t : ℕ) → has tags t ≡ true → valueIn vs s t ≡ valueIn ws r t
-  same-given t h = same-shown t vs ws s r (same-values m m′ a a′ (valueIn vs s) (valueIn ws r) ok ok′ (value-bytes vs s b) (value-bytes ws r c) e t h)
+-- messages that read back and have the same bytes
+pub same-read : {m m′ : MsgType} {vs ws : ℕ → Value} → ReadsBack m vs → ReadsBack m′ ws → written m vs ≡ written m′ ws
+    → (code35 m ≡ code35 m′) × ((t : ℕ) → has tags t ≡ true → shown (vs t) ≡ shown (ws t))
+unfolding written
+same-read {m} {m′} {vs} {ws} A B e =
+    let q = framed-one (row (message m vs)) (row (message m′ ws)) e in
+    let c : some (code35 m) ≡ some (code35 m′) = sym (A .type) ∙ ap (firstField 35) q ∙ B .type in
+    (cc, λ t h. sym (A .values t h) ∙ ap (firstField t) q ∙ B .values t h)

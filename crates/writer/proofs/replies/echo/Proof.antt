@@ -1,0 +1,44 @@
+-- `echo`: nothing where its values do not fit, else the frame around its body.
+use borrow.Author.Needs.{needs}
+use borrow.Author.Tests.{lt-leb, le-leb}
+use native.Mathlib.Omega.{arith}
+use denote.Ref.{now}
+use Rattle.writer.specs.code.Ranges.{echoed}
+use Rattle.writer.specs.Reply.{optional}
+use Rattle.writer.proofs.Calls.{reply-put}
+use Rattle.writer.proofs.Replied.{passed, unsendable, unfit-own, put}
+use Rattle.writer.proofs.replies.echo.Statement.{statement}
+use Rattle.writer.proofs.replies.echo.Tie as tie
+
+returns : tie.Need-returns
+returns c = unsendable (c .before .sendable .ensures) _ (c .if1 .taken)
+
+returns-2 : tie.Need-returns-2
+returns-2 c = unfit-own (c .before .before .sendable .ensures) (c .before .if1 .left) (lt-leb _ _ (c .if2 .taken))
+
+echo-body-requires : tie.Need-echo-body-requires
+echo-body-requires c κs = let P = passed (c .before .before .before .sendable .ensures) (c .before .before .if1 .left) in search needs
+
+put-reply-requires : tie.Need-put-reply-requires
+put-reply-requires c κs = let P = passed (c .before .before .before .before .before .before .before .sendable .ensures) (c .before .before .before .before .before .before .if1 .left) in search needs
+
+returns-3 : tie.Need-returns-3
+returns-3 c =
+    let s = c .before .before .before .before .before .before .before .before .before .before .before .before .before .before .before .before .before .args in
+    put (c .before .before .before .before .before .before .before .before .before .before .sendable .ensures) (c .before .before .before .before .before .before .before .before .before .if1 .left) (le-leb _ _ (c .before .before .before .before .before .before .before .before .if2 .left))
+    (reply-put (echoed (now (s .code)) (now (s .ours)) (now (s .peers)) (s .n) (now (s .time)) (optional (s .there) (now (s .id)))) (c .before .before .before .before .before .before .echo-body .ensures .0) (omega arith) (c .before .before .put-reply .ensures .0))
+    (omega arith)
+
+pub echo-spec : {M : Type 1} → statement M
+echo-spec =
+    tie.close
+    (tie.spec
+    (λ c κs. search needs)
+    returns
+    returns-2
+    (λ c. search needs)
+    echo-body-requires
+    (λ c. search needs)
+    put-reply-requires
+    (λ c. search needs)
+    returns-3)
