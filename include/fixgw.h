@@ -371,12 +371,12 @@ static inline uint32_t fixgw_session_test_request(struct fixgw_session *session,
                               out);
 }
 
-/* A MsgType as a number of fixgw_type; 0 for one that is not of one or two bytes. */
+/* A MsgType as a number of fixgw_type; 0 for one that is not of one or two bytes, or begins with a byte 0. */
 static inline uint32_t fixgw_type_number(const uint8_t *type, size_t len)
 {
     if (len == 1)
         return type[0];
-    return len == 2 ? (uint32_t)type[0] << 8 | type[1] : 0;
+    return len == 2 && type[0] ? (uint32_t)type[0] << 8 | type[1] : 0;
 }
 
 #ifdef __cplusplus
