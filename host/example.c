@@ -9,7 +9,7 @@
 
 enum {
     LINE_ROOM = 4096,                       /* anything from FIXGW_LONGEST_FRAME on will do */
-    LINES = 2,
+    LINES = 4,
     READ_ROOM = 2048,
     BETWEEN_READS = 100,                    /* microseconds, in the recorded day */
     SECONDS_TO_LOG_ON = 10,
