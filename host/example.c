@@ -1,5 +1,5 @@
-/* An example host, to copy from: a venue's loop around the gateway, as docs/HOST.md has it. It plays a member's recorded
-   day (day.h) and prints a ledger; with --serve PORT [OURS PEER] it serves lines on 127.0.0.1, by the machine's clock. */
+/* An example host, to copy from: a venue's loop around the gateway, as docs/HOST.md has it. It plays a member's
+   recorded day (day.h) and prints a ledger; with --serve PORT [OURS PEER] it serves lines on 127.0.0.1, by the clock. */
 #include "day.h"
 #include "fixgw.h"
 #include "ledger.h"
@@ -33,7 +33,7 @@ struct line {
     uint8_t bytes[LINE_ROOM];
     uint64_t held;
     uint64_t heard;                         /* when the last frame came, or the connection */
-    uint64_t asked;                         /* when a Test Request of ours went out that nothing has answered; 0: none */
+    uint64_t asked;                         /* when our Test Request went out that nothing has answered; 0: none */
     uint64_t left;                          /* when we hung up */
     uint64_t reads, came, last_read;        /* that the ledger has not told of yet */
 };
@@ -150,33 +150,35 @@ static struct desk *desk_of(const struct message *message)
     return NULL;
 }
 
-static void turn_away(struct line *line, uint64_t time, const struct message *message, const char *why)
-{
-    tell_reads(line, 0);
-    ledger_turned_away(time, message, why);
-    hang_up(line, time, "the host hangs up");
-}
-
-/* Who is calling. A peer whose line is up is turned away before its record is touched: otherwise whoever knows a CompID
-   could end its session. Only then is it a reconnect. */
-static bool is_admitted(struct line *line, uint64_t time, const struct message *message)
+/* Who is calling, as the first message says; or why it is turned away. A peer whose line is up is turned away before its
+   record is touched: otherwise whoever knows a CompID could end its session. Only then is it a reconnect. */
+static const char *why_not_admitted(struct line *line, const struct message *message)
 {
     struct desk *desk = desk_of(message);
-    if (type_of(message) != FIXGW_TYPE_LOGON || !desk || desk->line) {
-        turn_away(line, time, message, type_of(message) != FIXGW_TYPE_LOGON ? "no Logon" :
-                  !desk ? "nobody that we know" : "this peer has a line up already");
-        return false;
-    }
+    if (type_of(message) != FIXGW_TYPE_LOGON)
+        return "no Logon";
+    if (!desk)
+        return "nobody that we know";
+    if (desk->line)
+        return "this peer has a line up already";
     struct fixgw_session record = desk->record;
-    if (fixgw_session_reconnect(&record) || !keep(desk, &record, NULL)) {
-        turn_away(line, time, message, "its record is damaged or cannot be kept");
-        return false;
-    }
+    if (fixgw_session_reconnect(&record) || !keep(desk, &record, NULL))
+        return "its record is damaged, or cannot be kept";
     desk->line = line;
     line->desk = desk;
+    return NULL;
+}
+
+static bool is_admitted(struct line *line, uint64_t time, const struct message *message)
+{
+    const char *why_not = why_not_admitted(line, message);
     tell_reads(line, 0);
-    ledger_known(time, &record);
-    return true;
+    if (why_not) {
+        ledger_turned_away(time, message, why_not);
+        hang_up(line, time, "the host hangs up");
+    } else
+        ledger_known(time, &line->desk->record);
+    return !why_not;
 }
 
 /* ---- The loop ---------------------------------------------------------------------------------------------------- */
@@ -250,54 +252,54 @@ static void take_read(struct line *line, uint64_t time, const uint8_t *piece, si
 
 /* ---- The clock --------------------------------------------------------------------------------------------------- */
 
-/* Keeps the record and sends the one message that a call wrote. Nothing if it wrote none. */
-static void send_own(struct line *line, uint64_t time, const struct fixgw_session *record, const uint8_t *bytes,
-                     size_t len, const char *why)
+/* A message that answers none: what the call that wrote it left of the record, and the message itself. */
+struct own {
+    struct fixgw_session record;
+    uint8_t bytes[FIXGW_LEAST_REPLY_ROOM];
+    uint64_t len[1];
+};
+
+/* Keeps the record, then sends the message. Nothing if the call wrote none and refused nothing. */
+static void send_own(struct line *line, uint64_t time, const struct own *own, uint32_t refusal, const char *why)
 {
-    if (len == 0)
+    if (!refusal && own->len[0] == 0)
         return;
-    if (!keep(line->desk, record, NULL)) {
+    if (!keep(line->desk, &own->record, NULL)) {
         hang_up(line, time, "the host hangs up: the record cannot be kept, so nothing is sent");
         return;
     }
-    ledger_own(time, bytes, len, why);
-    if (!send_out(line, bytes, len))
+    if (refusal) {
+        hang_up(line, time, refusal_words(refusal));
+        return;
+    }
+    ledger_own(time, own->bytes, own->len[0], why);
+    if (!send_out(line, own->bytes, own->len[0]))
         hang_up(line, time, "the host hangs up: the peer takes nothing");
 }
 
 static void send_heartbeat(struct line *line, uint64_t time)
 {
-    uint8_t reply[FIXGW_LEAST_REPLY_ROOM];
-    uint64_t out[1];
-    struct fixgw_session record = line->desk->record;
-    uint32_t refusal = fixgw_session_tick(&record, time, reply, sizeof reply, out);
-    if (refusal) {
-        keep(line->desk, &record, NULL);
-        hang_up(line, time, refusal_words(refusal));
-        return;
-    }
-    send_own(line, time, &record, reply, out[0], "tick: the heartbeat interval has passed since the last message out");
+    struct own own = { .record = line->desk->record };
+    uint32_t refusal = fixgw_session_tick(&own.record, time, own.bytes, sizeof own.bytes, own.len);
+    send_own(line, time, &own, refusal, "tick: the heartbeat interval has passed since the last message out");
 }
 
 static void ask(struct line *line, uint64_t time)
 {
-    uint8_t request[FIXGW_LEAST_REPLY_ROOM];
-    uint64_t out[1];
     char id[32];
-    struct fixgw_session record = line->desk->record;
-    size_t len = (size_t)snprintf(id, sizeof id, "TEST-%lu", (unsigned long)record.words[FIXGW_WORD_NEXT_OUT]);
-    fixgw_session_test_request(&record, (const uint8_t *)id, len, time, request, sizeof request, out);
+    struct own own = { .record = line->desk->record };
+    size_t len = (size_t)snprintf(id, sizeof id, "TEST-%lu", (unsigned long)own.record.words[FIXGW_WORD_NEXT_OUT]);
+    uint32_t refusal = fixgw_session_test_request(&own.record, (const uint8_t *)id, len, time, own.bytes,
+                                                  sizeof own.bytes, own.len);
     line->asked = time;
-    send_own(line, time, &record, request, out[0], "the host asks whether the peer is there: it has been silent");
+    send_own(line, time, &own, refusal, "the host asks whether the peer is there: it has been silent");
 }
 
 static void log_out(struct line *line, uint64_t time)
 {
-    uint8_t logout[FIXGW_LEAST_REPLY_ROOM];
-    uint64_t out[1];
-    struct fixgw_session record = line->desk->record;
-    fixgw_session_logout(&record, time, logout, sizeof logout, out);
-    send_own(line, time, &record, logout, out[0], "the host ends the session: its question was not answered; Closed");
+    struct own own = { .record = line->desk->record };
+    uint32_t refusal = fixgw_session_logout(&own.record, time, own.bytes, sizeof own.bytes, own.len);
+    send_own(line, time, &own, refusal, "the host ends the session: its question was not answered; Closed");
     if (line->state == UP)
         hang_up(line, time, "the host hangs up: the session is Closed");
 }

@@ -1,6 +1,6 @@
 /* Names the rule of document 01 behind an outcome. N is the message's number, E the number expected before it. The rule
-   is worked out here a second time, without proof, from what came in and what went out; what it says of E, of Closed and
-   of a Reject it takes from the outcome. tests/ledger holds all of it to the model. */
+   is worked out here a second time, without proof, from what came in and what went out; what is said of E, of Closed
+   and of a Reject is taken from the outcome. tests/ledger holds all of it to the model. */
 #include "ledger.h"
 
 struct words {

@@ -97,7 +97,8 @@ static void answer_record(const char *name, char *at)
     else if (is_step)
         print_answer(fixgw_step(call.ids, words, count, first.at, first.len, time, call.reply, room, out), &call);
     else if (is_test)
-        print_answer(fixgw_test_request(call.ids, words, count, first.at, first.len, time, call.reply, room, out), &call);
+        print_answer(fixgw_test_request(call.ids, words, count, first.at, first.len, time, call.reply, room, out),
+                     &call);
     else if (strcmp(name, "tick") == 0)
         print_answer(fixgw_tick(call.ids, words, count, time, call.reply, room, out), &call);
     else

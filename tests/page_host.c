@@ -63,8 +63,10 @@ static size_t frame_of(uint8_t *to, const char *body)
         sum += to[i];
     }
     sum %= 256;
-    uint8_t trailer[7] = { '1', '0', '=', (uint8_t)('0' + sum / 100), (uint8_t)('0' + sum / 10 % 10), (uint8_t)('0' + sum % 10), 1 };
-    memcpy(to + at, trailer, 7);
+    memcpy(to + at, "10=ddd\1", 7);
+    to[at + 3] = (uint8_t)('0' + sum / 100);
+    to[at + 4] = (uint8_t)('0' + sum / 10 % 10);
+    to[at + 5] = (uint8_t)('0' + sum % 10);
     return at + 7;
 }
 
@@ -103,9 +105,12 @@ static void play(const char *what, size_t noise, const char *const *bodies, int 
 
 int main(void)
 {
-    static const char *const talk[] = { LOGON("MM", "1"), ORDER("2"), HEADER("5", "MM", "3"), HEADER("0", "MM", "4"), NULL };
+    static const char *const talk[] = {
+        LOGON("MM", "1"), ORDER("2"), HEADER("5", "MM", "3"), HEADER("0", "MM", "4"), NULL
+    };
     static const char *const again[] = { LOGON("MM", "4"), NULL }, *const other[] = { LOGON("XX", "1"), NULL };
-    static const char *const no_logon[] = { HEADER("0", "MM", "4"), NULL }, *const silent[] = { LOGON("MM", "5"), NULL };
+    static const char *const no_logon[] = { HEADER("0", "MM", "4"), NULL };
+    static const char *const silent[] = { LOGON("MM", "5"), NULL };
     printf("version %s\n", fixgw_version() == FIXGW_VERSION ? "as compiled" : "another");
     fixgw_session_new(&peer.session, (const uint8_t *)"GW", 2, (const uint8_t *)"MM", 2);
     play("talk, behind noise", NOISE, talk, 0);
