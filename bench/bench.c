@@ -1,7 +1,7 @@
 /* The cost of reading, verdict, step and tick, each beside plain C that does the same.
    One line a section: NUMBER|WHAT|BYTES|MESSAGES|SIDE|REPEATS|NANOSECONDS. */
-#include "../host/gateway.h"
 #include "../host/libc.h"
+#include "fixgw.h"
 #include "plain.h"
 
 enum {
@@ -19,7 +19,7 @@ static uint64_t sink;                       /* so that no call is left out as us
 
 struct bytes {
     uint8_t at[LONG + 8];
-    size_t len;
+    size_t len, body, body_len;             /* of a frame also where its body lies */
 };
 
 static struct bytes heartbeat, request, greatest, test_request, noise, marks, torn, stream;
@@ -45,6 +45,8 @@ static void make_frame(struct bytes *frame, const char *body)
     add(frame, "8=FIXT.1.1|9=");
     add_number(frame, strlen(body));
     add(frame, "|");
+    frame->body = frame->len;
+    frame->body_len = strlen(body);
     add(frame, body);
     for (size_t i = 0; i < frame->len; i++)
         sum += frame->at[i];
@@ -159,60 +161,87 @@ static void read_plain(const uint8_t *bytes, size_t len)
     sink += plain_read(bytes, len, &skip) + skip;
 }
 
-static void verdict_ours(const uint8_t *frame, size_t len)
+static void verdict_ours(const uint8_t *body, size_t len)
 {
     uint64_t out[3];
-    size_t start = fixgw_body_start(frame);
-    sink += fixgw_verdict(frame + start, len - start - FIXGW_TRAILER, out) + out[1];
+    sink += fixgw_verdict(body, len, out) + out[1];
 }
 
-static void verdict_plain(const uint8_t *frame, size_t len)
+static void verdict_plain(const uint8_t *body, size_t len)
 {
-    size_t start = fixgw_body_start(frame);
-    sink += plain_verdict(frame + start, len - start - FIXGW_TRAILER);
+    sink += plain_verdict(body, len);
 }
 
-static const struct fixgw_session active = { { 2, 2, FIXGW_ACTIVE, 2, 2, 30, 0 }, "GW", "MM" };
+#define RECORD(ours_len, peer_len, ...) \
+    { ours_len, "GW", peer_len, "MM", { FIXGW_RECORD_VERSION, __VA_ARGS__ } }
+
+static const struct fixgw_session active = RECORD(2, 2, FIXGW_ACTIVE, 2, 2, 30, 0);
 
 /* The same record for the plain side. */
 static struct plain_session plain_of(const struct fixgw_session *session)
 {
-    struct plain_session plain;
-    _Static_assert(sizeof plain == sizeof *session, "a record has seven words and two CompIDs on both sides");
-    memcpy(&plain, session, sizeof plain);
+    struct plain_session plain = {
+        .ours_size = session->ours_len, .peer_size = session->peer_len, .status = session->words[FIXGW_WORD_STATUS],
+        .expected = session->words[FIXGW_WORD_EXPECTED], .next_out = session->words[FIXGW_WORD_NEXT_OUT],
+        .heartbeat = session->words[FIXGW_WORD_HEARTBEAT], .last_sent = session->words[FIXGW_WORD_LAST_SENT],
+    };
+    memcpy(plain.ours, session->ours, FIXGW_COMP_ID);
+    memcpy(plain.peer, session->peer, FIXGW_COMP_ID);
     return plain;
+}
+
+/* The records of the calls that are measured; before each, what a call may change is set back. */
+static struct fixgw_session our_record;
+static struct plain_session plain_record, plain_active;
+
+static void make_records(void)
+{
+    our_record = active;
+    plain_record = plain_active = plain_of(&active);
+}
+
+static struct fixgw_session *set_back(void)
+{
+    memcpy(our_record.words, active.words, FIXGW_WORDS_USED * sizeof active.words[0]);
+    return &our_record;
+}
+
+static struct plain_session *set_back_plain(void)
+{
+    plain_record.status = plain_active.status;
+    plain_record.expected = plain_active.expected;
+    plain_record.next_out = plain_active.next_out;
+    plain_record.heartbeat = plain_active.heartbeat;
+    plain_record.last_sent = plain_active.last_sent;
+    return &plain_record;
 }
 
 static void step_ours(const uint8_t *frame, size_t len)
 {
     static uint8_t reply[FIXGW_LEAST_REPLY_ROOM];
-    struct fixgw_session session = active;
     uint64_t out[2];
-    sink += fixgw_session_step(&session, frame, len, CALL_TIME, reply, sizeof reply, out) + out[0] + out[1];
+    sink += fixgw_session_step(set_back(), frame, len, CALL_TIME, reply, sizeof reply, out) + out[0] + out[1];
 }
 
 static void step_plain(const uint8_t *frame, size_t len)
 {
     static uint8_t reply[FIXGW_LEAST_REPLY_ROOM];
-    struct plain_session session = plain_of(&active);
     uint64_t out[2];
-    sink += plain_step(&session, frame, len, CALL_TIME, reply, sizeof reply, out) + out[0] + out[1];
+    sink += plain_step(set_back_plain(), frame, len, CALL_TIME, reply, sizeof reply, out) + out[0] + out[1];
 }
 
 static void tick_ours(void)
 {
     static uint8_t reply[FIXGW_LEAST_REPLY_ROOM];
-    struct fixgw_session session = active;
     uint64_t out[1];
-    sink += fixgw_session_tick(&session, CALL_TIME, reply, sizeof reply, out) + out[0];
+    sink += fixgw_session_tick(set_back(), CALL_TIME, reply, sizeof reply, out) + out[0];
 }
 
 static void tick_plain(void)
 {
     static uint8_t reply[FIXGW_LEAST_REPLY_ROOM];
-    struct plain_session session = plain_of(&active);
     uint64_t out[1];
-    sink += plain_tick(&session, CALL_TIME, reply, sizeof reply, out) + out[0];
+    sink += plain_tick(set_back_plain(), CALL_TIME, reply, sizeof reply, out) + out[0];
 }
 
 static void stream_ours(const uint8_t *bytes, size_t len)
@@ -256,7 +285,7 @@ static void run_once(const struct row *row, enum side side)
     size_t len = length_of(row);
     switch (row->kind) {
     case READ: (side == OURS ? read_ours : read_plain)(bytes, len); break;
-    case VERDICT: (side == OURS ? verdict_ours : verdict_plain)(bytes, len); break;
+    case VERDICT: (side == OURS ? verdict_ours : verdict_plain)(bytes + row->bytes->body, row->bytes->body_len); break;
     case STEP: (side == OURS ? step_ours : step_plain)(bytes, len); break;
     case STREAM: (side == OURS ? stream_ours : stream_plain)(bytes, len); break;
     case TICK: (side == OURS ? tick_ours : tick_plain)(); break;
@@ -285,10 +314,12 @@ static void check_read(const struct row *row)
 
 static void check_verdict(const struct row *row)
 {
-    uint64_t out[3];
-    size_t start = fixgw_body_start(row->bytes->at), len = row->bytes->len - start - FIXGW_TRAILER;
-    insist(plain_verdict(row->bytes->at + start, len) == 0, row->what);
-    insist(fixgw_verdict(row->bytes->at + start, len, out) == FIXGW_OK && out[0] == 0, row->what);
+    const struct bytes *frame = row->bytes;
+    uint64_t out[3], place[2];
+    insist(fixgw_body(frame->at, frame->len, place) == FIXGW_OK && place[0] == frame->body
+           && place[1] == frame->body_len, row->what);
+    insist(plain_verdict(frame->at + frame->body, frame->body_len) == 0, row->what);
+    insist(fixgw_verdict(frame->at + frame->body, frame->body_len, out) == FIXGW_OK && out[0] == 0, row->what);
 }
 
 /* Both sides of one call on a session: the records and the buffers behind it must be the same, byte by byte. */
@@ -309,16 +340,26 @@ static struct pair pair_on(const struct fixgw_session *session, const char *what
 
 static bool refusal_met[FIXGW_REFUSED_RECORD + 1], reply_met[256];  /* by the type of a first reply */
 
+/* The type of the first message of a reply, which has one byte; 0 for no reply. */
+static uint8_t first_type(const uint8_t *reply, size_t len)
+{
+    uint64_t found[2], body[2];
+    if (fixgw_read(reply, len, found) || fixgw_body(reply + found[0], found[1], body))
+        return 0;
+    return reply[found[0] + body[0] + 3];
+}
+
 static void check_pair(const struct pair *pair, uint32_t refusal, uint32_t plain_refusal, size_t reply_len)
 {
+    struct plain_session ours = plain_of(&pair->ours);
     insist(refusal == plain_refusal, pair->what);
-    insist(memcmp(pair->ours.words, &pair->plain, sizeof pair->ours.words) == 0, pair->what);
-    insist(memcmp(pair->ours.ours, pair->plain.ours, FIXGW_COMP_ID) == 0, pair->what);
-    insist(memcmp(pair->ours.peer, pair->plain.peer, FIXGW_COMP_ID) == 0, pair->what);
+    insist(memcmp(&ours, &pair->plain, PLAIN_RECORD) == 0, pair->what);
+    insist(pair->ours.words[FIXGW_WORD_VERSION] == FIXGW_RECORD_VERSION, pair->what);
+    for (size_t word = FIXGW_WORDS_USED; word < FIXGW_WORDS; word++)
+        insist(pair->ours.words[word] == 0, pair->what);
     insist(memcmp(pair->our_reply, pair->plain_reply, FIXGW_LEAST_REPLY_ROOM) == 0, pair->what);
     refusal_met[refusal] = true;
-    if (reply_len > 0)
-        reply_met[pair->our_reply[fixgw_body_start(pair->our_reply) + 3]] = true;
+    reply_met[first_type(pair->our_reply, reply_len)] = true;
 }
 
 static void check_step(const char *what, const struct fixgw_session *session, const struct bytes *frame, size_t len,
@@ -369,8 +410,6 @@ static const char *const bodies[] = {
     HEADER("0") "43=Y|", HEADER("0") "43=Y|122=20240102-09:29:00|", HEADER("0") "43=Y|122=|", HEADER("0") "43=|122=|",
 };
 
-#define RECORD(ours_len, peer_len, status, ...) { { ours_len, peer_len, status, __VA_ARGS__ }, "GW", "MM" }
-
 static const struct fixgw_session records[] = {
     RECORD(2, 2, FIXGW_ACTIVE, 2, 2, 30, 0), RECORD(2, 2, FIXGW_ACTIVE, 1, 2, 30, 0),
     RECORD(2, 2, FIXGW_ACTIVE, 3, 2, 30, 0), RECORD(2, 2, FIXGW_ACTIVE, 2, 1, 30, 0),
@@ -384,7 +423,7 @@ static const struct fixgw_session records[] = {
     RECORD(0, 2, FIXGW_ACTIVE, 2, 2, 30, 0), RECORD(2, 12, FIXGW_ACTIVE, 2, 2, 30, 0), RECORD(2, 2, 3, 2, 2, 30, 0),
     RECORD(2, 2, FIXGW_ACTIVE, 0, 2, 30, 0), RECORD(2, 2, FIXGW_ACTIVE, 2, 1000000000, 30, 0),
     RECORD(2, 2, FIXGW_ACTIVE, 2, 2, 0, 0), RECORD(2, 2, FIXGW_ACTIVE, 2, 2, 61, 0),
-    { { 2, 2, FIXGW_ACTIVE, 2, 2, 30, 0 }, "GW", "M\001" },
+    { 2, "GW", 2, "M\001", { FIXGW_RECORD_VERSION, FIXGW_ACTIVE, 2, 2, 30, 0 } },
 };
 
 enum {
@@ -496,6 +535,7 @@ static uint64_t number_of(const char *text)
 int main(int count, char **words)
 {
     make_all();
+    make_records();
     check_all();
     if (count == 3 && number_of(words[1]) < 2 * ROWS) {
         measure(number_of(words[1]), number_of(words[2]), 1);

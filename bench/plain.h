@@ -23,7 +23,7 @@ uint32_t plain_verdict(const uint8_t *body, size_t n);
 /* The sum of bytes modulo 256. */
 uint8_t plain_sum(const uint8_t *s, size_t n);
 
-enum { PLAIN_COMP_ID = 11 };
+enum { PLAIN_COMP_ID = 11, PLAIN_RECORD = 7 * 8 + 2 * PLAIN_COMP_ID };     /* bytes, without padding */
 
 /* A session's record. The numbers are as wide as the library's, so that every one of its records can be put here. */
 struct plain_session {

@@ -1,13 +1,14 @@
 /* The driver: one request a line on standard input, one answer a line on standard output (docs/DRIVER.md). It goes
-   through the calls of gateway.h alone and adds no rule of its own. */
-#include "gateway.h"
+   through the calls of fixgw.h alone and adds no rule of its own. */
+#include "fixgw.h"
 #include "libc.h"
 
 enum {
     LINE_ROOM = 4096,                       /* of the line buffer that `stream` lends */
     MOST_LENT = 1048576,                    /* the greatest BUFLEN */
     MARGIN = 64,                            /* bytes behind the lent ones that are watched too */
-    READ_AT_ONCE = 65536
+    READ_AT_ONCE = 65536,
+    GREATEST_LENGTH = 255                   /* of a CompID in a record */
 };
 
 #define GREATEST_NUMBER 18446744073709551615u
@@ -213,7 +214,7 @@ static bool is_kept(size_t room, uint64_t used)
     return false;
 }
 
-/* Whether these words of a call's answer are 0, as gateway.h says; otherwise that is the answer. */
+/* Whether these words of a call's answer are 0, as fixgw.h says; otherwise that is the answer. */
 static bool are_zero(const uint64_t *words, size_t count)
 {
     for (size_t i = 0; i < count; i++)
@@ -474,44 +475,63 @@ struct record {
     struct slice ours, peer;
 };
 
+/* A CompID's length as a record can hold it: it is one byte, and all above 11 are refused alike. */
+static uint8_t length_of(struct slice given)
+{
+    return given.len < GREATEST_LENGTH ? (uint8_t)given.len : GREATEST_LENGTH;
+}
+
 /* The bytes behind a CompID's length mean nothing; they are set to the byte that no CompID may hold. */
-static void set_comp_id(uint8_t place[FIXGW_COMP_ID], uint64_t *len, struct slice given)
+static void set_comp_id(uint8_t place[FIXGW_COMP_ID], uint8_t *len, struct slice given)
 {
     memset(place, 1, FIXGW_COMP_ID);
     if (given.len > 0)
         memcpy(place, given.at, given.len < FIXGW_COMP_ID ? given.len : FIXGW_COMP_ID);
-    *len = given.len;
+    *len = length_of(given);
 }
 
+/* The words that a request gives are those that are used, behind the version; the version and zeros are set here. */
 static bool take_record(struct words *in, struct record *record)
 {
-    uint64_t *words = record->session.words;
+    struct fixgw_session *session = &record->session;
     if (!take_bytes(in, &record->ours) || !take_bytes(in, &record->peer))
         return false;
-    set_comp_id(record->session.ours, &words[FIXGW_WORD_OURS_LEN], record->ours);
-    set_comp_id(record->session.peer, &words[FIXGW_WORD_PEER_LEN], record->peer);
-    for (size_t word = FIXGW_WORD_STATUS; word < FIXGW_WORDS; word++)
-        if (!take_number(in, GREATEST_NUMBER, &words[word]))
+    set_comp_id(session->ours, &session->ours_len, record->ours);
+    set_comp_id(session->peer, &session->peer_len, record->peer);
+    memset(session->words, 0, sizeof session->words);
+    session->words[FIXGW_WORD_VERSION] = FIXGW_RECORD_VERSION;
+    for (size_t word = FIXGW_WORD_STATUS; word < FIXGW_WORDS_USED; word++)
+        if (!take_number(in, GREATEST_NUMBER, &session->words[word]))
             return false;
     return all_taken(in);
 }
 
-static void say_comp_id(const uint8_t place[FIXGW_COMP_ID], uint64_t len, struct slice given)
+static void say_comp_id(const uint8_t place[FIXGW_COMP_ID], uint8_t len, struct slice given)
 {
     say(" ");
     say_hex(place, len < FIXGW_COMP_ID ? len : FIXGW_COMP_ID);
-    if (len > FIXGW_COMP_ID && len == given.len)
+    if (len > FIXGW_COMP_ID && len == length_of(given))
         say_digits_of(given.at + FIXGW_COMP_ID, given.len - FIXGW_COMP_ID);
+}
+
+/* Whether a record is of this version with zeros behind the words that are used; otherwise that is the answer. */
+static bool is_of_this_version(const struct fixgw_session *session)
+{
+    if (session->words[FIXGW_WORD_VERSION] != FIXGW_RECORD_VERSION) {
+        say("another version of the record");
+        return false;
+    }
+    return are_zero(session->words + FIXGW_WORDS_USED, FIXGW_WORDS - FIXGW_WORDS_USED);
 }
 
 static void say_record(const struct record *record)
 {
-    const uint64_t *words = record->session.words;
-    say_comp_id(record->session.ours, words[FIXGW_WORD_OURS_LEN], record->ours);
-    say_comp_id(record->session.peer, words[FIXGW_WORD_PEER_LEN], record->peer);
-    for (size_t word = FIXGW_WORD_STATUS; word < FIXGW_WORDS; word++) {
+    const struct fixgw_session *session = &record->session;
+    say_comp_id(session->ours, session->ours_len, record->ours);
+    say_comp_id(session->peer, session->peer_len, record->peer);
+    for (size_t word = FIXGW_WORD_STATUS; word < FIXGW_WORDS_USED; word++) {
         say(" ");
-        say_number(words[word]);
+        say_number(session->words[word]);
     }
 }
 
@@ -529,7 +549,11 @@ static bool answer_new(struct words *in)
     if (!take_bytes(in, &record.ours) || !take_bytes(in, &record.peer) || !all_taken(in))
         return false;
     memset(&record.session, 0xa5, sizeof record.session);
-    say_outcome(fixgw_session_new(&record.session, record.ours.at, record.ours.len, record.peer.at, record.peer.len));
+    uint32_t refusal =
+        fixgw_session_new(&record.session, record.ours.at, record.ours.len, record.peer.at, record.peer.len);
+    if (!is_of_this_version(&record.session))
+        return true;
+    say_outcome(refusal);
     say_record(&record);
     return true;
 }
@@ -539,7 +563,10 @@ static bool answer_reconnect(struct words *in)
     struct record record;
     if (!take_record(in, &record))
         return false;
-    say_outcome(fixgw_session_reconnect(&record.session));
+    uint32_t refusal = fixgw_session_reconnect(&record.session);
+    if (!is_of_this_version(&record.session))
+        return true;
+    say_outcome(refusal);
     say_record(&record);
     return true;
 }
@@ -554,7 +581,7 @@ static bool answer_step(struct words *in)
         return false;
     lend(room);
     uint32_t refusal = fixgw_session_step(&record.session, frame.at, frame.len, time, lent, room, out);
-    if (!is_kept(room, refusal ? 0 : out[1]) || (refusal && !are_zero(out, 2)))
+    if (!is_kept(room, refusal ? 0 : out[1]) || (refusal && !are_zero(out, 2)) || !is_of_this_version(&record.session))
         return true;
     say_outcome(refusal);
     if (!refusal) {
@@ -575,7 +602,7 @@ static bool answer_tick(struct words *in)
         return false;
     lend(room);
     uint32_t refusal = fixgw_session_tick(&record.session, time, lent, room, out);
-    if (!is_kept(room, refusal ? 0 : out[0]) || (refusal && !are_zero(out, 1)))
+    if (!is_kept(room, refusal ? 0 : out[0]) || (refusal && !are_zero(out, 1)) || !is_of_this_version(&record.session))
         return true;
     say_outcome(refusal);
     if (!refusal) {

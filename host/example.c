@@ -1,55 +1,78 @@
-/* An example host: a venue's loop around the gateway. It plays a member's recorded day (day.h) and prints a ledger;
-   with --serve PORT [OURS PEER] it serves one connection on 127.0.0.1 instead, by the machine's clock. */
+/* An example host, to copy from: a venue's loop around the gateway, as docs/HOST.md has it. It plays a member's
+   recorded day (day.h) and prints a ledger; with --serve PORT [OURS PEER] it serves lines on 127.0.0.1, by the clock. */
 #include "day.h"
-#include "gateway.h"
+#include "fixgw.h"
 #include "ledger.h"
 #include "libc.h"
 
 #define SECOND ((uint64_t)1000000)
 
 enum {
-    LINE_ROOM = 4096,                       /* anything above FIXGW_LONGEST_FRAME will do */
-    DESKS = 2,
+    LINE_ROOM = 4096,                       /* anything from FIXGW_LONGEST_FRAME on will do */
+    LINES = 4,
     READ_ROOM = 2048,
-    BETWEEN_READS = 100                     /* microseconds, in the recorded day */
+    BETWEEN_READS = 100,                    /* microseconds, in the recorded day */
+    SECONDS_TO_LOG_ON = 10,
+    SECONDS_TO_DRAIN = 2
 };
 
-/* What the venue keeps of each peer. A real one keeps it on disk. */
+struct line;
+
+/* What the venue keeps of each peer. A real one keeps the record on disk. */
 struct desk {
-    const char *peer;
     struct fixgw_session record;
+    struct line *line;                      /* NULL while none is up */
 };
 
-struct host {
-    struct fixgw_session session;
-    struct desk *desk;
-    uint8_t line[LINE_ROOM];
+enum state { DOWN, UP, DRAINING };
+
+struct line {
+    enum state state;
+    int socket;                             /* below 0: a recorded line */
+    struct desk *desk;                      /* NULL until a Logon has said who is calling */
+    uint8_t bytes[LINE_ROOM];
     uint64_t held;
-    uint64_t reads, bytes, last_read;       /* that the ledger has not told of yet */
-    int socket;                             /* below 0: nothing is sent */
+    uint64_t heard;                         /* when the last frame came, or the connection */
+    uint64_t asked;                         /* when our Test Request went out that nothing has answered; 0: none */
+    uint64_t left;                          /* when we hung up */
+    uint64_t reads, came, last_read;        /* that the ledger has not told of yet */
 };
 
+static struct line lines[LINES];
+static struct desk *desks;
+static size_t desk_count;
 static uint64_t cancels, trade_requests;
 
-/* ---- The loop ---------------------------------------------------------------------------------------------------- */
-
-long send(int, const void *, size_t, int);
-enum { MSG_NOSIGNAL = 0x4000 };
-
-static void send_out(struct host *host, const uint8_t *bytes, size_t len)
+/* How long ago; nothing for a clock that went back. */
+static uint64_t since(uint64_t then, uint64_t time)
 {
-    for (size_t sent = 0; host->socket >= 0 && sent < len;) {
-        long now = send(host->socket, bytes + sent, len - sent, MSG_NOSIGNAL);
-        if (now <= 0)
-            return;                         /* the peer has gone, which the next read tells */
-        sent += (size_t)now;
-    }
+    return time > then ? time - then : 0;
 }
 
-/* A real venue writes the record to disk here, with the frame if it is delivered, before it sends anything. */
-static void keep(struct host *host)
+/* ---- What a venue has of its own --------------------------------------------------------------------------------- */
+
+long send(int, const void *, size_t, int);
+int shutdown(int, int);
+enum { MSG_NOSIGNAL = 0x4000, NO_MORE_SENDING = 1 };
+
+/* False if the peer cannot be reached. A recorded line takes everything. */
+static bool send_out(const struct line *line, const uint8_t *bytes, size_t len)
 {
-    host->desk->record = host->session;
+    for (size_t sent = 0; line->socket >= 0 && sent < len;) {
+        long now = send(line->socket, bytes + sent, len - sent, MSG_NOSIGNAL);
+        if (now <= 0)
+            return false;
+        sent += (size_t)now;
+    }
+    return true;
+}
+
+/* A real venue writes the record to disk here, with the frame if one is delivered, and answers false if it cannot. */
+static bool keep(struct desk *desk, const struct fixgw_session *record, const struct message *delivered)
+{
+    (void)delivered;
+    desk->record = *record;
+    return true;
 }
 
 /* A real venue hands the message to its order book or its trade desk here. */
@@ -61,105 +84,258 @@ static void deliver(const struct message *message)
         trade_requests++;
 }
 
-static void tell_reads(struct host *host, uint64_t pending)
+static void tell_reads(struct line *line, uint64_t pending)
 {
-    ledger_came(host->last_read, host->reads, host->bytes, pending);
-    host->reads = 0;
-    host->bytes = 0;
+    ledger_came(line->last_read, line->reads, line->came, pending);
+    line->reads = 0;
+    line->came = 0;
 }
 
-static void tell_noise(struct host *host, uint64_t time, uint64_t len)
+static void tell_noise(struct line *line, uint64_t time, uint64_t len)
 {
     if (len > 0)
-        tell_reads(host, 0);
-    ledger_noise(time, host->line, len);
+        tell_reads(line, 0);
+    ledger_noise(time, line->bytes, len, line->held);
 }
 
-static void take_frame(struct host *host, uint64_t time, const uint8_t *frame, size_t len)
+/* ---- A line comes and goes --------------------------------------------------------------------------------------- */
+
+/* A new connection: nothing is pending, and nobody knows yet who it is. */
+static void connected(struct line *line, uint64_t time, int socket)
+{
+    memset(line, 0, sizeof *line);
+    line->state = UP;
+    line->socket = socket;
+    line->heard = time;
+    ledger_connected(time);
+}
+
+static void gone(struct line *line, uint64_t time, const char *why)
+{
+    tell_reads(line, line->held);
+    ledger_line(time, why);
+    if (line->desk)
+        line->desk->line = NULL;
+    line->desk = NULL;
+    line->held = 0;
+    line->state = DOWN;
+}
+
+/* What was sent must arrive: if the socket is closed while bytes of the peer lie unread in it, they are answered with a
+   reset, which may overtake our Logout. So only our side ends here, and the rest is read up to the peer's end. */
+static void hang_up(struct line *line, uint64_t time, const char *why)
+{
+    gone(line, time, why);
+    if (line->socket < 0)
+        return;
+    shutdown(line->socket, NO_MORE_SENDING);
+    line->left = time;
+    line->state = DRAINING;
+}
+
+static bool is_comp_id(struct value value, const uint8_t *place, uint8_t len)
+{
+    return value.at && value.len == len && memcmp(value.at, place, len) == 0;
+}
+
+/* The desk that a message is from and for, if there is one. */
+static struct desk *desk_of(const struct message *message)
+{
+    struct value sender = first_field(message, FIXGW_TAG_SENDER_COMP_ID);
+    struct value target = first_field(message, FIXGW_TAG_TARGET_COMP_ID);
+    for (size_t i = 0; i < desk_count; i++)
+        if (is_comp_id(sender, desks[i].record.peer, desks[i].record.peer_len)
+            && is_comp_id(target, desks[i].record.ours, desks[i].record.ours_len))
+            return &desks[i];
+    return NULL;
+}
+
+/* Who is calling, as the first message says; or why it is turned away. A peer whose line is up is turned away before its
+   record is touched: otherwise whoever knows a CompID could end its session. Only then is it a reconnect. */
+static const char *why_not_admitted(struct line *line, const struct message *message)
+{
+    struct desk *desk = desk_of(message);
+    if (type_of(message) != FIXGW_TYPE_LOGON)
+        return "no Logon";
+    if (!desk)
+        return "nobody that we know";
+    if (desk->line)
+        return "this peer has a line up already";
+    struct fixgw_session record = desk->record;
+    if (fixgw_session_reconnect(&record) || !keep(desk, &record, NULL))
+        return "its record is damaged, or cannot be kept";
+    desk->line = line;
+    line->desk = desk;
+    return NULL;
+}
+
+static bool is_admitted(struct line *line, uint64_t time, const struct message *message)
+{
+    const char *why_not = why_not_admitted(line, message);
+    tell_reads(line, 0);
+    if (why_not) {
+        ledger_turned_away(time, message, why_not);
+        hang_up(line, time, "the host hangs up");
+    } else
+        ledger_known(time, &line->desk->record);
+    return !why_not;
+}
+
+/* ---- The loop ---------------------------------------------------------------------------------------------------- */
+
+/* The step is taken on a copy, so that what is in memory is what is on disk, also where keeping fails. */
+static void take_frame(struct line *line, uint64_t time, const uint8_t *frame, size_t len)
 {
     uint8_t reply[FIXGW_LEAST_REPLY_ROOM];
     uint64_t out[2];
-    struct step step = { .before = host->session, .in = message_of(frame, len) };
-    step.refusal = fixgw_session_step(&host->session, frame, len, time, reply, sizeof reply, out);
-    keep(host);
-    send_out(host, reply, out[1]);
-    if (out[0])
-        deliver(&step.in);
-    step.after = host->session;
+    struct message in = message_of(frame, len);
+    if (!line->desk && !is_admitted(line, time, &in))
+        return;
+    struct step step = { .before = line->desk->record, .after = line->desk->record, .in = in };
+    step.refusal = fixgw_session_step(&step.after, frame, len, time, reply, sizeof reply, out);
     step.delivered = out[0];
     take_reply(&step, reply, out[1]);
-    tell_reads(host, 0);
+    if (!keep(line->desk, &step.after, step.delivered ? &in : NULL)) {
+        hang_up(line, time, "the host hangs up: the record cannot be kept, so nothing is sent");
+        return;
+    }
+    bool is_sent = send_out(line, reply, out[1]);
+    tell_reads(line, 0);
     ledger_step(time, &step);
+    line->heard = time;
+    line->asked = 0;
+    if (step.delivered)
+        deliver(&in);
+    if (step.after.words[FIXGW_WORD_STATUS] == FIXGW_CLOSED)
+        hang_up(line, time, "the host hangs up: the session is Closed");
+    else if (!is_sent)
+        hang_up(line, time, "the host hangs up: the peer takes nothing");
 }
 
-static void read_frames(struct host *host, uint64_t time)
+static void read_frames(struct line *line, uint64_t time)
 {
     uint64_t found[2];
-    while (fixgw_read(host->line, host->held, found) == FIXGW_OK) {
-        tell_noise(host, time, found[0]);
-        take_frame(host, time, host->line + found[0], found[1]);
-        host->held = fixgw_drop(host->line, LINE_ROOM, host->held, found[0] + found[1]);
+    while (fixgw_read(line->bytes, line->held, found) == FIXGW_OK) {
+        uint64_t behind = line->held - found[0] - found[1];
+        tell_noise(line, time, found[0]);
+        take_frame(line, time, line->bytes + found[0], found[1]);
+        if (line->state != UP) {
+            ledger_left(time, behind);
+            return;
+        }
+        line->held = fixgw_drop(line->bytes, LINE_ROOM, line->held, found[0] + found[1]);
     }
-    tell_noise(host, time, found[0]);
-    host->held = fixgw_drop(host->line, LINE_ROOM, host->held, found[0]);
+    tell_noise(line, time, found[0]);
+    line->held = fixgw_drop(line->bytes, LINE_ROOM, line->held, found[0]);
 }
 
-static void take_read(struct host *host, uint64_t time, const uint8_t *piece, size_t len)
+/* A good frame ends with a byte 1, so bytes without one end none, and there is nothing to look for before the next. */
+static void take_read(struct line *line, uint64_t time, const uint8_t *piece, size_t len)
 {
-    host->reads++;
-    host->bytes += len;
-    host->last_read = time;
-    while (len > 0) {
-        uint64_t put = fixgw_put(host->line, LINE_ROOM, host->held, piece, len);
-        host->held += put;
+    line->reads++;
+    line->came += len;
+    line->last_read = time;
+    while (len > 0 && line->state == UP) {
+        uint64_t put = fixgw_put(line->bytes, LINE_ROOM, line->held, piece, len);
+        if (put == 0) {
+            hang_up(line, time, "the host hangs up: its line buffer is too short for a frame");
+            return;
+        }
+        bool may_end_a_frame = memchr(piece, 1, put) != NULL;
+        line->held += put;
         piece += put;
         len -= put;
-        read_frames(host, time);
+        if (may_end_a_frame || line->held == LINE_ROOM)
+            read_frames(line, time);
     }
 }
 
-static void tick(struct host *host, uint64_t time)
+/* ---- The clock --------------------------------------------------------------------------------------------------- */
+
+/* A message that answers none: what the call that wrote it left of the record, and the message itself. */
+struct own {
+    struct fixgw_session record;
+    uint8_t bytes[FIXGW_LEAST_REPLY_ROOM];
+    uint64_t len[1];
+};
+
+/* Keeps the record, then sends the message. Nothing if the call wrote none and refused nothing. */
+static void send_own(struct line *line, uint64_t time, const struct own *own, uint32_t refusal, const char *why)
 {
-    uint8_t reply[FIXGW_LEAST_REPLY_ROOM];
-    uint64_t out[1];
-    tell_reads(host, host->held);
-    uint32_t refusal = fixgw_session_tick(&host->session, time, reply, sizeof reply, out);
-    if (!refusal && out[0] == 0)
+    if (!refusal && own->len[0] == 0)
         return;
-    keep(host);
-    send_out(host, reply, out[0]);
-    if (refusal)
-        ledger_line(time, refusal_words(refusal));
-    else
-        ledger_tick(time, reply, out[0]);
+    if (!keep(line->desk, &own->record, NULL)) {
+        hang_up(line, time, "the host hangs up: the record cannot be kept, so nothing is sent");
+        return;
+    }
+    if (refusal) {
+        hang_up(line, time, refusal_words(refusal));
+        return;
+    }
+    ledger_own(time, own->bytes, own->len[0], why);
+    if (!send_out(line, own->bytes, own->len[0]))
+        hang_up(line, time, "the host hangs up: the peer takes nothing");
 }
 
-static const uint8_t *bytes_of(const char *text)
+static void send_heartbeat(struct line *line, uint64_t time)
 {
-    return (const uint8_t *)text;
+    struct own own = { .record = line->desk->record };
+    uint32_t refusal = fixgw_session_tick(&own.record, time, own.bytes, sizeof own.bytes, own.len);
+    send_own(line, time, &own, refusal, "tick: the heartbeat interval has passed since the last message out");
 }
 
-static uint32_t new_session(struct fixgw_session *session, const char *ours, const char *peer)
+static void ask(struct line *line, uint64_t time)
 {
-    return fixgw_session_new(session, bytes_of(ours), strlen(ours), bytes_of(peer), strlen(peer));
+    char id[32];
+    struct own own = { .record = line->desk->record };
+    size_t len = (size_t)snprintf(id, sizeof id, "TEST-%lu", (unsigned long)own.record.words[FIXGW_WORD_NEXT_OUT]);
+    uint32_t refusal = fixgw_session_test_request(&own.record, (const uint8_t *)id, len, time, own.bytes,
+                                                  sizeof own.bytes, own.len);
+    line->asked = time;
+    send_own(line, time, &own, refusal, "the host asks whether the peer is there: it has been silent");
 }
 
-/* A new connection: the line is empty, whatever the last one left, and a desk that is known goes on with its record. */
-static void connected(struct host *host, uint64_t time, struct desk *desk)
+static void log_out(struct line *line, uint64_t time)
 {
-    host->desk = desk;
-    host->session = desk->record;
-    host->held = 0;
-    fixgw_session_reconnect(&host->session);
-    keep(host);
-    ledger_connected(time, &host->session);
+    struct own own = { .record = line->desk->record };
+    uint32_t refusal = fixgw_session_logout(&own.record, time, own.bytes, sizeof own.bytes, own.len);
+    send_own(line, time, &own, refusal, "the host ends the session: its question was not answered; Closed");
+    if (line->state == UP)
+        hang_up(line, time, "the host hangs up: the session is Closed");
 }
 
-static void hung_up(struct host *host, uint64_t time, const char *who)
+/* The host's own patience, for the gateway has none: the peer's interval and a fifth of it, a second at least. */
+static uint64_t patience_with(const struct desk *desk)
 {
-    tell_reads(host, host->held);
-    ledger_line(time, who);
-    host->desk = NULL;
+    uint64_t interval = desk->record.words[FIXGW_WORD_HEARTBEAT] * SECOND;
+    return interval + (interval / 5 > SECOND ? interval / 5 : SECOND);
+}
+
+/* Once a second for every line that is up. */
+static void tick(struct line *line, uint64_t time)
+{
+    tell_reads(line, line->held);
+    if (!line->desk) {
+        if (since(line->heard, time) >= SECONDS_TO_LOG_ON * SECOND)
+            hang_up(line, time, "the host hangs up: nobody logs on");
+        return;
+    }
+    send_heartbeat(line, time);
+    if (line->state != UP || line->desk->record.words[FIXGW_WORD_STATUS] != FIXGW_ACTIVE)
+        return;
+    if (line->asked && since(line->asked, time) >= patience_with(line->desk))
+        log_out(line, time);
+    else if (!line->asked && since(line->heard, time) >= patience_with(line->desk))
+        ask(line, time);
+}
+
+static void tick_all(uint64_t time)
+{
+    for (unsigned i = 0; i < LINES; i++) {
+        ledger_of(i + 1);
+        if (lines[i].state == UP)
+            tick(&lines[i], time);
+    }
 }
 
 static void end_ledger(void)
@@ -169,21 +345,15 @@ static void end_ledger(void)
            (unsigned long)trade_requests);
 }
 
-/* ---- A recorded day ---------------------------------------------------------------------------------------------- */
-
-/* The desk of a peer; one that has never been here gets a new session. */
-static struct desk *desk_of(struct desk desks[DESKS], const char *peer)
+static uint32_t new_desk(struct desk *desk, const char *ours, const char *peer)
 {
-    size_t place = 0;
-    while (place < DESKS - 1 && desks[place].peer && strcmp(desks[place].peer, peer) != 0)
-        place++;
-    if (!desks[place].peer)
-        new_session(&desks[place].record, "GW", peer);
-    desks[place].peer = peer;
-    return &desks[place];
+    desk->line = NULL;
+    return fixgw_session_new(&desk->record, (const uint8_t *)ours, strlen(ours), (const uint8_t *)peer, strlen(peer));
 }
 
-static void play_read(struct host *host, const struct entry *entry)
+/* ---- A recorded day ---------------------------------------------------------------------------------------------- */
+
+static void play_read(struct line *line, const struct entry *entry)
 {
     static uint8_t bytes[READ_ROOM];
     size_t len = strlen(entry->bytes);
@@ -191,39 +361,46 @@ static void play_read(struct host *host, const struct entry *entry)
         bytes[i] = entry->bytes[i] == '|' ? 1 : (uint8_t)entry->bytes[i];
     uint64_t time = entry->time;
     for (size_t at = 0; at < len; at += entry->longest) {
-        take_read(host, time, bytes + at, len - at < entry->longest ? len - at : entry->longest);
+        take_read(line, time, bytes + at, len - at < entry->longest ? len - at : entry->longest);
         time += BETWEEN_READS;
     }
 }
 
-/* The venue's clock ticks once a second while a peer is connected. */
-static void pass_time(struct host *host, uint64_t from, uint64_t until)
+static void play_entry(const struct entry *entry)
 {
-    for (uint64_t time = from - from % SECOND + SECOND; host->desk && time <= until; time += SECOND)
-        tick(host, time);
+    struct line *line = &lines[entry->line - 1];
+    ledger_of(entry->line);
+    if (entry->event == CONNECT)
+        connected(line, entry->time, -1);
+    else if (entry->event == READ)
+        play_read(line, entry);
+    else
+        gone(line, entry->time, "the connection breaks");
 }
 
+/* The venue's clock ticks once a second. */
 static int play_day(void)
 {
-    static struct host host = { .socket = -1 };
-    static struct desk desks[DESKS];
+    static struct desk two[2];
+    desks = two;
+    desk_count = 2;
+    new_desk(&two[0], "GW", "MM");
+    new_desk(&two[1], "GW", "MM2");
+    ledger_head(day[0].time);
     uint64_t now = day[0].time;
-    ledger_head(now);
     for (size_t i = 0; i < sizeof day / sizeof day[0]; i++) {
-        pass_time(&host, now, day[i].time);
+        for (now = now - now % SECOND + SECOND; now <= day[i].time; now += SECOND)
+            tick_all(now);
+        play_entry(&day[i]);
         now = day[i].time;
-        if (day[i].event == CONNECT)
-            connected(&host, now, desk_of(desks, day[i].bytes));
-        else if (day[i].event == READ)
-            play_read(&host, &day[i]);
-        else
-            hung_up(&host, now, "the connection ends");
     }
+    for (now = now - now % SECOND + SECOND; now < AFTER_THE_DAY; now += SECOND)
+        tick_all(now);
     end_ledger();
     return 0;
 }
 
-/* ---- One connection on 127.0.0.1 --------------------------------------------------------------------------------- */
+/* ---- Lines on 127.0.0.1 ------------------------------------------------------------------------------------------ */
 
 struct address {
     uint16_t family;
@@ -235,6 +412,10 @@ struct wanted {
     short events, got;
 };
 
+struct duration {
+    long seconds, microseconds;
+};
+
 int socket(int, int, int);
 int setsockopt(int, int, int, const void *, uint32_t);
 int bind(int, const struct address *, uint32_t);
@@ -244,10 +425,10 @@ int accept(int, struct address *, uint32_t *);
 int poll(struct wanted *, unsigned long, int);
 
 enum {
-    INTERNET = 2, STREAM = 1, SOCKET_LEVEL = 1, REUSE_ADDRESS = 2, READABLE = 1, WALL_CLOCK = 0,
+    INTERNET = 2, STREAM = 1, SOCKET_LEVEL = 1, REUSE_ADDRESS = 2, SEND_TIMEOUT = 21, READABLE = 1, WALL_CLOCK = 0,
     BETWEEN_LOOKS = 100,                    /* milliseconds */
-    SECONDS_TO_CONNECT = 60,
-    SECONDS_OF_SILENCE = 120                /* the host's own patience: the gateway has none */
+    SECONDS_TO_SEND = 5,
+    SECONDS_TO_CONNECT = 60
 };
 
 static uint64_t clock_now(void)
@@ -257,15 +438,12 @@ static uint64_t clock_now(void)
     return (uint64_t)now.tv_sec * SECOND + (uint64_t)now.tv_nsec / 1000;
 }
 
-static bool is_readable_within(int socket, int milliseconds)
-{
-    struct wanted wanted = { socket, READABLE, 0 };
-    return poll(&wanted, 1, milliseconds) > 0;
-}
-
 static int complain(const char *what)
 {
-    printf("example: %s\n", what);
+    fflush(NULL);
+    write(2, "run: ", 5);
+    write(2, what, strlen(what));
+    write(2, "\n", 1);
     return 1;
 }
 
@@ -278,7 +456,7 @@ static int listen_on(uint16_t port)
     if (listener < 0)
         return -1;
     setsockopt(listener, SOCKET_LEVEL, REUSE_ADDRESS, &yes, sizeof yes);
-    if (bind(listener, &here, sizeof here) || listen(listener, 1) || getsockname(listener, &here, &size)) {
+    if (bind(listener, &here, sizeof here) || listen(listener, LINES) || getsockname(listener, &here, &size)) {
         close(listener);
         return -1;
     }
@@ -287,54 +465,105 @@ static int listen_on(uint16_t port)
     return listener;
 }
 
-/* Serves the connection up to its end; why it ended. */
-static const char *serve(struct host *host)
+/* A peer that takes nothing for some seconds is given up, so that it holds up no other line for longer. */
+static void take_connection(int listener)
 {
-    uint8_t bytes[READ_ROOM];
-    uint64_t heard = clock_now(), ticked = heard;
-    while (host->session.words[FIXGW_WORD_STATUS] != FIXGW_CLOSED) {
-        if (is_readable_within(host->socket, BETWEEN_LOOKS)) {
-            long len = read(host->socket, bytes, sizeof bytes);
-            if (len <= 0)
-                return "the peer hangs up";
-            heard = clock_now();
-            take_read(host, heard, bytes, (size_t)len);
-        }
-        uint64_t now = clock_now();
-        if (now > heard + SECONDS_OF_SILENCE * SECOND)
-            return "the host hangs up: the peer has long been silent";
-        if (now / SECOND > ticked / SECOND)
-            tick(host, ticked = now);
-        fflush(NULL);
-    }
-    return "the host hangs up: the session is Closed";
+    struct duration patience = { SECONDS_TO_SEND, 0 };
+    unsigned place = 0;
+    int peer = accept(listener, NULL, NULL);
+    while (place < LINES && lines[place].state != DOWN)
+        place++;
+    if (peer >= 0 && place == LINES)
+        close(peer);
+    if (peer < 0 || place == LINES)
+        return;
+    setsockopt(peer, SOCKET_LEVEL, SEND_TIMEOUT, &patience, sizeof patience);
+    ledger_of(place + 1);
+    connected(&lines[place], clock_now(), peer);
 }
 
-static int serve_one(uint16_t port, const char *ours, const char *peer)
+static void take_bytes(struct line *line)
 {
-    static struct host host;
-    struct desk desk = { .peer = peer };
-    if (new_session(&desk.record, ours, peer))
+    uint8_t bytes[READ_ROOM];
+    long len = read(line->socket, bytes, sizeof bytes);
+    if (len > 0 && line->state == UP)
+        take_read(line, clock_now(), bytes, (size_t)len);
+    if (len > 0)
+        return;
+    if (line->state == UP)
+        gone(line, clock_now(), "the peer hangs up");
+    close(line->socket);
+    line->state = DOWN;
+}
+
+static void end_drained(uint64_t time)
+{
+    for (size_t i = 0; i < LINES; i++)
+        if (lines[i].state == DRAINING && since(lines[i].left, time) >= SECONDS_TO_DRAIN * SECOND) {
+            close(lines[i].socket);
+            lines[i].state = DOWN;
+        }
+}
+
+/* Waits for a connection or bytes, and takes them; whether a line is left. */
+static bool look(int listener)
+{
+    struct wanted wanted[LINES + 1] = { { listener, READABLE, 0 } };
+    bool any = false;
+    for (size_t i = 0; i < LINES; i++) {
+        struct wanted bytes = { lines[i].state == DOWN ? -1 : lines[i].socket, READABLE, 0 };
+        wanted[i + 1] = bytes;
+        any = any || lines[i].state != DOWN;
+    }
+    poll(wanted, LINES + 1, BETWEEN_LOOKS);
+    for (unsigned i = 0; i < LINES; i++) {
+        ledger_of(i + 1);
+        if (wanted[i + 1].got)
+            take_bytes(&lines[i]);
+    }
+    if (wanted[0].got)
+        take_connection(listener);
+    return any || wanted[0].got;
+}
+
+/* Serves up to the end of the last line; false if none came. */
+static bool serve(int listener)
+{
+    uint64_t began = clock_now(), ticked = began;
+    bool any = false;
+    while (look(listener) || !any) {
+        uint64_t now = clock_now();
+        any = any || lines[0].state != DOWN;
+        if (!any && since(began, now) >= SECONDS_TO_CONNECT * SECOND)
+            return false;
+        if (now / SECOND != ticked / SECOND)
+            tick_all(ticked = now);
+        end_drained(now);
+        fflush(NULL);
+    }
+    return true;
+}
+
+static int serve_all(uint16_t port, const char *ours, const char *peer)
+{
+    struct desk desk;
+    desks = &desk;
+    desk_count = 1;
+    if (new_desk(&desk, ours, peer))
         return complain("a CompID has 1 to 11 bytes");
     int listener = listen_on(port);
     if (listener < 0)
         return complain("the port cannot be had");
-    host.socket = is_readable_within(listener, SECONDS_TO_CONNECT * 1000) ? accept(listener, NULL, NULL) : -1;
-    close(listener);
-    if (host.socket < 0)
-        return complain("nobody connects");
     ledger_head(clock_now());
-    connected(&host, clock_now(), &desk);
-    const char *end = serve(&host);
-    hung_up(&host, clock_now(), end);
-    close(host.socket);
+    if (!serve(listener))
+        return complain("nobody connects");
     end_ledger();
     return 0;
 }
 
 static bool port_of(const char *text, uint16_t *port)
 {
-    struct value digits = { bytes_of(text), strlen(text) };
+    struct value digits = { (const uint8_t *)text, strlen(text) };
     uint64_t number = number_in(digits);
     *port = (uint16_t)number;
     return number <= 65535 && (number > 0 || strcmp(text, "0") == 0);
@@ -346,6 +575,6 @@ int main(int count, char **words)
     if (count == 1)
         return play_day();
     if ((count != 3 && count != 5) || strcmp(words[1], "--serve") != 0 || !port_of(words[2], &port))
-        return complain("usage: example [--serve PORT [OURS PEER]]");
-    return count == 5 ? serve_one(port, words[3], words[4]) : serve_one(port, "GW", "MM");
+        return complain("usage: ./run [--serve PORT [OURS PEER]]");
+    return count == 5 ? serve_all(port, words[3], words[4]) : serve_all(port, "GW", "MM");
 }

@@ -12,12 +12,12 @@ kit_find() {
     [ "$(uname -m)" = x86_64 ] || emulator=$kit/bin/qemu-x86_64
 }
 
-# kit_compile SOURCE.c OBJECT FLAGS..
+# kit_compile SOURCE.c OBJECT FLAGS.., in the repository's folder
 kit_compile() {
     source=$1 object=$2
     shift 2
     "$kit/bin/clang" --target=x86_64-unknown-linux-gnu -nostdinc -std=c11 -O2 -Wall -Wextra -Wpedantic -Werror -fPIC \
-        "$@" -c "$source" -o "$object" || die "$source does not compile"
+        -Iinclude "$@" -c "$source" -o "$object" || die "$source does not compile"
 }
 
 # kit_link PROGRAM OBJECT-OR-LIBRARY..

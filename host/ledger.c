@@ -3,15 +3,17 @@
 
 enum {
     WIDTH = 120,
-    INDENT = 23,                            /* of what stands below a row */
-    ROOM_FOR_CHANGES = 40,
-    MOST_SHOWN = 380                        /* of bytes that are no message */
+    INDENT = 24,                            /* of what stands below a row */
+    MOST_SHOWN = 380,                       /* of bytes that are no message */
+    WORDS = 200,
+    CHANGES = 240                           /* of four changes of any numbers */
 };
 
 #define SECOND 1000000u
 #define DAY (86400u * (uint64_t)SECOND)
 
 static uint64_t frames_in, messages_out, delivered, bytes_of_noise;
+static unsigned line_of_rows = 1;
 
 /* ---- Time -------------------------------------------------------------------------------------------------------- */
 
@@ -42,11 +44,16 @@ static struct date date_of(uint64_t time)
     return date;
 }
 
+/* A row's front: the time, which way, and of which line unless it is the first. */
 static void print_row(uint64_t time, const char *way)
 {
     uint64_t second = time % DAY / SECOND;
-    printf("%02u:%02u:%02u.%06u  %-5s ", (unsigned)(second / 3600), (unsigned)(second / 60 % 60),
-           (unsigned)(second % 60), (unsigned)(time % SECOND), way);
+    printf("%02u:%02u:%02u.%06u  %s", (unsigned)(second / 3600), (unsigned)(second / 60 % 60), (unsigned)(second % 60),
+           (unsigned)(time % SECOND), way);
+    if (line_of_rows > 1)
+        printf(" %u%*s", line_of_rows, (int)(5 - strlen(way)), "");
+    else
+        printf("%*s", (int)(7 - strlen(way)), "");
 }
 
 /* ---- Bytes ------------------------------------------------------------------------------------------------------- */
@@ -101,27 +108,25 @@ static const char *status_name(uint64_t status)
     return status <= FIXGW_CLOSED ? names[status] : "no status";
 }
 
-static void print_change(const char *name, uint64_t before, uint64_t after, const char **between)
+/* Appends one number's change; `used` is how much of the room is taken. */
+static void add_change(char *changes, size_t *used, const char *name, uint64_t before, uint64_t after)
 {
-    if (before == after)
-        return;
-    printf("%s%s %lu -> %lu", *between, name, (unsigned long)before, (unsigned long)after);
-    *between = ", ";
+    if (before != after)
+        *used += (size_t)snprintf(changes + *used, CHANGES - *used, "%s%s %lu -> %lu", *used > 1 ? ", " : "", name,
+                                  (unsigned long)before, (unsigned long)after);
 }
 
-static void print_changes(const struct fixgw_session *before, const struct fixgw_session *after)
+static void list_changes(const struct fixgw_session *before, const struct fixgw_session *after, char changes[CHANGES])
 {
     const uint64_t *old = before->words, *new = after->words;
-    const char *between = "";
-    printf("[");
-    if (old[FIXGW_WORD_STATUS] != new[FIXGW_WORD_STATUS]) {
-        printf("%s -> %s", status_name(old[FIXGW_WORD_STATUS]), status_name(new[FIXGW_WORD_STATUS]));
-        between = ", ";
-    }
-    print_change("E", old[FIXGW_WORD_EXPECTED], new[FIXGW_WORD_EXPECTED], &between);
-    print_change("next out", old[FIXGW_WORD_NEXT_OUT], new[FIXGW_WORD_NEXT_OUT], &between);
-    print_change("heartbeat", old[FIXGW_WORD_HEARTBEAT], new[FIXGW_WORD_HEARTBEAT], &between);
-    printf("%s]\n", *between ? "" : "no change");
+    size_t used = (size_t)snprintf(changes, CHANGES, "[");
+    if (old[FIXGW_WORD_STATUS] != new[FIXGW_WORD_STATUS])
+        used += (size_t)snprintf(changes + used, CHANGES - used, "%s -> %s", status_name(old[FIXGW_WORD_STATUS]),
+                                 status_name(new[FIXGW_WORD_STATUS]));
+    add_change(changes, &used, "E", old[FIXGW_WORD_EXPECTED], new[FIXGW_WORD_EXPECTED]);
+    add_change(changes, &used, "next out", old[FIXGW_WORD_NEXT_OUT], new[FIXGW_WORD_NEXT_OUT]);
+    add_change(changes, &used, "heartbeat", old[FIXGW_WORD_HEARTBEAT], new[FIXGW_WORD_HEARTBEAT]);
+    snprintf(changes + used, CHANGES - used, "%s]", used > 1 ? "" : "no change");
 }
 
 /* ---- Rows -------------------------------------------------------------------------------------------------------- */
@@ -141,15 +146,24 @@ void ledger_line(uint64_t time, const char *what)
     printf("%s\n", what);
 }
 
-void ledger_connected(uint64_t time, const struct fixgw_session *session)
+void ledger_of(unsigned line)
+{
+    line_of_rows = line;
+}
+
+void ledger_connected(uint64_t time)
+{
+    printf("\n");
+    ledger_line(time, "a peer connects");
+}
+
+void ledger_known(uint64_t time, const struct fixgw_session *session)
 {
     const uint64_t *words = session->words;
-    printf("\n");
     print_row(time, "line");
-    printf("%.*s connects to %.*s: %s, E %lu, next out %lu\n", (int)words[FIXGW_WORD_PEER_LEN],
-           (const char *)session->peer, (int)words[FIXGW_WORD_OURS_LEN], (const char *)session->ours,
-           status_name(words[FIXGW_WORD_STATUS]), (unsigned long)words[FIXGW_WORD_EXPECTED],
-           (unsigned long)words[FIXGW_WORD_NEXT_OUT]);
+    printf("it is %.*s, for %.*s: %s, E %lu, next out %lu\n", session->peer_len, (const char *)session->peer,
+           session->ours_len, (const char *)session->ours, status_name(words[FIXGW_WORD_STATUS]),
+           (unsigned long)words[FIXGW_WORD_EXPECTED], (unsigned long)words[FIXGW_WORD_NEXT_OUT]);
 }
 
 void ledger_came(uint64_t time, uint64_t reads, uint64_t bytes, uint64_t pending)
@@ -163,33 +177,24 @@ void ledger_came(uint64_t time, uint64_t reads, uint64_t bytes, uint64_t pending
     printf("\n");
 }
 
-#define MARK "8=FIXT.1.1\0019="
-#define MARK_SIZE (sizeof MARK - 1)
-
-/* The number behind a start mark at the front of the bytes; 0 if there is none. */
-static uint64_t promised_length(const uint8_t *bytes, size_t len)
+void ledger_noise(uint64_t time, const uint8_t *bytes, size_t len, size_t held)
 {
-    struct value digits = { bytes + MARK_SIZE, 0 };
-    if (len < MARK_SIZE || memcmp(bytes, MARK, MARK_SIZE) != 0)
-        return 0;
-    while (digits.len < len - MARK_SIZE && digits.at[digits.len] != 1)
-        digits.len++;
-    return number_in(digits);
-}
-
-void ledger_noise(uint64_t time, const uint8_t *bytes, size_t len)
-{
+    char words[WORDS];
     if (len == 0)
         return;
-    uint64_t promised = promised_length(bytes, len);
+    explain_noise(bytes, len, held, words, sizeof words);
     print_row(time, "line");
-    printf("%lu byte%s skipped: ", (unsigned long)len, len == 1 ? "" : "s");
-    if (promised > len)
-        printf("a mark that promises a body of %lu bytes, cut off by the next mark\n", (unsigned long)promised);
-    else
-        printf("no good frame begins in %s\n", len == 1 ? "it" : "them");
+    printf("%lu byte%s skipped: %s\n", (unsigned long)len, len == 1 ? "" : "s", words);
     print_bytes(bytes, len < MOST_SHOWN ? len : MOST_SHOWN);
     bytes_of_noise += len;
+}
+
+void ledger_left(uint64_t time, uint64_t bytes)
+{
+    if (bytes == 0)
+        return;
+    print_row(time, "line");
+    printf("%lu bytes behind it are not looked at\n", (unsigned long)bytes);
 }
 
 static void print_message(uint64_t time, const char *way, const struct message *message)
@@ -197,7 +202,10 @@ static void print_message(uint64_t time, const char *way, const struct message *
     uint64_t number = number_in(first_field(message, FIXGW_TAG_MSG_SEQ_NUM));
     bool is_duplicate = value_is(first_field(message, FIXGW_TAG_POSS_DUP_FLAG), "Y");
     print_row(time, way);
-    printf("%s %lu%s\n", type_name(type_of(message)), (unsigned long)number, is_duplicate ? ", PossDup" : "");
+    printf("%s", type_name(type_of(message)));
+    if (number)
+        printf(" %lu", (unsigned long)number);
+    printf("%s\n", is_duplicate ? ", PossDup" : "");
     print_bytes(message->frame, message->len);
 }
 
@@ -219,36 +227,44 @@ void take_reply(struct step *step, const uint8_t *reply, size_t len)
 }
 
 /* What changes in the record follows on the same line, or on the next if that has no room for it. */
-static void print_decision(const char *words)
+static void print_decision(const char *words, const char *changes)
 {
-    size_t column = INDENT + strlen("=> ") + strlen(words);
+    bool has_room = INDENT + strlen("=> ") + strlen(words) + 2 + strlen(changes) <= WIDTH;
     print_indent();
     printf("=> %s", words);
-    if (column + ROOM_FOR_CHANGES <= WIDTH)
-        printf("  ");
+    if (has_room)
+        printf("  %s\n", changes);
     else
-        printf("\n%*s", INDENT + 3, "");
+        printf("\n%*s%s\n", INDENT + 3, "", changes);
 }
 
 void ledger_step(uint64_t time, const struct step *step)
 {
-    char words[200];
+    char words[WORDS], changes[CHANGES];
     explain(step, words, sizeof words);
+    list_changes(&step->before, &step->after, changes);
     print_message(time, "in", &step->in);
-    print_decision(words);
-    print_changes(&step->before, &step->after);
+    print_decision(words, changes);
     for (size_t i = 0; i < step->replies; i++)
         print_out(time, &step->reply[i]);
     frames_in++;
     delivered += step->delivered;
 }
 
-void ledger_tick(uint64_t time, const uint8_t *reply, size_t len)
+void ledger_turned_away(uint64_t time, const struct message *message, const char *why)
 {
-    struct message message = message_of(reply, len);
+    print_message(time, "in", message);
+    print_indent();
+    printf("=> the host: %s\n", why);
+    frames_in++;
+}
+
+void ledger_own(uint64_t time, const uint8_t *bytes, size_t len, const char *why)
+{
+    struct message message = message_of(bytes, len);
     print_out(time, &message);
     print_indent();
-    printf("=> tick: the heartbeat interval has passed since the last message out\n");
+    printf("=> %s\n", why);
 }
 
 void ledger_foot(void)

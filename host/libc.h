@@ -3,7 +3,7 @@
 #ifndef HOST_LIBC_H
 #define HOST_LIBC_H
 
-#include "gateway.h"
+#include "fixgw.h"
 
 #ifndef FIXGW_HAS_HEADERS
 #define NULL ((void *)0)
@@ -30,6 +30,7 @@ int close(int);
 
 struct _IO_FILE;
 int printf(const char *, ...) __attribute__((format(printf, 1, 2)));
+int snprintf(char *, size_t, const char *, ...) __attribute__((format(printf, 3, 4)));
 int fflush(struct _IO_FILE *);
 
 struct timespec {

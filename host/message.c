@@ -3,21 +3,20 @@
 
 struct message message_of(const uint8_t *frame, size_t len)
 {
-    size_t start = fixgw_body_start(frame);
-    struct message message = { frame, frame + start, len, len - start - FIXGW_TRAILER };
+    uint64_t body[2];
+    fixgw_body(frame, len, body);           /* {0, 0} for no frame */
+    struct message message = { frame, frame + body[0], len, body[1] };
     return message;
 }
 
-struct value first_field(const struct message *message, uint64_t tag)
+struct value first_field(const struct message *message, uint32_t tag)
 {
+    uint64_t found[3];
     struct value value = { NULL, 0 };
-    uint64_t part[5] = { 0 };
-    do {
-        if (fixgw_field(message->body, message->body_len, part[4], part) || part[0] == FIXGW_PART_END)
-            return value;
-    } while (part[0] != FIXGW_PART_FIELD || part[1] != tag);
-    value.at = message->body + part[2];
-    value.len = part[3] - part[2];
+    if (fixgw_first_field(message->body, message->body_len, tag, found) == FIXGW_OK && found[0]) {
+        value.at = message->body + found[1];
+        value.len = found[2] - found[1];
+    }
     return value;
 }
 
@@ -29,7 +28,7 @@ bool value_is(struct value value, const char *text)
 uint64_t number_in(struct value value)
 {
     uint64_t number = 0;
-    if (value.len > 9)
+    if (value.len == 0 || value.len > 9 || value.at[0] == '0')
         return 0;
     for (size_t i = 0; i < value.len; i++) {
         if (value.at[i] < '0' || value.at[i] > '9')

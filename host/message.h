@@ -1,8 +1,8 @@
-/* A message's fields as a host sees them, read through the gateway's field call, and the FIX names of what they say. */
+/* A message's fields as a host sees them, read through the gateway's own calls, and the FIX names of what they say. */
 #ifndef HOST_MESSAGE_H
 #define HOST_MESSAGE_H
 
-#include "gateway.h"
+#include "fixgw.h"
 #include "libc.h"
 
 struct message {
@@ -15,15 +15,15 @@ struct value {
     size_t len;
 };
 
-/* The message of a frame that the gateway's reading handed out. */
+/* The message of a frame; bytes that are no frame are one without fields. */
 struct message message_of(const uint8_t *frame, size_t len);
 
 /* The first field of a tag. */
-struct value first_field(const struct message *message, uint64_t tag);
+struct value first_field(const struct message *message, uint32_t tag);
 
 bool value_is(struct value value, const char *text);
 
-/* A value of 1 to 9 digits as a number; 0 for any other. */
+/* A value of 1 to 9 digits without leading zero as a number; 0 for any other, and for "0". */
 uint64_t number_in(struct value value);
 
 /* The first field 35 as a number of fixgw_type. */

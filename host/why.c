@@ -1,12 +1,28 @@
-/* Names the rule of document 01 behind an outcome. N is the message's number, E the number expected before it. */
+/* Names the rule of document 01 behind an outcome. N is the message's number, E the number expected before it. The rule
+   is worked out here a second time, without proof, from what came in and what went out; what is said of E, of Closed
+   and of a Reject is taken from the outcome. tests/ledger holds all of it to the model. */
 #include "ledger.h"
-
-int snprintf(char *, size_t, const char *, ...) __attribute__((format(printf, 3, 4)));
 
 struct words {
     char *at;
     size_t room;
 };
+
+/* Appends; what has no room is cut off. */
+static void say(struct words *words, const char *text)
+{
+    int len = snprintf(words->at, words->room, "%s", text);
+    size_t used = (size_t)len < words->room ? (size_t)len : words->room - 1;
+    words->at += used;
+    words->room -= used;
+}
+
+static void say_number(struct words *words, uint64_t number)
+{
+    char digits[21];
+    snprintf(digits, sizeof digits, "%lu", (unsigned long)number);
+    say(words, digits);
+}
 
 const char *refusal_words(uint32_t refusal)
 {
@@ -25,126 +41,204 @@ static bool replies_with(const struct step *step, size_t place, uint32_t type)
     return place < step->replies && type_of(&step->reply[place]) == type;
 }
 
+static bool holds(const struct step *step, uint32_t tag, const char *text)
+{
+    return value_is(first_field(&step->in, tag), text);
+}
+
 static bool is_clean(const struct message *message)
 {
     uint64_t out[3];
     return fixgw_verdict(message->body, message->body_len, out) == FIXGW_OK && out[0] == 0;
 }
 
-static uint64_t in_reply(const struct step *step, uint64_t tag)
+/* The Reject at the front of the reply, with its reason and its tag. */
+static void say_reject(struct words *words, const struct step *step)
 {
-    return number_in(first_field(&step->reply[0], tag));
+    uint64_t reason = number_in(first_field(&step->reply[0], FIXGW_TAG_SESSION_REJECT_REASON));
+    uint64_t tag = number_in(first_field(&step->reply[0], FIXGW_TAG_REF_TAG_ID));
+    say(words, "Reject ");
+    say_number(words, reason);
+    say(words, " (");
+    say(words, reason_name(reason));
+    say(words, ")");
+    if (!tag)
+        return;
+    say(words, ", tag ");
+    say_number(words, tag);
+    say(words, " ");
+    say(words, tag_name(tag));
 }
 
-static void say(struct words words, const char *text)
+static void explain_waiting(struct words *words, const struct step *step)
 {
-    snprintf(words.at, words.room, "%s", text);
-}
-
-/* A Reject with its reason and tag; `why` stands before it and `then` behind. */
-static void say_reject(struct words words, const struct step *step, const char *why, const char *then)
-{
-    uint64_t reason = in_reply(step, FIXGW_TAG_SESSION_REJECT_REASON), tag = in_reply(step, FIXGW_TAG_REF_TAG_ID);
-    if (tag)
-        snprintf(words.at, words.room, "%s: Reject %lu (%s), tag %lu %s; %s", why, (unsigned long)reason,
-                 reason_name(reason), (unsigned long)tag, tag_name(tag), then);
-    else
-        snprintf(words.at, words.room, "%s: Reject %lu (%s); %s", why, (unsigned long)reason, reason_name(reason),
-                 then);
-}
-
-static void explain_waiting(struct words words, const struct step *step)
-{
-    bool reset = value_is(first_field(&step->in, FIXGW_TAG_RESET_SEQ_NUM_FLAG), "Y");
-    if (!replies_with(step, 0, FIXGW_TYPE_LOGON))
-        say(words, reset ? "Waiting, 141=Y and N is not 1: Logout" : "Waiting, N < E: Logout");
-    else if (reset)
-        say(words, "Waiting, 141=Y and N = 1: our Logon with 141=Y is number 1, E is 2");
+    bool is_reset = holds(step, FIXGW_TAG_RESET_SEQ_NUM_FLAG, "Y"), is_taken = replies_with(step, 0, FIXGW_TYPE_LOGON);
+    if (is_reset)
+        say(words, is_taken ? "Waiting, 141=Y and N = 1: Logon with 141=Y as number 1" :
+                              "Waiting, 141=Y and N is not 1: Logout");
+    else if (!is_taken)
+        say(words, "Waiting, N < E: Logout");
     else if (replies_with(step, 1, FIXGW_TYPE_RESEND_REQUEST))
-        say(words, "Waiting, N > E: Logon, then Resend Request from E; E stays");
+        say(words, "Waiting, N > E: Logon, then Resend Request from E");
     else
-        say(words, "Waiting, N = E: Logon; E + 1");
+        say(words, "Waiting, N = E: Logon");
 }
 
-static void explain_reset(struct words words, const struct step *step)
+static void explain_reset(struct words *words, const struct step *step)
 {
-    if (step->replies == 0)
-        say(words, "rule 3, Sequence Reset without 123=Y: E becomes 36, whatever N is");
-    else if (is_clean(&step->in))
-        say_reject(words, step, "rule 3, Sequence Reset to below E", "E stays");
-    else
-        say_reject(words, step, "rule 3, Sequence Reset with a verdict", "E stays");
+    if (step->replies == 0) {
+        say(words, "rule 3, Sequence Reset without 123=Y: taken, whatever N is");
+        return;
+    }
+    say(words, is_clean(&step->in) ? "rule 3, Sequence Reset to below E: " : "rule 3, Sequence Reset with a verdict: ");
+    say_reject(words, step);
 }
 
-static void explain_low(struct words words, const struct step *step)
+static void explain_high(struct words *words, const struct step *step)
+{
+    if (replies_with(step, 0, FIXGW_TYPE_SEQUENCE_RESET))
+        say(words, "rule 4, N > E: gap fill, as asked for, then Resend Request 7=E, 16=0");
+    else
+        say(words, "rule 4, N > E: Resend Request 7=E, 16=0");
+}
+
+static void explain_low(struct words *words, const struct step *step)
 {
     if (replies_with(step, 0, FIXGW_TYPE_LOGOUT))
         say(words, "rule 5, N < E and 43 is not Y: Logout");
-    else if (step->replies > 0)
-        say_reject(words, step, "rule 5, N < E, 43=Y, no 122", "E stays");
-    else
+    else if (step->replies == 0)
         say(words, "rule 5, N < E, 43=Y with 122: a duplicate, ignored");
+    else {
+        say(words, "rule 5, N < E, 43=Y, no 122: ");
+        say_reject(words, step);
+    }
 }
 
-static void explain_reject_in_turn(struct words words, const struct step *step)
+static const char *why_rejected(const struct step *step)
 {
     if (!is_clean(&step->in))
-        say_reject(words, step, "rule 6, N = E, a verdict", "E + 1");
-    else if (type_of(&step->in) == FIXGW_TYPE_RESEND_REQUEST)
-        say_reject(words, step, "rule 6, N = E, a range never sent", "E + 1");
-    else if (type_of(&step->in) == FIXGW_TYPE_SEQUENCE_RESET)
-        say_reject(words, step, "rule 6, N = E, gap fill with 36 not above N", "E + 1");
-    else
-        say_reject(words, step, "rule 6, N = E, Logon while Active", "E + 1");
+        return "rule 6, N = E, a verdict: ";
+    if (type_of(&step->in) == FIXGW_TYPE_RESEND_REQUEST)
+        return "rule 6, N = E, no such range: ";
+    if (type_of(&step->in) == FIXGW_TYPE_SEQUENCE_RESET)
+        return "rule 6, N = E, 36 not above N: ";
+    return "rule 6, N = E, a second Logon: ";
 }
 
-static void explain_in_turn(struct words words, const struct step *step)
+static void explain_in_turn(struct words *words, const struct step *step)
 {
     if (step->delivered)
-        say(words, "rule 6, N = E, clean: delivered to the venue; E + 1");
-    else if (replies_with(step, 0, FIXGW_TYPE_REJECT))
-        explain_reject_in_turn(words, step);
-    else if (replies_with(step, 0, FIXGW_TYPE_HEARTBEAT))
-        say(words, "rule 6, N = E, Test Request: Heartbeat with its 112; E + 1");
+        say(words, "rule 6, N = E, clean: delivered to the venue");
+    else if (replies_with(step, 0, FIXGW_TYPE_REJECT)) {
+        say(words, why_rejected(step));
+        say_reject(words, step);
+    } else if (replies_with(step, 0, FIXGW_TYPE_HEARTBEAT))
+        say(words, "rule 6, N = E, a test: Heartbeat with its 112");
     else if (replies_with(step, 0, FIXGW_TYPE_SEQUENCE_RESET))
-        say(words, "rule 6, N = E, Resend Request: one gap fill, which uses no new number; E + 1");
+        say(words, "rule 6, N = E, asked to resend: gap fill, which uses no new number");
     else if (replies_with(step, 0, FIXGW_TYPE_LOGOUT))
-        say(words, "rule 6, N = E, Logout: answered with 1409=4, Closed; E + 1");
+        say(words, "rule 6, N = E, the peer ends the session: Logout with 1409=4");
     else if (type_of(&step->in) == FIXGW_TYPE_SEQUENCE_RESET)
-        say(words, "rule 6, N = E, gap fill: E becomes 36");
+        say(words, "rule 6, N = E, 36 above N: taken");
     else
-        say(words, "rule 6, N = E: nothing to answer; E + 1");
+        say(words, "rule 6, N = E: nothing to answer");
 }
 
-static void explain_active(struct words words, const struct step *step)
+/* Rule 2 alone answers with two messages of which the second is a Logout. */
+static void explain_active(struct words *words, const struct step *step)
 {
     uint64_t n = number_in(first_field(&step->in, FIXGW_TAG_MSG_SEQ_NUM));
     uint64_t expected = step->before.words[FIXGW_WORD_EXPECTED];
+    bool is_reset = type_of(&step->in) == FIXGW_TYPE_SEQUENCE_RESET && !holds(step, FIXGW_TAG_GAP_FILL_FLAG, "Y");
     if (n == 0)
         say(words, "rule 1, 34 unreadable: Logout");
-    else if (replies_with(step, 0, FIXGW_TYPE_REJECT) && replies_with(step, 1, FIXGW_TYPE_LOGOUT))
-        say_reject(words, step, "rule 2, wrong CompID", n == expected ? "Logout; E + 1" : "Logout; E stays");
-    else if (type_of(&step->in) == FIXGW_TYPE_SEQUENCE_RESET
-             && !value_is(first_field(&step->in, FIXGW_TAG_GAP_FILL_FLAG), "Y"))
+    else if (replies_with(step, 1, FIXGW_TYPE_LOGOUT)) {
+        say(words, "rule 2, CompIDs: ");
+        say_reject(words, step);
+        say(words, ", then Logout");
+    } else if (is_reset)
         explain_reset(words, step);
-    else if (replies_with(step, 1, FIXGW_TYPE_RESEND_REQUEST))
-        say(words, "rule 4, N > E: their Resend Request is served first, then ours, 7=E, 16=0; E stays");
-    else if (replies_with(step, 0, FIXGW_TYPE_RESEND_REQUEST))
-        say(words, "rule 4, N > E: Resend Request 7=E, 16=0; E stays");
+    else if (n > expected)
+        explain_high(words, step);
     else if (n < expected)
         explain_low(words, step);
     else
         explain_in_turn(words, step);
 }
 
+/* What became of E and of the status, by the record before and after. */
+static void say_changes(struct words *words, const struct step *step)
+{
+    uint64_t before = step->before.words[FIXGW_WORD_EXPECTED], after = step->after.words[FIXGW_WORD_EXPECTED];
+    if (after == before)
+        say(words, "; E stays");
+    else if (after == before + 1)
+        say(words, "; E + 1");
+    else {
+        say(words, "; E becomes ");
+        say_number(words, after);
+    }
+}
+
 void explain(const struct step *step, char *at, size_t room)
 {
     struct words words = { at, room };
-    if (step->refusal)
-        snprintf(at, room, "refusal %u: %s%s", step->refusal, refusal_words(step->refusal),
-                 step->after.words[FIXGW_WORD_STATUS] != step->before.words[FIXGW_WORD_STATUS] ? "; now Closed" : "");
-    else if (step->before.words[FIXGW_WORD_STATUS] == FIXGW_WAITING)
-        explain_waiting(words, step);
+    if (step->refusal) {
+        say(&words, "refusal ");
+        say_number(&words, step->refusal);
+        say(&words, ": ");
+        say(&words, refusal_words(step->refusal));
+    } else if (step->before.words[FIXGW_WORD_STATUS] == FIXGW_WAITING)
+        explain_waiting(&words, step);
     else
-        explain_active(words, step);
+        explain_active(&words, step);
+    if (!step->refusal)
+        say_changes(&words, step);
+    if (step->after.words[FIXGW_WORD_STATUS] == FIXGW_CLOSED && step->before.words[FIXGW_WORD_STATUS] != FIXGW_CLOSED)
+        say(&words, "; Closed");
+}
+
+/* ---- Bytes that are no part of any frame ------------------------------------------------------------------------- */
+
+#define MARK "8=FIXT.1.1\0019="
+enum { MARK_SIZE = sizeof MARK - 1, TRAILER_SIZE = 7 };
+
+static bool is_mark(const uint8_t *bytes, size_t len)
+{
+    return len >= MARK_SIZE && memcmp(bytes, MARK, MARK_SIZE) == 0;
+}
+
+/* The digits behind a start mark at the front of the bytes, up to a `|`; nowhere if there is none. */
+static struct value length_field(const uint8_t *bytes, size_t len)
+{
+    struct value digits = { bytes + MARK_SIZE, 0 }, none = { NULL, 0 };
+    if (!is_mark(bytes, len))
+        return none;
+    while (MARK_SIZE + digits.len < len && digits.at[digits.len] != 1)
+        digits.len++;
+    return MARK_SIZE + digits.len < len ? digits : none;
+}
+
+/* Whether another start mark begins in the frame that would have so many bytes. */
+static bool has_mark_inside(const uint8_t *bytes, size_t len, uint64_t size)
+{
+    for (size_t at = MARK_SIZE; at < size && at < len; at++)
+        if (is_mark(bytes + at, len - at))
+            return true;
+    return false;
+}
+
+void explain_noise(const uint8_t *bytes, size_t len, size_t held, char *at, size_t room)
+{
+    struct words words = { at, room };
+    struct value digits = length_field(bytes, len);
+    uint64_t promised = digits.at ? number_in(digits) : 0;
+    if (!promised) {
+        say(&words, len == 1 ? "no good frame begins in it" : "no good frame begins in them");
+        return;
+    }
+    say(&words, "a start mark that promises a body of ");
+    say_number(&words, promised);
+    bool is_cut = has_mark_inside(bytes, held, MARK_SIZE + digits.len + 1 + promised + TRAILER_SIZE);
+    say(&words, is_cut ? " bytes, with another mark inside" : " bytes, but no good frame begins there");
 }

@@ -157,13 +157,13 @@ uint32_t fixgw_version(void);
 uint32_t fixgw_read(const uint8_t *bytes, size_t len, uint64_t out[2]);
 
 /* Puts as much of a piece as there is room for behind the first `held` bytes of a line buffer.
-   Returns a count: how many bytes of the piece were put, 0 if held is not below buf_len. The held bytes stay; so does what lies
-   behind the bytes put. */
+   Returns a count: how many bytes of the piece were put, 0 if held is not below buf_len. The held bytes stay; so does
+   what lies behind the bytes put. */
 uint64_t fixgw_put(uint8_t *buf, size_t buf_len, uint64_t held, const uint8_t *piece, size_t piece_len);
 
 /* Drops n bytes from the front of the `held` ones in a line buffer: the others move to its front.
-   Returns a count: how many are held then, held - n, and 0 if n is at least held. A `held` above buf_len counts as buf_len. What
-   lies behind the bytes held then means nothing. */
+   Returns a count: how many are held then, held - n, and 0 if n is at least held. A `held` above buf_len counts as
+   buf_len. What lies behind the bytes held then means nothing. */
 uint64_t fixgw_drop(uint8_t *buf, size_t buf_len, uint64_t held, uint64_t n);
 
 /* ---- Fields of a body -------------------------------------------------------------------------------------------- */
@@ -197,8 +197,8 @@ uint32_t fixgw_first_field(const uint8_t *body, size_t len, uint32_t tag, uint64
 /* ---- Writing one message ----------------------------------------------------------------------------------------- */
 
 /* The places of the writer's values, in the order in which a message has them. Three words each, at 3 * place:
-   {given, a, b}. `given` is 0 for an absent tag, so zero all of them before the first value is given. A number is a; any
-   other value is the byte string text[a .. b). */
+   {given, a, b}. `given` is 0 for an absent tag, so zero all of them before the first value is given. A number is a;
+   any other value is the byte string text[a .. b). */
 enum fixgw_place {
     FIXGW_PLACE_SENDER_COMP_ID = 0,         /* 49 */
     FIXGW_PLACE_TARGET_COMP_ID,             /* 56 */
@@ -371,12 +371,12 @@ static inline uint32_t fixgw_session_test_request(struct fixgw_session *session,
                               out);
 }
 
-/* A MsgType as a number of fixgw_type; 0 for one that is not of one or two bytes. */
+/* A MsgType as a number of fixgw_type; 0 for one that is not of one or two bytes, or begins with a byte 0. */
 static inline uint32_t fixgw_type_number(const uint8_t *type, size_t len)
 {
     if (len == 1)
         return type[0];
-    return len == 2 ? (uint32_t)type[0] << 8 | type[1] : 0;
+    return len == 2 && type[0] ? (uint32_t)type[0] << 8 | type[1] : 0;
 }
 
 #ifdef __cplusplus
