@@ -1,7 +1,8 @@
-// The session: its record, and what it does with a frame, at a tick, when it is new and when it reconnects.
+// The session: its record, and what it does with a frame, at a tick, for a message of the venue's own, when it is new and when it reconnects.
 mod changes;
 mod gates;
 mod moved;
+mod own;
 mod reads;
 mod replies;
 mod rules;
@@ -19,11 +20,13 @@ use gates::step_gate;
 use moved::answer_of;
 use moved::is_quiet;
 use moved::next_after;
+use own::own_gate;
 use replies::put_both;
 use rules::Letter;
 use rules::Plan;
 use rules::active;
 use rules::beating;
+use rules::closing;
 use rules::waiting;
 ghost use mathlib.Core.Path.{_≡_};
 ghost use mathlib.Core.List.{[], _++_};
@@ -34,7 +37,7 @@ ghost use Rattle.frame.specs.Stream.{joined};
 ghost use Rattle.calendar.specs.Time.{utc, limit};
 ghost use Rattle.writer.specs.Wrote.{Wrote};
 ghost use Rattle.session.specs.Session.{No, turned, fresh};
-ghost use Rattle.session.specs.Calls.{making, refusing, movesOn, due, step, tick, new, reconnect};
+ghost use Rattle.session.specs.Calls.{making, refusing, movesOn, due, step, tick, logout, new, reconnect};
 ghost use Rattle.session.specs.Held.{sessionOf, Leaves, answeredBy, recordOf, answeredNew, padded};
 ghost use Rattle.session.specs.code.Plan.{lettersOf, behind, bytesOf, planned, outcomeOf, AllPut, Ready};
 ghost use Rattle.session.specs.code.Fit.{AllFit};
@@ -278,6 +281,20 @@ pub fn tick(r: Record, time: u64, buf: &mut [u8]) -> Answered
         return unchanged(r, Answer::NothingDue);
     }
     play(r, beating(r), b"", time, buf)
+}
+
+// The venue logs the member out: our Logout, and the session is Closed.
+pub fn logout(r: Record, time: u64, buf: &mut [u8]) -> Answered
+    ensures { λ a. ⌜ Leaves r (logout (sessionOf r) time (now (buf .entry))) a (now (buf .exit)) ⌝ }
+{
+    let gate = own_gate(r, time, buf.len());
+    match gate {
+        Gate::Shut(k) => refused(r, k),
+        Gate::Open => {
+            let p = closing(r, Letter::Logout { why: 101 }, Letter::Nothing, r.expected);
+            play(r, p, b"", time, buf)
+        }
+    }
 }
 
 // A CompID in eleven bytes, with zeros behind it.

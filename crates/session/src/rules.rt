@@ -98,7 +98,7 @@ fn expecting(r: Record, e: u64) -> Plan
 }
 
 // Messages of which the last is our Logout; E becomes e.
-fn closing(r: Record, first: Letter, second: Letter, e: u64) -> Plan
+pub fn closing(r: Record, first: Letter, second: Letter, e: u64) -> Plan
     ensures { λ p. ⌜ p ≡ closes (sessionOf r) first second e ⌝ }
 {
     Plan {

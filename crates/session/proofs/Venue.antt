@@ -1,0 +1,111 @@
+-- The venue's own messages: their refusals test by test, and what the calls leave.
+-- Assumes nothing.
+use Prim.Native.Nat.{ℕ, _≤_, _<_}
+use native.Mathlib.Omega.{arith}
+use mathlib.Core.Path.{_≡_, refl, sym, ap, _∙_}
+use mathlib.Core.Bool.{Bool, true, false, not}
+use mathlib.Core.List.{List, [], _∷_}
+use mathlib.Core.Option.{Option, none, some}
+use lib.ListN.{length}
+use borrow.Author.Tests.{lt-ltb, le-ltb, lt-leb, le-leb, leb-false, ltb-false, not-true, not-false}
+use Rattle.frame.specs.Bytes.{Bytes}
+use Rattle.calendar.specs.Time.{limit}
+use Rattle.session.specs.Words.{first, _when_}
+use Rattle.session.specs.Session.{_==_, Session, inRange}
+use Rattle.session.specs.Moves as Words
+use Rattle.session.specs.Moves.{Deeds, Write, Becomes}
+use Rattle.session.specs.Calls.{Outcome, outcome, making, refusing, spent, unsendable}
+use Rattle.session.specs.Held.{sessionOf, answeredBy, Leaves}
+use Rattle.session.specs.code.Fit.{AllFit}
+use Rattle.session.specs.code.Plan.{shut, planned, summed, closes, Ready}
+use Rattle.session.specs.declared.Record.{Record}
+use Rattle.session.specs.declared.Answered.{Answered}
+use Rattle.session.specs.declared.Answer.{Answer}
+use Rattle.session.specs.declared.Answer.the-variants.{Refused}
+use Rattle.session.specs.declared.Refusal.{Refusal}
+use Rattle.session.specs.declared.Refusal.the-variants.{SessionClosed, NumbersSpent, BufferShort, TimePast, BadRecord}
+use Rattle.session.specs.declared.Gate.{Gate}
+use Rattle.session.specs.declared.Gate.the-variants.{Open, Shut}
+use Rattle.session.specs.declared.Status.the-variants.{Active, Closed}
+use Rattle.session.specs.declared.rules.Plan.{Plan}
+use Rattle.session.specs.declared.rules.Letter.the-variants.{Nothing, Logout}
+use Rattle.session.proofs.Words.{not-said, Silent, all-silent}
+use Rattle.session.proofs.Fitting.{Ample}
+use Rattle.session.proofs.Stepping.{ready-by}
+
+-- THE REFUSALS: 11, 7, 6, 2 outside Active, 5
+module _ (s : Session) (t room : ℕ) {a : Bool} (ra : a ≡ inRange s) where
+  pub own-11 : not a ≡ true → shut (Shut BadRecord) ≡ first (unsendable s t room)
+  unfolding unsendable
+  own-11 h = rw (← ra, not-true a h)
+
+  module _ (ha : not a ≡ false) where
+    pub own-7 : limit ≤ t → shut (Shut TimePast) ≡ first (unsendable s t room)
+    unfolding unsendable
+    own-7 h = rw (← ra, not-false a ha, le-leb limit t h)
+
+    module _ (h₇ : t < limit) where
+      pub own-6 : room < 512 → shut (Shut BufferShort) ≡ first (unsendable s t room)
+      unfolding unsendable
+      own-6 h = rw (← ra, not-false a ha, lt-leb limit t h₇, lt-ltb room 512 h)
+
+      module _ (h₆ : 512 ≤ room) {c : Bool} (rc : c ≡ (s .status == Active)) where
+        pub own-2 : not c ≡ true → shut (Shut SessionClosed) ≡ first (unsendable s t room)
+        unfolding unsendable
+        own-2 h = rw (← ra, not-false a ha, lt-leb limit t h₇, le-ltb room 512 h₆, ← rc, not-true c h)
+
+        module _ (h₂ : not c ≡ false) {d : Bool} (rd : d ≡ spent s) where
+          pub own-5 : d ≡ true → shut (Shut NumbersSpent) ≡ first (unsendable s t room)
+          unfolding unsendable
+          own-5 h = rw (← ra, not-false a ha, lt-leb limit t h₇, le-ltb room 512 h₆, ← rc, not-false c h₂, ← rd, h)
+
+          pub own-none : d ≡ false → shut Open ≡ first (unsendable s t room)
+          unfolding unsendable
+          own-none h = rw (← ra, not-false a ha, lt-leb limit t h₇, le-ltb room 512 h₆, ← rc, not-false c h₂, ← rd, h)
+
+pub ruleset owning = (own-11, own-7, own-6, own-2, own-5, own-none)
+
+-- what passes them
+pub record Sendable (s : Session) (t room : ℕ) : Type 0 where
+  pub ranged : inRange s ≡ true
+  pub timed : t < limit
+  pub roomy : 512 ≤ room
+  pub unspent : spent s ≡ false
+
+pub sendable : (s : Session) (t room : ℕ) → Silent (unsendable s t room) → Sendable s t room
+unfolding unsendable
+sendable s t room k =
+    record {
+      ranged = not-false (inRange s) (not-said (Refused BadRecord) _ (k .0));
+      timed = leb-false limit t (not-said (Refused TimePast) _ (k .1 .0));
+      roomy = ltb-false room 512 (not-said (Refused BufferShort) _ (k .1 .1 .0));
+      unspent = not-said (Refused NumbersSpent) _ (k .1 .1 .1 .1 .0);
+    }
+
+pub sends-by : (s : Session) (t room : ℕ) {g : Gate} → shut g ≡ first (unsendable s t room) → g ≡ Open → Sendable s t room
+sends-by s t room e q = sendable s t room (all-silent (unsendable s t room) (sym e ∙ ap shut q))
+
+pub ready-to : (r : Record) {t room : ℕ} → Sendable (sessionOf r) t room → Ready r
+ready-to r S = ready-by r (S .ranged) (S .unspent)
+
+-- WHAT A CALL LEAVES: by its refusals l, or the move
+module _ (r : Record) (l : List (Option Answer)) (t : ℕ) (ds : Deeds) (d : Bytes) {g : Gate} (e : shut g ≡ first l) where
+  pub own-shut : {k : Refusal} {a : Answered} → g ≡ Shut k → a ≡ answeredBy r (refusing k (sessionOf r) d) → Leaves r (outcome (first l) t ds (sessionOf r) d) a d
+  own-shut {k = k} q w =
+      let x : first l ≡ some (Refused k) = sym e ∙ ap shut q in
+      rw x (record { answered = w; buffer = refl })
+
+  pub own-made : {o : Outcome} {a : Answered} {d′ : Bytes} → g ≡ Open → o ≡ making t (sessionOf r) ds d → Leaves r o a d′ → Leaves r (outcome (first l) t ds (sessionOf r) d) a d′
+  own-made q w v =
+      let x : first l ≡ none = sym e ∙ ap shut q in
+      rw (x, ← w) v
+
+-- OUR LOGOUT
+abbrev pub farewell : Deeds
+farewell = Write (Words.Logout 101) ∷ Becomes Closed ∷ []
+
+pub farewell-plan : (s : Session) {p : Plan} → p ≡ closes s (Logout 101) Nothing (s .E) → planned [] s p ≡ summed s farewell
+farewell-plan s e = rw e
+
+pub farewell-fit : (t : ℕ) (s : Session) → Ample s → AllFit t s farewell
+farewell-fit t s A = ((A .first, omega (arith, A .next), omega arith), (tt, tt))

@@ -1,0 +1,47 @@
+-- `logout`: a refusal, or our Logout and Closed.
+use borrow.Author.Needs.{needs}
+use native.Mathlib.Omega.{arith}
+use mathlib.Core.List.{[]}
+use lib.ListN.{length}
+use Rattle.session.specs.Held.{sessionOf}
+use Rattle.session.specs.Calls.{unsendable, logout}
+use Rattle.session.proofs.Stepping.{ample}
+use Rattle.session.proofs.Playing.{plan-fits, plan-makes}
+use Rattle.session.proofs.Venue.{sends-by, ready-to, own-shut, own-made, farewell, farewell-plan, farewell-fit}
+use Rattle.session.proofs.logout.Statement.{statement}
+use Rattle.session.proofs.logout.Tie as tie
+
+play-requires : tie.Need-play-requires
+play-requires c κs =
+    let a = c .before .before .before .before .before .before .before .args in
+    let S = sends-by (sessionOf (a .r)) _ _ (c .before .before .before .before .before .own-gate .ensures) (c .before .before .before .enum-told .given .1) in
+    let R = ready-to (a .r) S in
+    (R, (S .roomy, S .timed, plan-fits (a .time) (sessionOf (a .r)) [] (c .before .before .closing .result) farewell (farewell-plan (sessionOf (a .r)) (c .before .before .closing .ensures)) (farewell-fit (a .time) _ (ample (a .r) R))))
+
+returns : tie.Need-returns
+unfolding logout
+returns c =
+    let a = c .before .before .before .before .before .before .args in
+    own-shut (a .r) (unsendable (sessionOf (a .r)) (a .time) (length (a .buf .now))) (a .time) farewell (a .buf .now) (c .before .before .before .before .own-gate .ensures) (c .before .before .gate .given .1) (c .refused .ensures (a .buf .now))
+
+returns-2 : tie.Need-returns-2
+unfolding logout
+returns-2 c =
+    let a = c .before .before .before .before .before .before .before .before .before .before .args in
+    own-made (a .r) (unsendable (sessionOf (a .r)) (a .time) (length (a .buf .now))) (a .time) farewell (a .buf .now) (c .before .before .before .before .before .before .before .before .own-gate .ensures) (c .before .before .before .before .before .before .enum-told .given .1)
+    (plan-makes (a .time) (sessionOf (a .r)) [] (c .before .before .before .before .before .closing .result) farewell (a .buf .now) (farewell-plan (sessionOf (a .r)) (c .before .before .before .before .before .closing .ensures))) (c .before .before .play .ensures)
+
+pub logout-spec : {M : Type 1} → statement M
+logout-spec =
+    tie.close
+    (tie.spec
+    (λ c κs. search needs)
+    (λ c. search needs)
+    (λ c κs. search needs)
+    (λ c. search needs)
+    (λ c κs. search needs)
+    (λ c. search needs)
+    play-requires
+    returns
+    (λ c. search needs)
+    returns-2)

@@ -1,0 +1,35 @@
+// The refusals of the venue's own messages, in their order.
+use crate::Gate;
+use crate::Record;
+use crate::Refusal;
+use crate::changes::in_range;
+use crate::gates::is_active;
+use crate::gates::is_spent;
+ghost use mathlib.Core.Path.{_≡_};
+ghost use Rattle.session.specs.Words.{first};
+ghost use Rattle.session.specs.Calls.{unsendable};
+ghost use Rattle.session.specs.Held.{sessionOf};
+ghost use Rattle.session.specs.code.Plan.{shut};
+
+// 11, 7, 6, 2 outside Active, 5.
+pub fn own_gate(r: Record, time: u64, room: usize) -> Gate
+    ensures { λ g. ⌜ shut g ≡ first (unsendable (sessionOf r) time room) ⌝ }
+{
+    if !in_range(r) {
+        return Gate::Shut(Refusal::BadRecord);
+    }
+    if 253_402_300_800_000_000 <= time {
+        return Gate::Shut(Refusal::TimePast);
+    }
+    if room < 512 {
+        return Gate::Shut(Refusal::BufferShort);
+    }
+    let s = r.status;
+    if !is_active(s) {
+        return Gate::Shut(Refusal::SessionClosed);
+    }
+    if is_spent(r) {
+        return Gate::Shut(Refusal::NumbersSpent);
+    }
+    Gate::Open
+}
