@@ -4,32 +4,34 @@ use Prim.Native.Nat.{ℕ, _≤_, _<_}
 use native.Mathlib.Omega.{arith}
 use mathlib.Core.Path.{_≡_, refl, sym, ap, _∙_}
 use mathlib.Core.Bool.{Bool, true, false, not}
-use mathlib.Core.List.{List, [], _∷_}
+use mathlib.Core.List.{List, [], _∷_, _++_}
 use mathlib.Core.Option.{Option, none, some}
 use lib.ListN.{length}
 use borrow.Author.Tests.{lt-ltb, le-ltb, lt-leb, le-leb, leb-false, ltb-false, not-true, not-false}
-use Rattle.frame.specs.Bytes.{Bytes}
+use Rattle.frame.specs.Bytes.{Bytes, has, within, Byted}
+use Rattle.frame.proofs.Numerals.{within-is}
+use Rattle.frame.proofs.Tests.{both}
 use Rattle.calendar.specs.Time.{limit}
 use Rattle.session.specs.Words.{first, _when_}
 use Rattle.session.specs.Session.{_==_, Session, inRange}
 use Rattle.session.specs.Moves as Words
 use Rattle.session.specs.Moves.{Deeds, Write, Becomes}
-use Rattle.session.specs.Calls.{Outcome, outcome, making, refusing, spent, unsendable}
+use Rattle.session.specs.Calls.{Outcome, outcome, making, refusing, spent, unsendable, testID, test-request}
 use Rattle.session.specs.Held.{sessionOf, answeredBy, Leaves}
-use Rattle.session.specs.code.Fit.{AllFit}
-use Rattle.session.specs.code.Plan.{shut, planned, summed, closes, Ready}
+use Rattle.session.specs.code.Fit.{Text, AllFit}
+use Rattle.session.specs.code.Plan.{shut, planned, summed, says, closes, Ready}
 use Rattle.session.specs.declared.Record.{Record}
 use Rattle.session.specs.declared.Answered.{Answered}
 use Rattle.session.specs.declared.Answer.{Answer}
 use Rattle.session.specs.declared.Answer.the-variants.{Refused}
 use Rattle.session.specs.declared.Refusal.{Refusal}
-use Rattle.session.specs.declared.Refusal.the-variants.{SessionClosed, NumbersSpent, BufferShort, TimePast, BadRecord}
+use Rattle.session.specs.declared.Refusal.the-variants.{SessionClosed, NumbersSpent, BufferShort, TimePast, BadValue, BadRecord}
 use Rattle.session.specs.declared.Gate.{Gate}
 use Rattle.session.specs.declared.Gate.the-variants.{Open, Shut}
 use Rattle.session.specs.declared.Status.the-variants.{Active, Closed}
 use Rattle.session.specs.declared.rules.Plan.{Plan}
-use Rattle.session.specs.declared.rules.Letter.the-variants.{Nothing, Logout}
-use Rattle.session.proofs.Words.{not-said, Silent, all-silent}
+use Rattle.session.specs.declared.rules.Letter.the-variants.{Nothing, Logout, Test}
+use Rattle.session.proofs.Words.{not-said, Silent, all-silent, first-some, first-rest}
 use Rattle.session.proofs.Fitting.{Ample}
 use Rattle.session.proofs.Stepping.{ready-by}
 
@@ -109,3 +111,43 @@ farewell-plan s e = rw e
 
 pub farewell-fit : (t : ℕ) (s : Session) → Ample s → AllFit t s farewell
 farewell-fit t s A = ((A .first, omega (arith, A .next), omega arith), (tt, tt))
+
+-- OUR TEST REQUEST
+abbrev pub asked : Bytes → Deeds
+asked id = Write (Words.TestRequest id) ∷ []
+
+pub asked-plan : (s : Session) (id : Bytes) {p : Plan} → p ≡ says s Test Nothing → planned id s p ≡ summed s (asked id)
+asked-plan s id e = rw e
+
+test-text : (id : Bytes) → testID id ≡ true → Byted id → Text 64 id
+unfolding testID
+test-text id e B =
+    let k = both (within 1 64 (length id)) (not (has id 1)) e in
+    let l = within-is 1 64 (length id) (k .0) in
+    record { some = l .0; short = l .1; no-bar = not-true (has id 1) (k .1); of-bytes = B }
+
+pub asked-fit : (t : ℕ) (s : Session) (id : Bytes) → Ample s → testID id ≡ true → Byted id → AllFit t s (asked id)
+asked-fit t s id A e B = ((A .first, omega (arith, A .next), test-text id e B), tt)
+
+-- 8 stands behind the refusals of each
+abbrev eighth : Bytes → List (Option Answer)
+eighth id = (Refused BadValue when not (testID id)) ∷ []
+
+module _ (r : Record) (id : Bytes) (t : ℕ) (d : Bytes) {g : Gate} (e : shut g ≡ first (unsendable (sessionOf r) t (length d))) where
+  pub test-shut : {k : Refusal} {a : Answered} → g ≡ Shut k → a ≡ answeredBy r (refusing k (sessionOf r) d) → Leaves r (test-request (sessionOf r) id t d) a d
+  unfolding test-request
+  test-shut {k = k} q w =
+      own-shut r (unsendable (sessionOf r) t (length d) ++ eighth id) t (asked id) d {g = Shut k} (sym (first-some (unsendable (sessionOf r) t (length d)) (eighth id) (Refused k) (sym e ∙ ap shut q))) refl w
+
+  module _ (q : g ≡ Open) {b : Bool} (f : b ≡ testID id) where
+    pub test-8 : {a : Answered} → not b ≡ true → a ≡ answeredBy r (refusing BadValue (sessionOf r) d) → Leaves r (test-request (sessionOf r) id t d) a d
+    unfolding test-request
+    test-8 h w =
+        let x : first (eighth id) ≡ some (Refused BadValue) = rw (← f, not-true b h) in
+        own-shut r (unsendable (sessionOf r) t (length d) ++ eighth id) t (asked id) d {g = Shut BadValue} (sym (first-rest (unsendable (sessionOf r) t (length d)) (eighth id) (sym e ∙ ap shut q) ∙ x)) refl w
+
+    pub test-made : {o : Outcome} {a : Answered} {d′ : Bytes} → not b ≡ false → o ≡ making t (sessionOf r) (asked id) d → Leaves r o a d′ → Leaves r (test-request (sessionOf r) id t d) a d′
+    unfolding test-request
+    test-made h w v =
+        let x : first (eighth id) ≡ none = rw (← f, not-false b h) in
+        own-made r (unsendable (sessionOf r) t (length d) ++ eighth id) t (asked id) d {g = Open} (sym (first-rest (unsendable (sessionOf r) t (length d)) (eighth id) (sym e ∙ ap shut q) ∙ x)) refl w v

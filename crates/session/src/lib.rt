@@ -20,6 +20,7 @@ use gates::step_gate;
 use moved::answer_of;
 use moved::is_quiet;
 use moved::next_after;
+use own::is_test_id;
 use own::own_gate;
 use replies::put_both;
 use rules::Letter;
@@ -27,6 +28,7 @@ use rules::Plan;
 use rules::active;
 use rules::beating;
 use rules::closing;
+use rules::saying;
 use rules::waiting;
 ghost use mathlib.Core.Path.{_≡_};
 ghost use mathlib.Core.List.{[], _++_};
@@ -37,7 +39,7 @@ ghost use Rattle.frame.specs.Stream.{joined};
 ghost use Rattle.calendar.specs.Time.{utc, limit};
 ghost use Rattle.writer.specs.Wrote.{Wrote};
 ghost use Rattle.session.specs.Session.{No, turned, fresh};
-ghost use Rattle.session.specs.Calls.{making, refusing, movesOn, due, step, tick, logout, new, reconnect};
+ghost use Rattle.session.specs.Calls.{making, refusing, movesOn, due, step, tick, logout, test-request, new, reconnect};
 ghost use Rattle.session.specs.Held.{sessionOf, Leaves, answeredBy, recordOf, answeredNew, padded};
 ghost use Rattle.session.specs.code.Plan.{lettersOf, behind, bytesOf, planned, outcomeOf, AllPut, Ready};
 ghost use Rattle.session.specs.code.Fit.{AllFit};
@@ -74,6 +76,7 @@ pub enum Refusal {
     NumbersSpent,
     BufferShort,
     TimePast,
+    BadValue,
     NotOneFrame,
     BadRecord,
 }
@@ -89,6 +92,7 @@ pub fn refusal_number(k: Refusal) -> u32
         Refusal::NumbersSpent => 5,
         Refusal::BufferShort => 6,
         Refusal::TimePast => 7,
+        Refusal::BadValue => 8,
         Refusal::NotOneFrame => 10,
         Refusal::BadRecord => 11,
     }
@@ -130,6 +134,7 @@ fn refused(r: Record, k: Refusal) -> Answered
         Refusal::NumbersSpent => unchanged(closed, answer),
         Refusal::BufferShort => unchanged(r, answer),
         Refusal::TimePast => unchanged(r, answer),
+        Refusal::BadValue => unchanged(r, answer),
         Refusal::NotOneFrame => unchanged(r, answer),
         Refusal::BadRecord => unchanged(r, answer),
     }
@@ -293,6 +298,23 @@ pub fn logout(r: Record, time: u64, buf: &mut [u8]) -> Answered
         Gate::Open => {
             let p = closing(r, Letter::Logout { why: 101 }, Letter::Nothing, r.expected);
             play(r, p, b"", time, buf)
+        }
+    }
+}
+
+// The venue asks whether the peer is there: a Test Request with this 112.
+pub fn test_request(r: Record, id: &[u8], time: u64, buf: &mut [u8]) -> Answered
+    ensures { λ a. ⌜ Leaves r (test-request (sessionOf r) (now (id .entry)) time (now (buf .entry))) a (now (buf .exit)) ⌝ }
+{
+    let gate = own_gate(r, time, buf.len());
+    match gate {
+        Gate::Shut(k) => refused(r, k),
+        Gate::Open => {
+            if !is_test_id(id) {
+                return refused(r, Refusal::BadValue);
+            }
+            let p = saying(r, Letter::Test, Letter::Nothing);
+            play(r, p, id, time, buf)
         }
     }
 }

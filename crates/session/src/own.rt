@@ -1,13 +1,14 @@
-// The refusals of the venue's own messages, in their order.
+// The venue's own messages: their refusals, in their order.
 use crate::Gate;
 use crate::Record;
 use crate::Refusal;
 use crate::changes::in_range;
+use crate::changes::is_string;
 use crate::gates::is_active;
 use crate::gates::is_spent;
 ghost use mathlib.Core.Path.{_≡_};
 ghost use Rattle.session.specs.Words.{first};
-ghost use Rattle.session.specs.Calls.{unsendable};
+ghost use Rattle.session.specs.Calls.{unsendable, testID};
 ghost use Rattle.session.specs.Held.{sessionOf};
 ghost use Rattle.session.specs.code.Plan.{shut};
 
@@ -32,4 +33,11 @@ pub fn own_gate(r: Record, time: u64, room: usize) -> Gate
         return Gate::Shut(Refusal::NumbersSpent);
     }
     Gate::Open
+}
+
+// Whether bytes can be the 112 of a Test Request.
+pub fn is_test_id(id: &[u8]) -> bool
+    ensures { λ b. ⌜ b ≡ testID (now (id .entry)) ⌝ }
+{
+    is_string(id, 64)
 }

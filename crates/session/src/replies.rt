@@ -13,6 +13,7 @@ use writer::logon;
 use writer::logout;
 use writer::reject;
 use writer::resend_request;
+use writer::test_request;
 ghost use mathlib.Core.Path.{_≡_};
 ghost use mathlib.Core.List.{_++_};
 ghost use mathlib.Core.Option.{some};
@@ -159,6 +160,7 @@ fn put(
         ),
         Letter::Fill { begin, new } => gap_fill(buf, at, us, them, begin, stamp, new),
         Letter::Logout { why } => logout(buf, at, us, them, n, stamp, why),
+        Letter::Test => test_request(buf, at, us, them, n, stamp, body),
     }
 }
 

@@ -39,6 +39,8 @@ pub enum Letter {
     // A gap fill, which has its own number and uses no new one.
     Fill { begin: u64, new: u64 },
     Logout { why: u64 },
+    // A Test Request; the bytes lent are its 112.
+    Test,
 }
 
 // A move: at most two messages, one behind the other, and what becomes of the record.
