@@ -68,15 +68,15 @@ module _ (s : Session) (t room : ℕ) {a : Bool} (ra : a ≡ inRange s) where
 pub ruleset owning = (own-11, own-7, own-6, own-2, own-5, own-none)
 
 -- what passes them
-pub record Sendable (s : Session) (t room : ℕ) : Type 0 where
+pub record OwnPassed (s : Session) (t room : ℕ) : Type 0 where
   pub ranged : inRange s ≡ true
   pub timed : t < limit
   pub roomy : 512 ≤ room
   pub unspent : spent s ≡ false
 
-pub sendable : (s : Session) (t room : ℕ) → Silent (unsendable s t room) → Sendable s t room
+pub own-passed : (s : Session) (t room : ℕ) → Silent (unsendable s t room) → OwnPassed s t room
 unfolding unsendable
-sendable s t room k =
+own-passed s t room k =
     record {
       ranged = not-false (inRange s) (not-said (Refused BadRecord) _ (k .0));
       timed = leb-false limit t (not-said (Refused TimePast) _ (k .1 .0));
@@ -84,10 +84,10 @@ sendable s t room k =
       unspent = not-said (Refused NumbersSpent) _ (k .1 .1 .1 .1 .0);
     }
 
-pub sends-by : (s : Session) (t room : ℕ) {g : Gate} → shut g ≡ first (unsendable s t room) → g ≡ Open → Sendable s t room
-sends-by s t room e q = sendable s t room (all-silent (unsendable s t room) (sym e ∙ ap shut q))
+pub sends-by : (s : Session) (t room : ℕ) {g : Gate} → shut g ≡ first (unsendable s t room) → g ≡ Open → OwnPassed s t room
+sends-by s t room e q = own-passed s t room (all-silent (unsendable s t room) (sym e ∙ ap shut q))
 
-pub ready-to : (r : Record) {t room : ℕ} → Sendable (sessionOf r) t room → Ready r
+pub ready-to : (r : Record) {t room : ℕ} → OwnPassed (sessionOf r) t room → Ready r
 ready-to r S = ready-by r (S .ranged) (S .unspent)
 
 -- WHAT A CALL LEAVES: by its refusals l, or the move
