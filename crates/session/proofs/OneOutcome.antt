@@ -1,0 +1,38 @@
+-- Every call of a session has one outcome (S1): any two that its contract allows, for the same input, are equal in all that the call answers and leaves.
+-- Assumes nothing.
+use Prim.Native.Nat.{ℕ}
+use mathlib.Core.Path.{_≡_, sym, _∙_}
+use Rattle.frame.specs.Bytes.{Bytes}
+use Rattle.session.specs.Session.{No}
+use Rattle.session.specs.Calls.{Outcome, step, tick, logout, test-request, new, reconnect}
+use Rattle.session.specs.Held.{sessionOf, answeredBy, Leaves, answeredNew}
+use Rattle.session.specs.declared.Record.{Record}
+use Rattle.session.specs.declared.Answered.{Answered}
+use Rattle.session.specs.declared.Refusal.{Refusal}
+
+-- THE CALLS THAT ARE LENT A BUFFER: the answer, the record, the reply's length, and every byte of the buffer
+pub leaves-one : (r : Record) (o : Outcome) {a b : Answered} {c d : Bytes} → Leaves r o a c → Leaves r o b d → (a ≡ b) × (c ≡ d)
+leaves-one r o v w = (v .answered ∙ sym (w .answered), v .buffer ∙ sym (w .buffer))
+
+module _ (r : Record) (t : ℕ) (buf : Bytes) {a b : Answered} {c d : Bytes} where
+  pub step-one : (f : Bytes) → Leaves r (step (sessionOf r) f t buf) a c → Leaves r (step (sessionOf r) f t buf) b d → (a ≡ b) × (c ≡ d)
+  step-one f v w = leaves-one r (step (sessionOf r) f t buf) v w
+
+  pub tick-one : Leaves r (tick (sessionOf r) t buf) a c → Leaves r (tick (sessionOf r) t buf) b d → (a ≡ b) × (c ≡ d)
+  tick-one v w = leaves-one r (tick (sessionOf r) t buf) v w
+
+  pub logout-one : Leaves r (logout (sessionOf r) t buf) a c → Leaves r (logout (sessionOf r) t buf) b d → (a ≡ b) × (c ≡ d)
+  logout-one v w = leaves-one r (logout (sessionOf r) t buf) v w
+
+  pub test-request-one : (id : Bytes) → Leaves r (test-request (sessionOf r) id t buf) a c → Leaves r (test-request (sessionOf r) id t buf) b d → (a ≡ b) × (c ≡ d)
+  test-request-one id v w = leaves-one r (test-request (sessionOf r) id t buf) v w
+
+-- THE OTHERS, which are equations
+pub new-one : (ours peer : Bytes) {a b : Answered} → a ≡ answeredNew (new ours peer) → b ≡ answeredNew (new ours peer) → a ≡ b
+new-one ours peer e f = e ∙ sym f
+
+pub reconnect-one : (r : Record) {a b : Answered} → a ≡ answeredBy r (reconnect (sessionOf r)) → b ≡ answeredBy r (reconnect (sessionOf r)) → a ≡ b
+reconnect-one r e f = e ∙ sym f
+
+pub number-one : (k : Refusal) {m n : ℕ} → m ≡ No k → n ≡ No k → m ≡ n
+number-one k e f = e ∙ sym f
