@@ -34,15 +34,14 @@ ghost use mathlib.Core.Path.{_≡_};
 ghost use mathlib.Core.List.{[], _++_};
 ghost use Prim.Native.Nat.{_≤_, _<_};
 ghost use lib.ListN.{length, take};
-ghost use Rattle.frame.specs.Bytes.{Bytes, Byted};
+ghost use Rattle.frame.specs.Bytes.{Bytes};
 ghost use Rattle.frame.specs.Stream.{joined};
 ghost use Rattle.calendar.specs.Time.{utc, limit};
 ghost use Rattle.writer.specs.Wrote.{Wrote};
 ghost use Rattle.session.specs.Session.{No, turned, fresh};
-ghost use Rattle.session.specs.Calls.{making, refusing, movesOn, due, step, tick, logout, test-request, new, reconnect};
+ghost use Rattle.session.specs.Calls.{refusing, movesOn, due, step, tick, logout, test-request, new, reconnect};
 ghost use Rattle.session.specs.Held.{sessionOf, Leaves, answeredBy, recordOf, answeredNew, padded};
 ghost use Rattle.session.specs.code.Plan.{lettersOf, behind, bytesOf, planned, outcomeOf, AllPut, Ready};
-ghost use Rattle.session.specs.code.Fit.{AllFit};
 
 // Waiting for a logon, active, or closed.
 pub enum Status {

@@ -25,7 +25,6 @@ ghost use Rattle.frame.specs.Stream.{joined};
 ghost use Rattle.fields.specs.Field.{firstField};
 ghost use Rattle.writer.specs.Reply.{optional, heartbeat};
 ghost use Rattle.writer.specs.Wrote.{Wrote};
-ghost use Rattle.writer.specs.code.Ranges.{Ranged};
 ghost use Rattle.session.specs.Seen.{repeated};
 ghost use Rattle.session.specs.code.Plan.{rejectOf, logonOf, lettersOf, behind, bytesOf, AllPut, Sending};
 

@@ -74,12 +74,13 @@ fn counting(r: Record, first: Letter) -> Plan
     ensures { λ p. ⌜ p ≡ counts (sessionOf r) first ⌝ }
 {
     let st = r.status;
+    let count = r.expected + 1;
     Plan {
         delivered: false,
         first,
         second: Letter::Nothing,
         status: st,
-        expected: r.expected + 1,
+        expected: count,
         heartbeat: r.heartbeat,
     }
 }
