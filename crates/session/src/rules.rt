@@ -201,11 +201,11 @@ fn bare_reset(r: Record, body: &[u8]) -> Plan
     if !is_clean(v) {
         return saying(r, rejected(v), Letter::Nothing);
     }
-    let new = number_in(body, 36, 0);
-    if new < r.expected {
+    let to = number_in(body, 36, 0);
+    if to < r.expected {
         return saying(r, Letter::Reject { reason: 5, tag: 36 }, Letter::Nothing);
     }
-    expecting(r, new)
+    expecting(r, to)
 }
 
 // Why a Resend Request is not served: the tag, or 0.
