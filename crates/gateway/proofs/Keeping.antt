@@ -1,18 +1,19 @@
 -- The record is kept: what a new session's record was saved as is loaded again; saving another state changes the state's words alone, and that state is
--- loaded again; saving what was loaded changes nothing. Assumes nothing.
+-- loaded again; saving what was loaded changes nothing; and a session that is Closed differs in one word. Assumes nothing.
 use Prim.Native.Nat.{ℕ, zero, suc, _+_, _≤_, _<_}
-use mathlib.Core.Path.{_≡_, refl, sym, ap, _∙_}
+use mathlib.Core.Path.{_≡_, refl, sym, ap, _∙_, subst}
 use mathlib.Core.List.{List, [], _∷_, _++_}
-use mathlib.Core.Bool.{Bool, true, false, _&&_}
+use mathlib.Core.Bool.{Bool, true, false, cond, _&&_}
 use mathlib.Core.Option.{Option, none, some, Option·some-injective, Option·none-ne-some}
 use native.Mathlib.Omega.{arith}
 use borrow.Author.Tests.{eq-eqb, eqb-true}
-use lib.Dec.{eqb}
-use lib.ListN.{length, getD, drop, drop-of-length-le}
+use lib.Dec.{eqb, leb}
+use lib.ListN.{length, getD, set, take, drop, drop-of-length-le}
 use lib.Seq.{drop-cons, length-sets}
-use Rattle.frame.specs.Bytes.{Bytes}
+use Rattle.frame.specs.Bytes.{Bytes, Byted}
 use Rattle.frame.proofs.Tests.{both}
-use Rattle.session.specs.Session.{code}
+use Rattle.session.specs.Session.{Session, code, turned}
+use Rattle.session.specs.Held.{held, sessionOf, with}
 use Rattle.session.specs.declared.Record.{Record}
 use Rattle.session.specs.declared.Status.{Status}
 use Rattle.session.specs.declared.Status.the-variants.{Waiting, Active, Closed}
@@ -32,6 +33,34 @@ eleven-all l e =
     let at : (j : ℕ) → j < 11 → drop j l ≡ getD l j 0 ∷ drop (suc j) l = λ j h. front-of l j (omega arith) in
     let end : length l ≤ 11 = omega arith in
     sym (at 0 (omega arith) ∙ rw (at 1 (omega arith), at 2 (omega arith), at 3 (omega arith), at 4 (omega arith), at 5 (omega arith), at 6 (omega arith), at 7 (omega arith), at 8 (omega arith), at 9 (omega arith), at 10 (omega arith), drop-of-length-le l end))
+
+-- BYTES
+bytes-eleven : (k : ℕ) (l : Bytes) → Byted l → Byted (eleven k l)
+bytes-eleven k l B zero = B (k + 0)
+bytes-eleven k l B (suc zero) = B (k + 1)
+bytes-eleven k l B (suc (suc zero)) = B (k + 2)
+bytes-eleven k l B (suc (suc (suc zero))) = B (k + 3)
+bytes-eleven k l B (suc (suc (suc (suc zero)))) = B (k + 4)
+bytes-eleven k l B (suc (suc (suc (suc (suc zero))))) = B (k + 5)
+bytes-eleven k l B (suc (suc (suc (suc (suc (suc zero)))))) = B (k + 6)
+bytes-eleven k l B (suc (suc (suc (suc (suc (suc (suc zero))))))) = B (k + 7)
+bytes-eleven k l B (suc (suc (suc (suc (suc (suc (suc (suc zero)))))))) = B (k + 8)
+bytes-eleven k l B (suc (suc (suc (suc (suc (suc (suc (suc (suc zero))))))))) = B (k + 9)
+bytes-eleven k l B (suc (suc (suc (suc (suc (suc (suc (suc (suc (suc zero)))))))))) = B (k + 10)
+bytes-eleven k l B (suc (suc (suc (suc (suc (suc (suc (suc (suc (suc (suc i))))))))))) = omega arith
+
+bytes-take : (n : ℕ) (l : Bytes) → Byted l → Byted (take n l)
+bytes-take zero l B i = omega arith
+bytes-take (suc n) [] B i = omega arith
+bytes-take (suc n) (x ∷ l) B zero = B 0
+bytes-take (suc n) (x ∷ l) B (suc i) = bytes-take n l (λ j. B (suc j)) i
+
+bytes-held : (n : ℕ) (l : Bytes) → Byted l → Byted (held n l)
+bytes-held n l B = go (leb n 11)
+  where
+    go : (b : Bool) → Byted (cond b (take n l) [])
+    go true = bytes-take n l B
+    go false i = omega arith
 
 -- THE STATUS by its number
 pub its-status : (st : Status) → statusOf (code st) ≡ some st
@@ -91,16 +120,33 @@ module _ (ids : Bytes) (words : List ℕ) where
       ∙ sym (six words (omega (arith, K .long)))
 
   -- another state that is saved is loaded again
-  pub saved-loads : (r r′ : Record) → recordIn ids words ≡ some r → recordIn ids (saved words r′) ≡ some (recordWith ids (saved words r′) (r′ .status))
+  pub saved-loads : (r : Record) (s : Session) → recordIn ids words ≡ some r → recordIn ids (saved words (with r s)) ≡ some (with r s)
   unfolding spare
-  saved-loads r r′ e =
+  saved-loads r s e =
+      let L = loaded-with r e in
+      let K = kept-is words (r .status) (L .0) in
+      let z = with r s in
+      let h = saved-is words z (omega (arith, K .long)) in
+      let l : length (saved words z) ≡ 24 = length-sets words 1 (state z) ∙ K .long in
+      let v : getD (saved words z) 0 0 ≡ 1 = ap (λ (w : List ℕ). getD w 0 0) h ∙ K .versioned in
+      let p : spare (saved words z) ≡ true = ap spare h ∙ K .spared in
+      let n : statusOf (getD (saved words z) 1 0) ≡ some (s .status) = ap (λ (w : List ℕ). statusOf (getD w 1 0)) h ∙ its-status (s .status) in
+      ap (recordIf ids (saved words z)) (sym (status-is (saved words z) l v p) ∙ n)
+      ∙ ap (λ (w : List ℕ). some (recordWith ids w (s .status))) h
+      ∙ ap some (sym (ap (λ (x : Record). with x s) (L .1)))
+
+  -- a session that is Closed, and nothing else changed: one word
+  pub closed-words : (r : Record) → recordIn ids words ≡ some r → saved words (with r (turned Closed (sessionOf r))) ≡ set words 1 (code Closed)
+  closed-words r e =
       let K = kept-is words (r .status) (loaded-with r e .0) in
-      let h = saved-is words r′ (omega (arith, K .long)) in
-      let l : length (saved words r′) ≡ 24 = length-sets words 1 (state r′) ∙ K .long in
-      let v : getD (saved words r′) 0 0 ≡ 1 = ap (λ (w : List ℕ). getD w 0 0) h ∙ K .versioned in
-      let z : spare (saved words r′) ≡ true = ap spare h ∙ K .spared in
-      let s : statusOf (getD (saved words r′) 1 0) ≡ some (r′ .status) = ap (λ (w : List ℕ). statusOf (getD w 1 0)) h ∙ its-status (r′ .status) in
-      ap (recordIf ids (saved words r′)) (sym (status-is (saved words r′) l v z) ∙ s)
+      saved-is words (with r (turned Closed (sessionOf r))) (omega (arith, K .long))
+      ∙ ap (λ (w : List ℕ). set w 1 (code Closed)) (sym (saved-is words r (omega (arith, K .long))) ∙ loaded-saves r e)
+
+  -- the CompIDs of a record are bytes, if those that it lies in are
+  pub held-bytes : (r : Record) → recordIn ids words ≡ some r → Byted ids → Byted (sessionOf r .ours) × Byted (sessionOf r .peers)
+  held-bytes r e B =
+      let L = loaded-with r e .1 in
+      (subst (λ (x : Record). Byted (held (x .oursLen) (x .ours))) (sym L) (bytes-held (getD ids 0 0) (eleven 1 ids) (bytes-eleven 1 ids B)), subst (λ (x : Record). Byted (held (x .peerLen) (x .peer))) (sym L) (bytes-held (getD ids 12 0) (eleven 13 ids) (bytes-eleven 13 ids B)))
 
 -- a new session's record is loaded again
 pub new-loads : (r : Record) → length (r .ours) ≡ 11 → length (r .peer) ≡ 11 → recordIn (compIDsOf r) (wordsOf r) ≡ some r

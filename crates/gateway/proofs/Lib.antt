@@ -4,3 +4,4 @@ pub mod Records
 pub mod Keeping
 pub mod Filling
 pub mod OneOutcome
+pub mod Promise

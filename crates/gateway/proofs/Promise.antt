@@ -1,0 +1,273 @@
+-- The whole promise, shown: each call has exactly one outcome, what a call on a record leaves is as the page says, and the promises of the layers below.
+-- Assumes nothing.
+use Prim.Native.Nat.{ℕ, _+_, _-_, _≤_}
+use mathlib.Core.Path.{_≡_, refl, sym, ap, ap₂, _∙_, subst}
+use mathlib.Core.Logic.{_⊎_, inl, inr}
+use mathlib.Core.List.{List, [], _∷_, _++_}
+use mathlib.Core.Bool.{Bool, true, false, cond, not, _&&_}
+use mathlib.Core.Option.{Option, none, some, Option·some-injective, Option·none-ne-some}
+use native.Mathlib.Omega.{arith}
+use borrow.Author.Tests.{le-leb}
+use lib.Dec.{eqb}
+use lib.ListN.{length, getD, set, take, drop, replicate, length-append, length-replicate}
+use lib.Seq.{take-append-seam, drop-append-seam}
+use Rattle.frame.specs.Bytes.{Bytes, Byted, has, within}
+use Rattle.frame.specs.Frame.{fixt, front, Good}
+use Rattle.frame.specs.Line.{line, fitting, put, dropped}
+use Rattle.frame.specs.Stream.{Frames, joined}
+use Rattle.frame.specs.Promise.{ExactlyOne}
+use Rattle.frame.proofs.Tests.{both}
+use Rattle.frame.proofs.Numerals.{within-is}
+use Rattle.frame.proofs.Promise.{fixt-promise, fixt-numbers}
+use Rattle.frame.proofs.Readable.{good?}
+use Rattle.fields.proofs.Promise as Fields
+use Rattle.dictionary.proofs.Promise as Dictionary
+use Rattle.writer.specs.Call as Written
+use Rattle.writer.specs.Promise.{MessageOf, CallPromise}
+use Rattle.writer.specs.declared.Written.{Written}
+use Rattle.writer.specs.declared.Written.the-variants.{Message, Unfit, Short}
+use Rattle.writer.proofs.Promise as Writer
+use Rattle.writer.proofs.Joined.{joined-frames}
+use Rattle.session.specs.Words.{if_then_else_}
+use Rattle.session.specs.Session.{Session, code, No, numbers, compID, inRange, fresh, turned}
+use Rattle.session.specs.Held.{held, padded, sessionOf, recordOf, with}
+use Rattle.session.specs.Calls.{Outcome, keeping, refusing, tick, logout, test-request, new, reconnect, Call, call, Step, Tick, OurLogout, OurTestRequest, Reconnect}
+use Rattle.session.specs.Promise.{Kept, WholeReply, OfBytes, lent}
+use Rattle.session.specs.declared.Record.{Record}
+use Rattle.session.specs.declared.Answer.{Answer}
+use Rattle.session.specs.declared.Answer.the-variants as Answer
+use Rattle.session.specs.declared.Refusal.{Refusal}
+use Rattle.session.specs.declared.Refusal.the-variants.{SessionClosed, NotLogon, BadLogon, NumbersSpent, BufferShort, TimePast, BadValue, NotOneFrame, BadRecord}
+use Rattle.session.specs.declared.Status.the-variants.{Closed}
+use Rattle.session.proofs.Promise as Session
+use Rattle.gateway.specs.Numbers.{refusalOf, valueOf}
+use Rattle.gateway.specs.Border.{readNumber, readWords, ReadOut, PutOut, DropOut, BodyOut, its-body, no-frame, FieldOut, FirstOut, VerdictOut}
+use Rattle.gateway.specs.Record.{compIDsOf, wordsOf, saved, recordIn}
+use Rattle.gateway.specs.Calls.{Left, LeftByReconnect, LeftByNew, LeftByWrite, leftBy, unread, replyLength, replyFrom, stepFrom, stepOut, tickOut, logoutOut, testRequestOut, reconnectFrom, reconnectOut, newFrom, newIf, newOut, valuesOf, writeOut, WriteOut}
+use Rattle.gateway.specs.Promise.{Answers, Ranged, Refused, Replied, Leaves, outLength, Lasts, Promise}
+use Rattle.gateway.proofs.OneOutcome.{read-one, body-one, field-one, first-one, verdict-one, put-one, drop-one}
+use Rattle.gateway.proofs.Keeping.{loaded-saves, saved-loads, closed-words, held-bytes, new-loads}
+
+-- ANSWERS
+-- what is a function of its input
+exactly : {A : Type 0} (x : A) → ExactlyOne (λ (o : A). o ≡ x)
+exactly x = record { it = x; is = refl; same = λ a b p q. p ∙ sym q }
+
+pair : {A B : Type 0} {a a′ : A} {b b′ : B} → (a ≡ a′) × (b ≡ b′) → _≡_ {A = A × B} (a, b) (a′, b′)
+pair e = ap₂ (λ x y. (x, y)) (e .0) (e .1)
+
+body-is : (frame : Bytes) → (o : ℕ × List ℕ) × BodyOut frame (o .0) (o .1)
+body-is frame = go (good? fixt frame)
+  where
+    go : Dec (Good fixt frame) → (o : ℕ × List ℕ) × BodyOut frame (o .0) (o .1)
+    go (yes G) = ((0, length (front fixt (G .digits) []) ∷ length (G .body) ∷ []), its-body G)
+    go (no h) = ((10, 0 ∷ 0 ∷ []), no-frame h)
+
+answers : Answers
+unfolding put
+answers =
+    record {
+      read = λ s.
+          let E = fixt-promise .one-reading s in
+          record { it = (readNumber (E .it), readWords (E .it)); is = record { answer = E .it; reads = E .is; number = refl; words = refl }; same = λ a b A B. pair (read-one s A B) };
+      body = λ f. let E = body-is f in record { it = E .0; is = E .1; same = λ a b A B. pair (body-one f A B) };
+      field = λ b at. record { it = (_, _); is = record { number = refl; words = refl }; same = λ o u A B. pair (field-one b at A B) };
+      first-field = λ b t. record { it = (_, _); is = record { number = refl; words = refl }; same = λ o u A B. pair (first-one b t A B) };
+      verdict = λ b. record { it = (_, _); is = record { number = refl; words = refl }; same = λ o u A B. pair (verdict-one b A B) };
+      put = λ buf held x. record { it = (fitting (line buf held) x, put (line buf held) x .buffer); is = refl; same = λ o u A B. pair (put-one buf held x A B) };
+      drop = λ buf held n. record { it = (dropped (line buf held) n .held, dropped (line buf held) n .buffer); is = refl; same = λ o u A B. pair (drop-one buf held n A B) };
+      write = λ type values text buf. exactly (writeOut type values text buf);
+      new = λ ids words us them. exactly (newOut ids words us them);
+      reconnect = λ ids words. exactly (reconnectOut ids words);
+      step = λ ids words f t buf. exactly (stepOut ids words f t buf);
+      tick = λ ids words t buf. exactly (tickOut ids words t buf);
+      logout = λ ids words t buf. exactly (logoutOut ids words t buf);
+      test-request = λ ids words id t buf. exactly (testRequestOut ids words id t buf);
+    }
+
+-- WHAT A CALL ON A RECORD LEAVES
+-- a table's row at the border: nothing of the words is changed, or the status alone
+module _ (ids : Bytes) (words : List ℕ) (r : Record) (lies : recordIn ids words ≡ some r) where
+  refused-words : (k : Refusal) → let w = saved words (with r (refusing k (sessionOf r) [] .session)) in (w ≡ words) ⊎ ((within 3 5 (No k) ≡ true) × (w ≡ set words 1 (code Closed)))
+  refused-words SessionClosed = inl (loaded-saves ids words r lies)
+  refused-words NotLogon = inr (refl, closed-words ids words r lies)
+  refused-words BadLogon = inr (refl, closed-words ids words r lies)
+  refused-words NumbersSpent = inr (refl, closed-words ids words r lies)
+  refused-words BufferShort = inl (loaded-saves ids words r lies)
+  refused-words TimePast = inl (loaded-saves ids words r lies)
+  refused-words BadValue = inl (loaded-saves ids words r lies)
+  refused-words NotOneFrame = inl (loaded-saves ids words r lies)
+  refused-words BadRecord = inl (loaded-saves ids words r lies)
+
+  -- a call that leaves the outcome o of the session that lies there
+  module _ (buf : Bytes) (o : Outcome) (kept : Kept o (sessionOf r) buf) where
+    left-refused : (out : List ℕ) → let z = leftBy words r o out in (z .number ≡ 0 → ⊥) → Refused words buf (z .number) (z .words) (z .buffer)
+    left-refused out = go (o .answer) refl
+      where
+        go : (a : Answer) → o .answer ≡ a → (refusalOf (numbers (o .answer)) ≡ 0 → ⊥) → Refused words buf (refusalOf (numbers (o .answer))) (saved words (with r (o .session))) (o .buffer)
+        go Answer.Done e h = absurd (h (ap (λ (x : Answer). refusalOf (numbers x)) e))
+        go Answer.Delivered e h = absurd (h (ap (λ (x : Answer). refusalOf (numbers x)) e))
+        go Answer.NothingDue e h = absurd (h (ap (λ (x : Answer). refusalOf (numbers x)) e))
+        go (Answer.Refused k) e h =
+            let q = kept .refused k e in
+            subst (λ (y : Outcome). Refused words buf (refusalOf (numbers (y .answer))) (saved words (with r (y .session))) (y .buffer)) (sym q)
+            (record { buffer = refl; session = refused-words k })
+
+    -- its record is the session that the call left
+    same-session : sessionOf (with r (o .session)) ≡ o .session
+    same-session = ap₂ (λ (us them : Bytes). record { ours = us; peers = them; status = o .session .status; E = o .session .E; next = o .session .next; heartbeat = o .session .heartbeat; sent = o .session .sent }) (sym (kept .ours)) (sym (kept .peers))
+
+    left-ranged : (inRange (sessionOf r) ≡ true → inRange (o .session) ≡ true) → Ranged ids words → Ranged ids (saved words (with r (o .session)))
+    left-ranged go R =
+        let same : R .its-record ≡ r = Option·some-injective (R .its-record) r (sym (R .lies) ∙ lies) in
+        record {
+          its-record = with r (o .session);
+          lies = saved-loads ids words r (o .session) lies;
+          ranged = ap inRange same-session ∙ go (sym (ap (λ (x : Record). inRange (sessionOf x)) same) ∙ R .ranged);
+        }
+
+    left-replied : WholeReply (o .reply) → Replied buf (replyLength o) (o .buffer)
+    left-replied W =
+        let f : take (length (joined (o .reply))) (o .buffer) ≡ joined (o .reply) = ap (take (length (joined (o .reply)))) (kept .behind) ∙ take-append-seam (joined (o .reply)) (drop (length (joined (o .reply))) buf) in
+        record {
+          messages = o .reply;
+          whole = W .whole;
+          front = f;
+          read = subst (λ (b : Bytes). Frames fixt b (o .reply)) (sym f) (W .read);
+          behind = ap (drop (length (joined (o .reply)))) (kept .behind) ∙ drop-append-seam (joined (o .reply)) (drop (length (joined (o .reply))) buf);
+        }
+
+    left-by : (out : List ℕ) → outLength out ≡ replyLength o → (inRange (sessionOf r) ≡ true → inRange (o .session) ≡ true) → (Byted ids → WholeReply (o .reply)) → Leaves ids words buf (outLength out) (leftBy words r o out)
+    left-by out e go W =
+        record { refused = left-refused out; ranged = left-ranged go; replied = λ B. subst (λ (n : ℕ). Replied buf n (o .buffer)) (sym e) (left-replied (W B)) }
+
+-- where no record lies there: refusal 11, and all as it was
+left-unread : (ids : Bytes) (words : List ℕ) (buf : Bytes) (out : List ℕ) → recordIn ids words ≡ none → outLength out ≡ 0 → Leaves ids words buf (outLength out) (unread words out buf)
+left-unread ids words buf out e z =
+    record {
+      refused = λ h. record { buffer = refl; session = inl refl };
+      ranged = λ R. R;
+      replied = λ B. subst (λ (n : ℕ). Replied buf n buf) (sym z) (record { messages = []; whole = tt; front = refl; read = joined-frames [] tt; behind = refl });
+    }
+
+module _ (ids : Bytes) (words : List ℕ) (r : Record) (lies : recordIn ids words ≡ some r) (c : Call) (B : OfBytes (c ∷ [])) where
+  call-ranged : inRange (sessionOf r) ≡ true → inRange (call (sessionOf r) c .session) ≡ true
+  call-ranged h = Session.promise .ranges (sessionOf r) (c ∷ []) B h .0 .ranged
+
+  left-call : (out : List ℕ) → outLength out ≡ replyLength (call (sessionOf r) c) → Leaves ids words (lent c) (outLength out) (leftBy words r (call (sessionOf r) c) out)
+  left-call out e =
+      left-by ids words r lies (lent c) (call (sessionOf r) c) (Session.promise .buffers (sessionOf r) c) out e call-ranged
+      (λ Bi. let h = held-bytes ids words r lies Bi in Session.promise .replies (sessionOf r) c B (h .0) (h .1))
+
+-- a new record
+module _ (us them : Bytes) (a : compID us ≡ true) (b : compID them ≡ true) where
+  short : (c : Bytes) → compID c ≡ true → length c ≤ 11
+  unfolding compID
+  short c k = within-is 1 11 (length c) (both (within 1 11 (length c)) (not (has c 1)) k .0) .1
+
+  padded-long : (c : Bytes) → length c ≤ 11 → length (padded c) ≡ 11
+  padded-long c h = let n = length-append c (replicate (11 - length c) 0) in let z = length-replicate {A = ℕ} (11 - length c) 0 in omega (arith, n, z)
+
+  held-padded : (c : Bytes) → length c ≤ 11 → held (length c) (padded c) ≡ c
+  held-padded c h = ap (λ (x : Bool). cond x (take (length c) (padded c)) []) (le-leb (length c) 11 h) ∙ take-append-seam c (replicate (11 - length c) 0)
+
+  fresh-ranged : inRange (fresh us them) ≡ true → Ranged (compIDsOf (recordOf (fresh us them))) (wordsOf (recordOf (fresh us them)))
+  fresh-ranged h =
+      record {
+        its-record = recordOf (fresh us them);
+        lies = new-loads (recordOf (fresh us them)) (padded-long us (short us a)) (padded-long them (short them b));
+        ranged = ap₂ (λ (x y : Bytes). inRange (fresh x y)) (held-padded us (short us a)) (held-padded them (short them b)) ∙ h;
+      }
+
+new-lasts : (ids : Bytes) (words : List ℕ) (us them : Bytes) → (let o = newOut ids words us them in o .number ≡ 0 → Ranged (o .ids) (o .words))
+unfolding newOut new
+new-lasts ids words us them = go (eqb (length words) 24)
+  where
+    by : (x y : Bool) → compID us ≡ x → compID them ≡ y → (let o = newFrom (if x && y then keeping Answer.Done (fresh us them) [] else keeping (Answer.Refused BadRecord) (turned Closed (fresh [] [])) []) in o .number ≡ 0 → Ranged (o .ids) (o .words))
+    by true true p q h = fresh-ranged us them p q (rw (p, q) at (Session.promise .new-ranged us them) (rw (p, q)))
+    by true false p q h = absurd (omega (arith, h))
+    by false true p q h = absurd (omega (arith, h))
+    by false false p q h = absurd (omega (arith, h))
+    go : (l : Bool) → (let o = newIf ids words us them l in o .number ≡ 0 → Ranged (o .ids) (o .words))
+    go true h = by (compID us) (compID them) refl refl h
+    go false h = absurd (omega (arith, h))
+
+reconnect-done : (s : Session) → inRange s ≡ true → refusalOf (numbers (reconnect s .answer)) ≡ 0
+unfolding reconnect
+reconnect-done s e = rw e
+
+reconnect-lasts : (ids : Bytes) (words : List ℕ) → Ranged ids words → (let o = reconnectOut ids words in (o .number ≡ 0) × Ranged ids (o .words))
+unfolding reconnectOut
+reconnect-lasts ids words R = go (recordIn ids words) refl
+  where
+    go : (x : Option Record) → recordIn ids words ≡ x → (let o = reconnectFrom words x in (o .number ≡ 0) × Ranged ids (o .words))
+    go none e = absurd (Option·none-ne-some (R .its-record) (sym e ∙ R .lies))
+    go (some r) e =
+        let same : R .its-record ≡ r = Option·some-injective (R .its-record) r (sym (R .lies) ∙ e) in
+        (reconnect-done (sessionOf r) (sym (ap (λ (x : Record). inRange (sessionOf x)) same) ∙ R .ranged), left-ranged ids words r e [] (reconnect (sessionOf r)) (Session.promise .buffers (sessionOf r) Reconnect) (call-ranged ids words r e Reconnect tt) R)
+
+lasts : Lasts
+unfolding stepOut tickOut logoutOut testRequestOut
+lasts =
+    record {
+      step = λ ids words f t buf o B so. subst (λ (z : Left). Leaves ids words buf (outLength (z .out)) z) (sym so) (stepped ids words f t buf B (recordIn ids words) refl);
+      tick = λ ids words t buf o so. subst (λ (z : Left). Leaves ids words buf (outLength (z .out)) z) (sym so) (replying ids words buf (λ r. tick (sessionOf r) t buf) (λ r e. left-call ids words r e (Tick t buf) tt _ refl) (recordIn ids words) refl);
+      logout = λ ids words t buf o so. subst (λ (z : Left). Leaves ids words buf (outLength (z .out)) z) (sym so) (replying ids words buf (λ r. logout (sessionOf r) t buf) (λ r e. left-call ids words r e (OurLogout t buf) tt _ refl) (recordIn ids words) refl);
+      test-request = λ ids words id t buf o B so. subst (λ (z : Left). Leaves ids words buf (outLength (z .out)) z) (sym so) (replying ids words buf (λ r. test-request (sessionOf r) id t buf) (λ r e. left-call ids words r e (OurTestRequest id t buf) (B, tt) _ refl) (recordIn ids words) refl);
+      reconnect = λ ids words o so R. subst (λ (z : LeftByReconnect). (z .number ≡ 0) × Ranged ids (z .words)) (sym so) (reconnect-lasts ids words R);
+      new = λ ids words us them o so. subst (λ (z : LeftByNew). z .number ≡ 0 → Ranged (z .ids) (z .words)) (sym so) (new-lasts ids words us them);
+    }
+  where
+    stepped : (ids : Bytes) (words : List ℕ) (f : Bytes) (t : ℕ) (buf : Bytes) → Byted f → (x : Option Record) → recordIn ids words ≡ x → let z = stepFrom words f t buf x in Leaves ids words buf (outLength (z .out)) z
+    stepped ids words f t buf B none e = left-unread ids words buf (0 ∷ 0 ∷ []) e refl
+    stepped ids words f t buf B (some r) e = left-call ids words r e (Step f t buf) (B, tt) _ refl
+    replying : (ids : Bytes) (words : List ℕ) (buf : Bytes) (does : Record → Outcome) → ((r : Record) → recordIn ids words ≡ some r → Leaves ids words buf (replyLength (does r)) (leftBy words r (does r) (replyLength (does r) ∷ []))) → (x : Option Record) → recordIn ids words ≡ x → let z = replyFrom words buf does x in Leaves ids words buf (outLength (z .out)) z
+    replying ids words buf does h none e = left-unread ids words buf (0 ∷ []) e refl
+    replying ids words buf does h (some r) e = h r e
+
+-- WRITING
+module _ (type : Bytes) (values : List ℕ) (text buf : Bytes) (B : Byted text) where
+  abbrev its : Written.Outcome
+  its = Written.write type (valuesOf values) text buf
+
+  call-is : CallPromise type (valuesOf values) text buf (its .answer) (its .buffer)
+  call-is = Writer.promise .call type (valuesOf values) text buf (its .answer) (its .buffer) B refl
+
+  written : (n : ℕ) (buf′ : Bytes) → WriteOut type values text buf 0 (n ∷ []) buf′ → MessageOf type (valuesOf values) text buf buf′ n
+  unfolding writeOut
+  written n buf′ W =
+      let e = ap (λ (x : LeftByWrite). x .number) W in
+      let v = ap (λ (x : LeftByWrite). getD (x .out) 0 0) W in
+      subst (λ (b : Bytes). MessageOf type (valuesOf values) text buf b n) (sym (ap (λ (x : LeftByWrite). x .buffer) W)) (call-is .a-length n (go (its .answer) (sym e) (sym v)))
+    where
+      go : (a : Written) → refusalOf (Written.numbers a) ≡ 0 → valueOf (Written.numbers a) ≡ n → Written.numbers a ≡ (none, n ∷ [])
+      go (Message len) e v = ap (λ (k : ℕ). (none, k ∷ [])) v
+      go Unfit e v = absurd (omega (arith, e))
+      go Short e v = absurd (omega (arith, e))
+
+  unwritten : (r : ℕ) (out : List ℕ) (buf′ : Bytes) → WriteOut type values text buf r out buf′ → (r ≡ 0 → ⊥) → ((r ≡ 8) ⊎ (r ≡ 9)) × (buf′ ≡ buf)
+  unfolding writeOut
+  unwritten r out buf′ W h =
+      let e = ap (λ (x : LeftByWrite). x .number) W in
+      let p = call-is .a-refusal r (go (its .answer) (sym e)) in
+      (p .0, ap (λ (x : LeftByWrite). x .buffer) W ∙ p .1)
+    where
+      go : (a : Written) → refusalOf (Written.numbers a) ≡ r → Written.numbers a .0 ≡ some r
+      go (Message len) e = absurd (h (sym e))
+      go Unfit e = ap some e
+      go Short e = ap some e
+
+pub promise : Promise
+promise =
+    record {
+      answers = answers;
+      lasts = lasts;
+      written = λ type values text buf n buf′ B W. written type values text buf B n buf′ W;
+      unwritten = λ type values text buf r out buf′ B W h. unwritten type values text buf B r out buf′ W h;
+      frames = fixt-promise;
+      sizes = fixt-numbers;
+      fields = Fields.promise;
+      verdicts = Dictionary.promise;
+      writing = Writer.promise;
+      session = Session.promise;
+    }

@@ -1,0 +1,102 @@
+-- The whole promise on one page: what a host that calls this library may rely on, in the words of documents 01 and of the three demands.
+-- Shown once, by `promise` in proofs/Promise.antt. What each call does is its relation (Border.antt, Calls.antt), which is its whole contract.
+use Prim.Native.Nat.{ℕ, _+_, _≤_}
+use mathlib.Core.Path.{_≡_}
+use mathlib.Core.Logic.{_⊎_}
+use mathlib.Core.List.{List, [], _∷_}
+use mathlib.Core.Option.{some}
+use mathlib.Core.Bool.{true}
+use lib.ListN.{length, set, take, drop}
+use Rattle.frame.specs.Bytes.{Bytes, Byted, within}
+use Rattle.frame.specs.Frame.{fixt}
+use Rattle.frame.specs.Stream.{Frames, joined}
+use Rattle.frame.specs.Promise as Frame
+use Rattle.frame.specs.Promise.{ExactlyOne}
+use Rattle.fields.specs.Promise as Fields
+use Rattle.dictionary.specs.Promise as Dictionary
+use Rattle.writer.specs.Promise as Writer
+use Rattle.session.specs.Session.{code, inRange}
+use Rattle.session.specs.Held.{sessionOf}
+use Rattle.session.specs.Promise as Session
+use Rattle.session.specs.declared.Record.{Record}
+use Rattle.session.specs.declared.Status.the-variants.{Closed}
+use Rattle.gateway.specs.Border.{ReadOut, PutOut, DropOut, BodyOut, FieldOut, FirstOut, VerdictOut}
+use Rattle.gateway.specs.Record.{recordIn}
+use Rattle.gateway.specs.Calls.{Left, LeftByNew, LeftByReconnect, LeftByWrite, valuesOf, WriteOut, NewOut, ReconnectOut, StepOut, TickOut, LogoutOut, TestRequestOut}
+
+-- ANSWERS. "Whatever bytes, numbers or session record a call is given, it ends, stays inside its memory and answers." That a call ends and stays inside
+-- its memory is proved with its code, of which nothing is asked; its answer, and all that it leaves, is exactly one.
+pub record Answers : Type 0 where
+  pub read : (bytes : Bytes) → ExactlyOne (λ (o : ℕ × List ℕ). ReadOut bytes (o .0) (o .1))
+  pub body : (frame : Bytes) → ExactlyOne (λ (o : ℕ × List ℕ). BodyOut frame (o .0) (o .1))
+  pub field : (body : Bytes) (at : ℕ) → ExactlyOne (λ (o : ℕ × List ℕ). FieldOut body at (o .0) (o .1))
+  pub first-field : (body : Bytes) (tag : ℕ) → ExactlyOne (λ (o : ℕ × List ℕ). FirstOut body tag (o .0) (o .1))
+  pub verdict : (body : Bytes) → ExactlyOne (λ (o : ℕ × List ℕ). VerdictOut body (o .0) (o .1))
+  pub put : (buf : Bytes) (held : ℕ) (piece : Bytes) → ExactlyOne (λ (o : ℕ × Bytes). PutOut buf held piece (o .0) (o .1))
+  pub drop : (buf : Bytes) (held n : ℕ) → ExactlyOne (λ (o : ℕ × Bytes). DropOut buf held n (o .0) (o .1))
+  pub write : (type : Bytes) (values : List ℕ) (text buf : Bytes) → ExactlyOne (λ (o : LeftByWrite). WriteOut type values text buf (o .number) (o .out) (o .buffer))
+  pub new : (ids : Bytes) (words : List ℕ) (us them : Bytes) → ExactlyOne (λ (o : LeftByNew). NewOut ids words us them (o .number) (o .ids) (o .words))
+  pub reconnect : (ids : Bytes) (words : List ℕ) → ExactlyOne (λ (o : LeftByReconnect). ReconnectOut ids words (o .number) (o .words))
+  pub step : (ids : Bytes) (words : List ℕ) (frame : Bytes) (time : ℕ) (buf : Bytes) → ExactlyOne (λ (o : Left). StepOut ids words frame time buf (o .number) (o .words) (o .out) (o .buffer))
+  pub tick : (ids : Bytes) (words : List ℕ) (time : ℕ) (buf : Bytes) → ExactlyOne (λ (o : Left). TickOut ids words time buf (o .number) (o .words) (o .out) (o .buffer))
+  pub logout : (ids : Bytes) (words : List ℕ) (time : ℕ) (buf : Bytes) → ExactlyOne (λ (o : Left). LogoutOut ids words time buf (o .number) (o .words) (o .out) (o .buffer))
+  pub test-request : (ids : Bytes) (words : List ℕ) (id : Bytes) (time : ℕ) (buf : Bytes) → ExactlyOne (λ (o : Left). TestRequestOut ids words id time buf (o .number) (o .words) (o .out) (o .buffer))
+
+-- WHAT A CALL ON A RECORD LEAVES, whichever of the four that write it is: step, tick, and the venue's own Logout and Test Request
+-- a record in its ranges lies in the bytes and words
+pub record Ranged (ids : Bytes) (words : List ℕ) : Type 0 where
+  pub its-record : Record
+  pub lies : recordIn ids words ≡ some its-record
+  pub ranged : inRange (sessionOf its-record) ≡ true
+
+-- "A refusal keeps every old byte of the reply buffer and changes the session only where the table says": not at all, or it is Closed, under 3, 4 and 5
+pub record Refused (words : List ℕ) (buf : Bytes) (number : ℕ) (words′ : List ℕ) (buf′ : Bytes) : Type 0 where
+  pub buffer : buf′ ≡ buf
+  pub session : (words′ ≡ words) ⊎ ((within 3 5 number ≡ true) × (words′ ≡ set words 1 (code Closed)))
+
+-- the reply: messages one behind the other at the front of the buffer, each "a good frame and reads as the values it was written from"; a member who reads
+-- its n bytes gets just these messages. "Behind a reply .. the buffer keeps its old bytes."
+pub record Replied (buf : Bytes) (n : ℕ) (buf′ : Bytes) : Type 0 where
+  pub messages : List Bytes
+  pub whole : Session.AllWhole messages
+  pub front : take n buf′ ≡ joined messages
+  pub read : Frames fixt (take n buf′) messages
+  pub behind : drop n buf′ ≡ drop n buf
+
+-- what is left by a call with n bytes of reply
+pub record Leaves (ids : Bytes) (words : List ℕ) (buf : Bytes) (n : ℕ) (o : Left) : Type 0 where
+  pub refused : (o .number ≡ 0 → ⊥) → Refused words buf (o .number) (o .words) (o .buffer)
+  -- the next call finds a record in its ranges, if this one did
+  pub ranged : Ranged ids words → Ranged ids (o .words)
+  pub replied : Byted ids → Replied buf n (o .buffer)
+
+-- the reply's length among the out words
+abbrev pub outLength : List ℕ → ℕ
+outLength [] = 0
+outLength (n ∷ []) = n
+outLength (d ∷ n ∷ out) = n
+
+pub record Lasts : Type 0 where
+  pub step : (ids : Bytes) (words : List ℕ) (frame : Bytes) (time : ℕ) (buf : Bytes) (o : Left) → Byted frame → StepOut ids words frame time buf (o .number) (o .words) (o .out) (o .buffer) → Leaves ids words buf (outLength (o .out)) o
+  pub tick : (ids : Bytes) (words : List ℕ) (time : ℕ) (buf : Bytes) (o : Left) → TickOut ids words time buf (o .number) (o .words) (o .out) (o .buffer) → Leaves ids words buf (outLength (o .out)) o
+  pub logout : (ids : Bytes) (words : List ℕ) (time : ℕ) (buf : Bytes) (o : Left) → LogoutOut ids words time buf (o .number) (o .words) (o .out) (o .buffer) → Leaves ids words buf (outLength (o .out)) o
+  pub test-request : (ids : Bytes) (words : List ℕ) (id : Bytes) (time : ℕ) (buf : Bytes) (o : Left) → Byted id → TestRequestOut ids words id time buf (o .number) (o .words) (o .out) (o .buffer) → Leaves ids words buf (outLength (o .out)) o
+  pub reconnect : (ids : Bytes) (words : List ℕ) (o : LeftByReconnect) → ReconnectOut ids words (o .number) (o .words) → Ranged ids words → (o .number ≡ 0) × Ranged ids (o .words)
+  pub new : (ids : Bytes) (words : List ℕ) (us them : Bytes) (o : LeftByNew) → NewOut ids words us them (o .number) (o .ids) (o .words) → o .number ≡ 0 → Ranged (o .ids) (o .words)
+
+pub record Promise : Type 0 where
+  pub answers : Answers
+  pub lasts : Lasts
+  -- "A written message is a good frame and reads as the values it was written from": what fixgw_write leaves with n bytes
+  pub written : (type : Bytes) (values : List ℕ) (text buf : Bytes) (n : ℕ) (buf′ : Bytes) → Byted text → WriteOut type values text buf 0 (n ∷ []) buf′ → Writer.MessageOf type (valuesOf values) text buf buf′ n
+  pub unwritten : (type : Bytes) (values : List ℕ) (text buf : Bytes) (r : ℕ) (out : List ℕ) (buf′ : Bytes) → Byted text → WriteOut type values text buf r out buf′ → (r ≡ 0 → ⊥) → ((r ≡ 8) ⊎ (r ≡ 9)) × (buf′ ≡ buf)
+  -- "Any bytes, one good frame, any bytes ..", "However the stream is cut ..", the longest frame, the pending rest
+  pub frames : Frame.Promise fixt
+  pub sizes : Frame.FixtNumbers
+  -- the parts of a body, its first fields, the reader over it
+  pub fields : Fields.Promise
+  -- what a clean verdict says of a body, and which findings there are
+  pub verdicts : Dictionary.Promise
+  pub writing : Writer.Promise
+  -- the delivered frame, the four slips, ranges over every run of calls, W1 to W12
+  pub session : Session.Promise
