@@ -188,6 +188,7 @@ new-lasts ids words us them = go (eqb (length words) 24)
     by true false p q h = absurd (omega (arith, h))
     by false true p q h = absurd (omega (arith, h))
     by false false p q h = absurd (omega (arith, h))
+
     go : (l : Bool) → (let o = newIf ids words us them l in o .number ≡ 0 → Ranged (o .ids) (o .words))
     go true h = by (compID us) (compID them) refl refl h
     go false h = absurd (omega (arith, h))
@@ -221,6 +222,7 @@ lasts =
     stepped : (ids : Bytes) (words : List ℕ) (f : Bytes) (t : ℕ) (buf : Bytes) → Byted f → (x : Option Record) → recordIn ids words ≡ x → let z = stepFrom words f t buf x in Leaves ids words buf (outLength (z .out)) z
     stepped ids words f t buf B none e = left-unread ids words buf (0 ∷ 0 ∷ []) e refl
     stepped ids words f t buf B (some r) e = left-call ids words r e (Step f t buf) (B, tt) _ refl
+
     replying : (ids : Bytes) (words : List ℕ) (buf : Bytes) (does : Record → Outcome) → ((r : Record) → recordIn ids words ≡ some r → Leaves ids words buf (replyLength (does r)) (leftBy words r (does r) (replyLength (does r) ∷ []))) → (x : Option Record) → recordIn ids words ≡ x → let z = replyFrom words buf does x in Leaves ids words buf (outLength (z .out)) z
     replying ids words buf does h none e = left-unread ids words buf (0 ∷ []) e refl
     replying ids words buf does h (some r) e = h r e
