@@ -88,12 +88,13 @@ none-missing : (rows : List Row) (met : List ℕ) (t : ℕ) → required rows t 
 none-missing [] met t r h = absurd (false≢true r)
 none-missing (x ∷ rows) met t r h = go (x .required) (eqb (x .tag) t) (has met (x .tag)) refl refl r h (none-missing rows met t)
   where
-    go : (q b c : Bool) → eqb (x .tag) t ≡ b → has met (x .tag) ≡ c → ((q && b) || required rows t) ≡ true → cond (q && not c) (Reason 1 (x .tag)) (missing rows met) ≡ Nothing
+    go : (q b c : Bool) → eqb (x .tag) t ≡ b → has met (x .tag) ≡ c → ((b && q) || required rows t) ≡ true → cond (q && not c) (Reason 1 (x .tag)) (missing rows met) ≡ Nothing
         → (required rows t ≡ true → missing rows met ≡ Nothing → has met t ≡ true) → has met t ≡ true
     go true b false p s k e ih = let z : _≡_ {A = ℕ} 0 1 = cc in absurd (omega arith)
     go true true true p s k e ih = ap (has met) (sym (eqb-true (x .tag) t p)) ∙ s
     go true false true p s k e ih = ih k e
-    go false b c p s k e ih = ih k e
+    go false true c p s k e ih = ih k e
+    go false false c p s k e ih = ih k e
 
 none-some : (v : Bytes) → _≡_ {A = Option Bytes} none (some v) → ⊥
 none-some v e = let z : _≡_ {A = ℕ} 0 1 = cc in omega arith
@@ -204,10 +205,11 @@ required-tag : (rows : List Row) (t : ℕ) → all tagged-row rows ≡ true → 
 required-tag [] t h k = absurd (false≢true k)
 required-tag (r ∷ rows) t h k = let w = both (tagged-row r) (all tagged-row rows) h in go (r .required) (eqb (r .tag) t) refl k (w .0) (required-tag rows t (w .1))
   where
-    go : (q b : Bool) → eqb (r .tag) t ≡ b → ((q && b) || required rows t) ≡ true → within 1 99_999 (r .tag) ≡ true → (required rows t ≡ true → within 1 99_999 t ≡ true) → within 1 99_999 t ≡ true
+    go : (q b : Bool) → eqb (r .tag) t ≡ b → ((b && q) || required rows t) ≡ true → within 1 99_999 (r .tag) ≡ true → (required rows t ≡ true → within 1 99_999 t ≡ true) → within 1 99_999 t ≡ true
     go true true e k l f = ap (within 1 99_999) (sym (eqb-true (r .tag) t e)) ∙ l
     go true false e k l f = f k
-    go false b e k l f = f k
+    go false true e k l f = f k
+    go false false e k l f = f k
 
 rows-tagged : all (λ (m : MsgType). all tagged-row (header ++ fields m)) theNine ≡ true
 unfolding header fields №453 №580

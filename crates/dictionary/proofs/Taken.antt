@@ -23,8 +23,8 @@ use Rattle.dictionary.specs.declared.Says.the-variants.{Nothing, Reason}
 use Rattle.dictionary.specs.declared.Verdict.the-variants.{Clean}
 
 -- the walk outside groups, with these tags met
-abbrev pub met : List ℕ → Past
-met seen = record { seen = seen; place = outside }
+abbrev pub at : List ℕ → Past
+at seen = record { seen = seen; place = outside }
 
 -- a field of which no rule speaks there
 pub record Taken (m : MsgType) (seen : List ℕ) (t : ℕ) (v : Bytes) : Type 0 where
@@ -46,26 +46,26 @@ part-written t v h =
 
 -- in an administrative message, which has no groups
 module _ (m : MsgType) (a : administrative m ≡ true) (g : groupsOf m ≡ []) (seen : List ℕ) where
-  said-nothing : (t : ℕ) (v : Bytes) → Taken m seen t v → said m (met seen) (field t v) ≡ Nothing
+  said-nothing : (t : ℕ) (v : Bytes) → Taken m seen t v → said m (at seen) (field t v) ≡ Nothing
   unfolding said rules4to10 left skipped rule1 rule2 rule3 rule4 rule5 rule6 rule7 rule8 rule9 rule10
   said-nothing t v T = rw (a, T .known, T .filled, T .no-member, T .fresh, T .own, T .in-header, T .of-kind .form, T .of-kind .value)
 
-  after-it : (t : ℕ) (v : Bytes) → inDictionary t ≡ true → after m (met seen) (field t v) ≡ met (t ∷ seen)
+  after-it : (t : ℕ) (v : Bytes) → inDictionary t ≡ true → after m (at seen) (field t v) ≡ at (t ∷ seen)
   unfolding after taken left skipped
   after-it t v k = rw (a, k, g)
 
   -- ONE FIELD FURTHER
-  pub walk-field : (t : ℕ) (v : Bytes) (ps : List Bytes) → Taken m seen t v → walk m (met seen) ((decimal t ++ (61 ∷ v)) ∷ ps) ≡ walk m (met (t ∷ seen)) ps
+  pub walk-field : (t : ℕ) (v : Bytes) (ps : List Bytes) → Taken m seen t v → walk m (at seen) ((decimal t ++ (61 ∷ v)) ∷ ps) ≡ walk m (at (t ∷ seen)) ps
   walk-field t v ps T = rw (part-written t v (T .tag), said-nothing t v T, after-it t v (T .known))
 
 -- THE END
-pub walk-over : (m : MsgType) (seen : List ℕ) → ((t : ℕ) → required (header ++ fields m) t ≡ true → has seen t ≡ true) → walk m (met seen) [] ≡ Clean
+pub walk-over : (m : MsgType) (seen : List ℕ) → ((t : ℕ) → required (header ++ fields m) t ≡ true → has seen t ≡ true) → walk m (at seen) [] ≡ Clean
 unfolding closing
 walk-over m seen f = rw (none-missing (header ++ fields m) f)
   where
     none-missing : (rows : List Row) → ((t : ℕ) → required rows t ≡ true → has seen t ≡ true) → missing rows seen ≡ Nothing
     none-missing [] f = refl
-    none-missing (r ∷ rs) f = go (r .required) refl (has seen (r .tag)) refl (none-missing rs (λ t h. f t (or-last (r .required && eqb (r .tag) t) _ h)))
+    none-missing (r ∷ rs) f = go (r .required) refl (has seen (r .tag)) refl (none-missing rs (λ t h. f t (or-last (eqb (r .tag) t && r .required) _ h)))
       where
         or-first : (b c d : Bool) → b ≡ true → c ≡ true → ((b && c) || d) ≡ true
         or-first true true d e k = refl
@@ -74,7 +74,7 @@ walk-over m seen f = rw (none-missing (header ++ fields m) f)
 
         go : (b : Bool) → r .required ≡ b → (c : Bool) → has seen (r .tag) ≡ c → missing rs seen ≡ Nothing → cond (b && not c) (Reason 1 (r .tag)) (missing rs seen) ≡ Nothing
         go true e true k h = h
-        go true e false k h = absurd (false≢true (sym k ∙ f (r .tag) (or-first _ _ _ e (eq-eqb (r .tag) (r .tag) refl))))
+        go true e false k h = absurd (false≢true (sym k ∙ f (r .tag) (or-first _ _ _ (eq-eqb (r .tag) (r .tag) refl) e)))
         go false e c k h = h
 
 -- THE VERDICT on a body of one of the nine types is the walk along its parts

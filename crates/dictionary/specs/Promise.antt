@@ -22,7 +22,7 @@ pub record OfKind (m : MsgType) (t : ℕ) (v : Bytes) : Type 0 where
 
 -- "Y required, N optional": t is a required tag of some rows
 abbrev pub required : List Row → ℕ → Bool
-required rows t = any (λ (r : Row). r .required && eqb (r .tag) t) rows
+required rows t = any (λ (r : Row). eqb (r .tag) t && r .required) rows
 
 -- A field that no rule spoke of. "tag not in the dictionary: skipped in an administrative message, 3 in AD and F"; "not for this message: 2";
 -- "empty value: 4"; and of its kind.

@@ -1,6 +1,6 @@
 -- What is promised of a body's fields, proved.
 use Prim.Native.Nat.{ℕ}
-use mathlib.Core.Path.{_≡_, refl, _∙_}
+use mathlib.Core.Path.{_≡_, refl}
 use mathlib.Core.Bool.{true, false}
 use lib.Dec.{leb}
 use Rattle.frame.specs.Bytes.{Bytes, within}

@@ -60,7 +60,7 @@ bytes-held n l B = go (leb n 11)
   where
     go : (b : Bool) → Byted (cond b (take n l) [])
     go true = bytes-take n l B
-    go false i = omega arith
+    go false = λ i. omega arith
 
 -- THE STATUS by its number
 pub its-status : (st : Status) → statusOf (code st) ≡ some st

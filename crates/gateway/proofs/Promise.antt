@@ -171,12 +171,16 @@ module _ (us them : Bytes) (a : compID us ≡ true) (b : compID them ≡ true) w
   held-padded : (c : Bytes) → length c ≤ 11 → held (length c) (padded c) ≡ c
   held-padded c h = ap (λ (x : Bool). cond x (take (length c) (padded c)) []) (le-leb (length c) 11 h) ∙ take-append-seam c (replicate (11 - length c) 0)
 
-  fresh-ranged : inRange (fresh us them) ≡ true → Ranged (compIDsOf (recordOf (fresh us them))) (wordsOf (recordOf (fresh us them)))
-  fresh-ranged h =
+  fresh-in : inRange (fresh us them) ≡ true
+  unfolding inRange
+  fresh-in = rw (a, b)
+
+  fresh-ranged : Ranged (compIDsOf (recordOf (fresh us them))) (wordsOf (recordOf (fresh us them)))
+  fresh-ranged =
       record {
         its-record = recordOf (fresh us them);
         lies = new-loads (recordOf (fresh us them)) (padded-long us (short us a)) (padded-long them (short them b));
-        ranged = ap₂ (λ (x y : Bytes). inRange (fresh x y)) (held-padded us (short us a)) (held-padded them (short them b)) ∙ h;
+        ranged = ap₂ (λ (x y : Bytes). inRange (fresh x y)) (held-padded us (short us a)) (held-padded them (short them b)) ∙ fresh-in;
       }
 
 new-lasts : (ids : Bytes) (words : List ℕ) (us them : Bytes) → (let o = newOut ids words us them in o .number ≡ 0 → Ranged (o .ids) (o .words))
@@ -184,7 +188,7 @@ unfolding newOut new
 new-lasts ids words us them = go (eqb (length words) 24)
   where
     by : (x y : Bool) → compID us ≡ x → compID them ≡ y → (let o = newFrom (if x && y then keeping Answer.Done (fresh us them) [] else keeping (Answer.Refused BadRecord) (turned Closed (fresh [] [])) []) in o .number ≡ 0 → Ranged (o .ids) (o .words))
-    by true true p q h = fresh-ranged us them p q (rw (p, q) at (Session.promise .new-ranged us them) (rw (p, q)))
+    by true true p q h = fresh-ranged us them p q
     by true false p q h = absurd (omega (arith, h))
     by false true p q h = absurd (omega (arith, h))
     by false false p q h = absurd (omega (arith, h))

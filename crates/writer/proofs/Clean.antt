@@ -3,55 +3,22 @@ use Prim.Native.Nat.{ℕ}
 use native.Mathlib.Omega.{arith}
 use mathlib.Core.Path.{_≡_, refl, sym, ap, _∙_}
 use mathlib.Core.List.{List, [], _∷_, _++_, append-nil}
-use mathlib.Core.Bool.{Bool, true, false, cond, not, _&&_, _||_, false≢true}
+use mathlib.Core.Bool.{Bool, true, false, not, _&&_, _||_, false≢true}
 use mathlib.Core.Option.{Option, none, some}
 use lib.Dec.{eqb}
 use borrow.Author.Tests.{eqb-true, eq-eqb, not-true}
-use Rattle.frame.specs.Bytes.{Bytes, any, all, has, within, decimal}
-use Rattle.frame.proofs.Numerals.{within-is}
-use Rattle.fields.specs.Field.{partOf, field}
+use Rattle.frame.specs.Bytes.{Bytes, any, all, has, within}
 use Rattle.frame.proofs.Tests.{both, neither, or-last}
-use Rattle.frame.proofs.Decimals.{decimal-numeral, decimal-worth}
-use Rattle.fields.proofs.Items.{field-part}
 use Rattle.dictionary.specs.declared.MsgType.{MsgType}
-use Rattle.dictionary.specs.declared.Says.the-variants.{Nothing, Reason}
 use Rattle.dictionary.specs.declared.Verdict.the-variants.{Clean}
 use Rattle.dictionary.specs.Dictionary.{Row, header, fields, administrative, listed, groupsOf, member, rowsOf, frameTag, inDictionary}
-use Rattle.dictionary.specs.Verdict.{Past, outside, nothingYet, said, after, taken, left, skipped, closing, missing, walk, rules4to10, rule1, rule2, rule3, rule4, rule5, rule6, rule7, rule8, rule9, rule10}
+use Rattle.dictionary.specs.Verdict.{nothingYet, walk}
+use Rattle.dictionary.proofs.Taken.{at, Taken, walk-field, walk-over}
 use Rattle.writer.specs.Message.{Value, _is_, shown, order, valued}
 use Rattle.writer.specs.Call.{required, unwritable, unfit}
 use Rattle.writer.proofs.Rows.{partsOf, withPart}
 use Rattle.writer.proofs.Accepted.{Accepted, accepted}
 use Rattle.writer.proofs.Seven.{inPlace, inOrder, needed, known}
-
--- the walk outside groups, with these tags met
-abbrev pub at : List ℕ → Past
-at seen = record { seen = seen; place = outside }
-
--- ONE FIELD that the walk takes
-pub record Taken (m : MsgType) (seen : List ℕ) (t : ℕ) (v : Bytes) : Type 0 where
-  pub tag : within 1 99_999 t ≡ true
-  pub known : inDictionary t ≡ true
-  pub fresh : (frameTag t || has seen t) ≡ false
-  pub no-member : member m t ≡ false
-  pub in-header : (listed header t && any (λ s. not (listed header s)) seen) ≡ false
-  pub value : Accepted m t v
-
-part-clean : (t : ℕ) (v : Bytes) → within 1 99_999 t ≡ true → partOf (decimal t ++ (61 ∷ v)) ≡ field t v
-part-clean t v h =
-    let w = within-is 1 99_999 t h in
-    let N = decimal-numeral 4 t (omega arith) (omega arith) in
-    field-part (decimal t) (N .whole) v N ∙ ap (λ (n : ℕ). field n v) (decimal-worth t)
-
-said-clean : (m : MsgType) → administrative m ≡ true → (seen : List ℕ) (t : ℕ) (v : Bytes) → Taken m seen t v → said m (at seen) (field t v) ≡ Nothing
-unfolding said rules4to10 left skipped rule1 rule2 rule3 rule4 rule5 rule6 rule7 rule8 rule9 rule10
-said-clean m a seen t v T =
-    rw (a, T .known, T .value .filled, T .no-member, T .fresh, T .value .own, T .in-header, T .value .form, T .value .right)
-
-after-clean : (m : MsgType) → administrative m ≡ true → groupsOf m ≡ [] → (seen : List ℕ) (t : ℕ) (v : Bytes) → inDictionary t ≡ true
-    → after m (at seen) (field t v) ≡ at (t ∷ seen)
-unfolding after taken left skipped
-after-clean m a g seen t v k = rw (a, k, g)
 
 -- THE WALK
 -- those of some tags that have a value
@@ -112,7 +79,9 @@ in-place m past seen t v h less A =
       fresh = rw (f .0) (less (λ y. eqb y t) (f .1));
       no-member = not-true _ (c .0);
       in-header = header-first (listed header t) (not-true _ (e .0));
-      value = A;
+      own = A .own;
+      filled = A .filled;
+      of-kind = record { form = A .form; value = A .right };
     }
   where
     header-first : (b : Bool) → (b && any (λ s. not (listed header s)) past) ≡ false → (b && any (λ s. not (listed header s)) seen) ≡ false
@@ -127,30 +96,15 @@ module _ (m : MsgType) (a : administrative m ≡ true) (vs : ℕ → Value) wher
   walk-clean (t ∷ ts) past h fine =
       go (shown (vs t)) (fine t (rw (eq-eqb t t refl))) (walk-clean ts (t ∷ past) (both (inPlace m past t) (inOrder m (t ∷ past) ts) h .1) (λ u k. fine u (or-last (eqb t u) (has ts u) k)))
     where
-      step : (v : Bytes) → Taken m (met vs past) t v → (ps : List Bytes) → walk m (at (met vs past)) ((decimal t ++ (61 ∷ v)) ∷ ps) ≡ walk m (at (t ∷ met vs past)) ps
-      step v T ps = rw (part-clean t v (T .tag), said-clean m a (met vs past) t v T, after-clean m a (known m a .no-groups) (met vs past) t v (T .known))
-
       go : (o : Option Bytes) → unwritable m t o ≡ false → walk m (at (meet t o (met vs past))) (partsOf (valued vs ts)) ≡ walk m (at (met vs (passed ts (t ∷ past)))) []
           → walk m (at (met vs past)) (withPart t o (partsOf (valued vs ts))) ≡ walk m (at (met vs (passed ts (t ∷ past)))) []
       go none u e = e
       go (some v) u e =
-          step v (in-place m past (met vs past) t v (both (inPlace m past t) (inOrder m (t ∷ past) ts) h .0) (λ p k. met-none p vs past k) (accepted m t v u)) (partsOf (valued vs ts)) ∙ e
+          walk-field m a (known m a .no-groups) (met vs past) t v (partsOf (valued vs ts))
+          (in-place m past (met vs past) t v (both (inPlace m past t) (inOrder m (t ∷ past) ts) h .0) (λ p k. met-none p vs past k) (accepted m t v u))
+          ∙ e
 
 -- NO REQUIRED FIELD IS MISSING
-missing-none : (l : List ℕ) (rows : List Row) → ((t : ℕ) → any (λ r. eqb (r .tag) t && r .required) rows ≡ true → has l t ≡ true) → missing rows l ≡ Nothing
-missing-none l [] f = refl
-missing-none l (r ∷ rs) f = go (r .required) refl (has l (r .tag)) refl (missing-none l rs (λ t h. f t (or-last (eqb (r .tag) t && r .required) _ h)))
-  where
-    or-first : (b c d : Bool) → b ≡ true → c ≡ true → ((b && c) || d) ≡ true
-    or-first true true d e k = refl
-    or-first true false d e k = absurd (false≢true k)
-    or-first false c d e k = absurd (false≢true e)
-
-    go : (b : Bool) → r .required ≡ b → (c : Bool) → has l (r .tag) ≡ c → missing rs l ≡ Nothing → cond (b && not c) (Reason 1 (r .tag)) (missing rs l) ≡ Nothing
-    go true e true g h = h
-    go true e false g h = absurd (false≢true (sym g ∙ f (r .tag) (or-first _ _ _ (eq-eqb (r .tag) (r .tag) refl) e)))
-    go false e c g h = h
-
 -- a required tag is one of the message's
 required-among : (l : List ℕ) (rows : List Row) (t : ℕ) → all (λ r. not (r .required) || has l (r .tag)) rows ≡ true
     → any (λ r. eqb (r .tag) t && r .required) rows ≡ true → has l t ≡ true
@@ -172,8 +126,8 @@ rows-are m g = rw g (append-nil (header ++ fields m))
 module _ (m : MsgType) (a : administrative m ≡ true) (vs : ℕ → Value) (ts : List ℕ) (fine : (t : ℕ) → has ts t ≡ true → unfit m (t is vs t) ≡ false)
     (whole : all (λ r. not (r .required) || has ts (r .tag)) (rowsOf m) ≡ true) where
   end-clean : walk m (at (met vs (passed ts []))) [] ≡ Clean
-  unfolding closing required
-  end-clean = rw (missing-none (met vs (passed ts [])) (header ++ fields m) there)
+  unfolding required
+  end-clean = walk-over m (met vs (passed ts [])) there
     where
       present : (t : ℕ) → required m t ≡ true → (o : Option Bytes) → unwritable m t o ≡ false → o ≡ none → ⊥
       present t r none u e = false≢true (sym u ∙ r)

@@ -24,6 +24,7 @@ use Rattle.writer.proofs.Frames.{sound-row, good-framed, begins-35}
 use Rattle.writer.proofs.Wholes.{body-true}
 use Rattle.writer.proofs.Accepted.{accepted}
 use Rattle.writer.proofs.Seven.{filtered-has, known, withType, message-is, type-fits, type-read}
+use Rattle.dictionary.proofs.Taken.{verdict-walks}
 use Rattle.writer.proofs.Clean.{message-clean}
 use Rattle.writer.proofs.Sizes.{Fine, not-own, fine-first, fine-later, all-fine, type-byte, body-length, body-longest}
 
@@ -115,12 +116,11 @@ module _ (m : MsgType) (a : administrative m ≡ true) (vs : ℕ → Value) (ok 
 
   -- A CLEAN VERDICT
   pub written-clean : verdict body ≡ Clean
-  unfolding verdict
   written-clean =
       let S = sound-row (message m vs) well-formed in
       let B = body-true body (record { low = its-bounds .0; high = its-bounds .1; begins = begins-35 (code35 m) (row (valued vs (order m))); ends = S .ends (omega (arith, its-bounds .0)) }) in
       let c = cut-row (message m vs) well-formed ∙ ap partsOf (message-is vs m a) in
-      rw (B, type-read (row (valued vs (order m))) m a) (ap (walk m nothingYet) c ∙ message-clean m a (withType m vs) whole-fine)
+      verdict-walks m body B (type-read (row (valued vs (order m))) m a) ∙ ap (walk m nothingYet) c ∙ message-clean m a (withType m vs) whole-fine
 
   -- THE VALUES ARE READ BACK: the first field of each tag is its value
   first-is : (t : ℕ) → firstField t body ≡ cond (has (35 ∷ order m) t) (shown (withType m vs t)) none
