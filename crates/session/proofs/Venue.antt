@@ -32,6 +32,7 @@ use Rattle.session.specs.declared.Status.the-variants.{Active, Closed}
 use Rattle.session.specs.declared.rules.Plan.{Plan}
 use Rattle.session.specs.declared.rules.Letter.the-variants.{Nothing, Logout, Test}
 use Rattle.session.proofs.Words.{not-said, Silent, all-silent, first-some, first-rest}
+use Rattle.session.proofs.Ranges.{string-means}
 use Rattle.session.proofs.Fitting.{Ample}
 use Rattle.session.proofs.Stepping.{ready-by}
 
@@ -121,10 +122,7 @@ asked-plan s id e = rw e
 
 test-text : (id : Bytes) → testID id ≡ true → Byted id → Text 64 id
 unfolding testID
-test-text id e B =
-    let k = both (within 1 64 (length id)) (not (has id 1)) e in
-    let l = within-is 1 64 (length id) (k .0) in
-    record { some = l .0; short = l .1; no-bar = not-true (has id 1) (k .1); of-bytes = B }
+test-text id e B = let k = string-means 64 id e in record { some = k .0; short = k .1 .0; no-bar = k .1 .1; of-bytes = B }
 
 pub asked-fit : (t : ℕ) (s : Session) (id : Bytes) → Ample s → testID id ≡ true → Byted id → AllFit t s (asked id)
 asked-fit t s id A e B = ((A .first, omega (arith, A .next), test-text id e B), tt)
