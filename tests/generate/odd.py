@@ -1,0 +1,48 @@
+"""Lines that make no sense: listed ones, and requests with one character or one word changed."""
+from .frames import read_one
+from .records import new_session, reconnect, tick
+from .steps import step_any
+from .verdicts import verdict_clean
+from .writes import write_clean
+
+ODD_LINES = ("", " ", "read", "read ", " read -", "read  -", "read - -", "READ -", "read 3", "read 0A", "read 3G",
+             "read --", "read -\r", "read\t-", "read -\0", "read \x80", "read 0x30", "fixt", "fixt ",
+             "fixt fixt read -", "fix42 read -", "Fixt read -", "verdict", "fields", "hello", "new 41", "new",
+             "new 41 42 43", "stream - ", "stream  -", "stream - 3", "write", "write 512", "write 512 3",
+             "write x 30", "write 512 30 34", "write 512 30 34=", "write 512 30 34=1", "write 512 30 34=n",
+             "write 512 30 34=n01", "write 512 30 34=n-1", "write 512 30 34=b31", "write 512 30 49=n1",
+             "write 512 30 49=b", "write 512 30 49=b4", "write 512 30 034=n1", "write 512 30 =n1",
+             "write 512 30 34=n1 34=n1", "write 512 30 49=b41 49=b-", "write 512 41 98=n0", "write 512 41 1137=n9",
+             "write 512 - 9999=c1", "write 512 30 9999=n1 9999=b-", "write 512 30 34=N1", "write 512 30 49=B41",
+             "write 1048576 30", "write 1048577 30", "write 18446744073709551615 30", "write 512 30 0=n0",
+             "write 512 30 18446744073709551616=n0", "write 512 30 34=n18446744073709551616",
+             "write 512 30 34=n99999999999999999999999999", "tick 0 512 47 4d 0 1 1 30",
+             "tick 0 512 47 4d 0 1 1 30 0 0", "tick 0 1048577 47 4d 0 1 1 30 0", "tick 0 1048576 47 4d 0 1 1 30 0",
+             "tick 00 512 47 4d 0 1 1 30 0", "tick 0 0512 47 4d 0 1 1 30 0", "tick - 512 47 4d 0 1 1 30 0",
+             "tick 18446744073709551616 512 47 4d 0 1 1 30 0", "step 0 512 - 47 4d 0 1 1 30",
+             "step 0 512 3 47 4d 0 1 1 30 0", "step 0 1048577 - 47 4d 0 1 1 30 0", "reconnect 47 4d 0 1 1 30",
+             "reconnect 47 4d 0 1 1 30 +1", "reconnect 47 4d -0 1 1 30 1", "reconnect 4 4d 0 1 1 30 1",
+             "reconnect 47 4D 0 1 1 30 1", "reconnect 47 4d 0 1 1 30 1 ", "reconnect 47 4d 0 1 1 30 1a")
+
+
+def error_listed(r):
+    yield r.choice(ODD_LINES)
+
+
+def error_by_chance(r):
+    """Any request with one character or one word of it changed; much of it stays readable."""
+    line = next(r.choice((step_any, tick, reconnect, write_clean, verdict_clean, read_one, new_session))(r))
+    words = line.split(" ")
+    at, spot = r.randrange(len(words)), r.randrange(len(line))
+    word = r.choice(("", "-", "0", "00", "18446744073709551616", "18446744073709551615", "3g"))
+    yield r.choice((
+        line[:spot] + r.choice("0gAZ- =nb+.") + line[spot + 1:],
+        line[:spot] + line[spot + 1:],
+        " ".join(words[:at] + words[at + 1:]),
+        " ".join(words[:at] + [words[at]] + words[at:]),
+        " ".join(words[:at] + [word] + words[at + 1:]),
+    ))
+
+
+# How often each comes, beside the others of mixture.py.
+WEIGHTS = {error_listed: 1.5, error_by_chance: 1}

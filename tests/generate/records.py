@@ -1,0 +1,92 @@
+"""Records to ask about, in their ranges and out of them, and the requests `new`, `reconnect` and `tick` on them."""
+from model import ACTIVE, CLOSED, WAITING
+
+from .basics import BAR, CALL_TIME, END, MAX, OURS, PEER, chance, hexed
+
+NUMBERS = (1, 2, 3, 5, 10, 99, 100, 255, 256, 32767, 32768, 65535, 65536, 16777216, 99999999, 100000000, 999999988,
+           999999989, 999999990)
+USED_UP = (999999991, 999999992, 999999999)
+BAD_NUMBERS = (0, 1000000000, 2 ** 31, 2 ** 32, 2 ** 32 + 5, 2 ** 63, MAX)
+BAD_HEARTBEATS = (0, 61, 62, 255, 256, 257, 2 ** 32 + 30, MAX)
+BAD_STATUSES = (3, 4, 255, 256, 257, 258, 2 ** 32, 2 ** 32 + 1, MAX)
+BAD_COMP_IDS = (b"", b"A" * 12, b"A" * 13, b"A" * 64, b"A" * 267, BAR, b"G\x01W", b"A" * 10 + BAR, BAR + b"A",
+                b"A" * 11 + BAR)
+GOOD_COMP_IDS = (OURS, PEER, b"A", b"A" * 11, b"G=W", b"\x00", b"\xff\xfe", b"MM ", b"B" * 10, b"10=")
+TIMES = (0, 1, 999999, 1000000, 86399999999, 86400000000, 951782399999999, 951782400000000, 951868799999999,
+         951868800000000, 1709164800000000, 1709251199999999, 1709251200000000, 4107456000000000, 4107542400000000,
+         68169600000000, 253402214400000000, END - 1)
+LATE = (END, END + 1, 2 ** 63, MAX)
+ROOMS = (512, 513, 600, 1024)
+SHORT_ROOMS = (0, 1, 72, 73, 255, 256, 510, 511)
+
+
+class Session:
+    """A record to ask about, as words."""
+
+    def __init__(self, r, status=None):
+        self.ours, self.peer = (OURS, PEER) if chance(r, 0.8) else (r.choice(GOOD_COMP_IDS), r.choice(GOOD_COMP_IDS))
+        self.status = r.choice((WAITING, WAITING, ACTIVE, ACTIVE, ACTIVE, ACTIVE, CLOSED)) if status is None else status
+        self.expected, self.next_out = r.choice(NUMBERS), r.choice(NUMBERS)
+        if chance(r, 0.03):
+            setattr(self, r.choice(("expected", "next_out")), r.choice(USED_UP))
+        self.heartbeat = r.choice((1, 2, 30, 59, 60))
+        self.last = r.choice((0, 1, CALL_TIME, CALL_TIME - 30000000, END, MAX))
+
+    def spoil(self, r):
+        """One of the seven out of its range."""
+        name, values = r.choice((("ours", BAD_COMP_IDS), ("peer", BAD_COMP_IDS), ("status", BAD_STATUSES),
+                                 ("expected", BAD_NUMBERS), ("next_out", BAD_NUMBERS), ("heartbeat", BAD_HEARTBEATS)))
+        setattr(self, name, r.choice(values))
+        return self
+
+    def words(self):
+        return (f"{hexed(self.ours)} {hexed(self.peer)} {self.status} {self.expected} {self.next_out} {self.heartbeat}"
+                f" {self.last}")
+
+
+def any_session(r, spoilt=0.03):
+    session = Session(r)
+    return session.spoil(r) if chance(r, spoilt) else session
+
+
+def call_time(r):
+    if chance(r, 0.02):
+        return r.choice(LATE)
+    if chance(r, 0.3):
+        return CALL_TIME
+    return r.choice(TIMES) if chance(r, 0.4) else r.randrange(END)
+
+
+def room(r):
+    return r.choice(SHORT_ROOMS) if chance(r, 0.02) else r.choice(ROOMS)
+
+
+def new_session(r):
+    ids = GOOD_COMP_IDS + BAD_COMP_IDS
+    yield f"new {hexed(r.choice(ids))} {hexed(r.choice(ids))}"
+
+
+def reconnect(r):
+    yield "reconnect " + any_session(r, spoilt=0.5).words()
+
+
+def tick(r):
+    session, time = any_session(r), call_time(r)
+    due = session.heartbeat * 1000000
+    last = r.choice((0, time - due - 1, time - due, time - due + 1, time - 1, time, time + 1, END, MAX))
+    session.last = min(max(0, last), MAX)
+    yield f"tick {time} {room(r)} {session.words()}"
+
+
+def tick_status(r):
+    """Every status with used up numbers, a short room and a late time by turns."""
+    session = Session(r, r.choice((WAITING, ACTIVE, CLOSED)))
+    if chance(r, 0.5):
+        session.expected = r.choice(USED_UP + (999999990,))
+    else:
+        session.next_out = r.choice(USED_UP + (999999990,))
+    yield f"tick {r.choice(TIMES + LATE)} {r.choice(ROOMS + SHORT_ROOMS)} {session.words()}"
+
+
+# How often each comes, beside the others of mixture.py.
+WEIGHTS = {new_session: 1, reconnect: 3, tick: 3, tick_status: 1}

@@ -1,0 +1,71 @@
+"""One call on a session under way: what it writes with which numbers, and what a step reads of its frame."""
+from dataclasses import replace
+
+from .dictionary import MESSAGES
+from .fields import first_field
+from .kinds import of_its_kind
+from .record import CLOSED
+from .times import in_utc
+from .walk import verdict
+from .writer import message
+
+
+class Writing:
+    """One call on a session under way: a record of its own, and what has been written so far."""
+
+    def __init__(self, record, time):
+        self.record = replace(record)
+        self.time = time
+        self.reply = b""
+
+    def send_as(self, number, msg_type, values):
+        """01: Every message written in a session sets last sent to the call's time."""
+        header = {49: self.record.ours, 56: self.record.peer, 34: number, 52: in_utc(self.time)}
+        self.reply += message(msg_type, {**header, **values})
+        self.record.last_sent = self.time
+
+    def send(self, msg_type, values):
+        """01: other replies use the next"""
+        self.send_as(self.record.next_out, msg_type, values)
+        self.record.next_out += 1
+
+    def log_out(self, session_status=101):
+        """01: Logouts of ours set Closed and carry 1409=101; the answer to a Logout carries 1409=4."""
+        self.send(b"5", {1409: session_status})
+        self.record.status = CLOSED
+
+    def ask_from_expected(self):
+        self.send(b"2", {7: self.record.expected, 16: 0})
+
+
+class Move(Writing):
+    """One step under way, with what the incoming frame says."""
+
+    def __init__(self, record, time, body):
+        super().__init__(record, time)
+        self.body = body
+        self.msg_type = first_field(body, 35)
+        n = first_field(body, 34)       # "unreadable if absent or not of its kind"
+        self.n = int(n) if n is not None and of_its_kind(34, n) else None
+        self.delivered = False
+
+    def first(self, tag):
+        return first_field(self.body, tag)
+
+    def verdict(self):
+        return verdict(self.body)
+
+    def wrong_comp_id(self):
+        """49 if it is missing or not the peer's, or else 56 if it is missing or not ours, or else None."""
+        if self.first(49) != self.record.peer:
+            return 49
+        return 56 if self.first(56) != self.record.ours else None
+
+    def reject(self, reason, tag):
+        """01: Reject writes 45 (N), 371 unless 0, 372 only if the type is one of the nine, 373."""
+        values = {45: self.n, 373: reason}
+        if tag != 0:
+            values[371] = tag
+        if self.msg_type in MESSAGES:
+            values[372] = self.msg_type
+        self.send(b"3", values)

@@ -1,0 +1,59 @@
+"""The session's record of document 01: its ranges, a new session, a reconnect, and what a call on a record answers."""
+from collections import namedtuple
+from dataclasses import dataclass, replace
+
+from .frame import BAR
+
+WAITING, ACTIVE, CLOSED = 0, 1, 2
+GREATEST_NUMBER = 999_999_999
+LAST_USABLE_NUMBER = 999_999_990            # refusal 5 above
+LEAST_REPLY_ROOM = 512                      # refusal 6 below
+END_OF_TIME = 253_402_300_800_000_000       # refusal 7 from here on
+SECOND = 1_000_000
+
+
+@dataclass
+class Record:
+    ours: bytes
+    peer: bytes
+    status: int = WAITING
+    expected: int = 1
+    next_out: int = 1
+    heartbeat: int = 30
+    last_sent: int = 0
+
+
+# What a step or tick answers: a refusal's number or None, whether the message is delivered, the reply's bytes, the
+# record afterwards, and the rule that fitted (for counting alone: "Waiting" or a number, None if refused before).
+Outcome = namedtuple("Outcome", "refusal delivered reply record rule")
+
+
+def good_comp_id(comp_id):
+    return 1 <= len(comp_id) <= 11 and BAR not in comp_id
+
+
+def in_range(record):
+    """01: record breaks its ranges (CompIDs as above, numbers 1 to 999,999,999, heartbeat 1 to 60)"""
+    return (good_comp_id(record.ours) and good_comp_id(record.peer)
+            and record.status in (WAITING, ACTIVE, CLOSED)
+            and 1 <= record.expected <= GREATEST_NUMBER and 1 <= record.next_out <= GREATEST_NUMBER
+            and 1 <= record.heartbeat <= 60)
+
+
+def numbers_used_up(record):
+    """01: E or next out above 999,999,990"""
+    return record.expected > LAST_USABLE_NUMBER or record.next_out > LAST_USABLE_NUMBER
+
+
+def new_session(ours, peer):
+    """(refusal, record); "a refused new one: as new, but Closed and both CompIDs empty"."""
+    if not good_comp_id(ours) or not good_comp_id(peer):
+        return 11, Record(b"", b"", status=CLOSED)
+    return None, Record(ours, peer)
+
+
+def reconnect(record):
+    """01: A reconnect sets Waiting and keeps the numbers."""
+    if not in_range(record):
+        return 11, record
+    return None, replace(record, status=WAITING)

@@ -1,0 +1,120 @@
+"""The moves of document 01 while Active, "first rule that fits", and rule 6 by type. Each rule answers whether it fits."""
+from .serving import gap_fill_out, unservable
+
+
+def rule_1(move):
+    """1. 34 unreadable: Logout."""
+    if move.n is not None:
+        return False
+    move.log_out()
+    return True
+
+
+def rule_2(move):
+    """2. 49 missing or not the peer's, or else 56 missing or not ours: Reject 9 with that tag, then Logout; E + 1 if
+    N = E."""
+    tag = move.wrong_comp_id()
+    if tag is None:
+        return False
+    move.reject(9, tag)
+    move.log_out()
+    if move.n == move.record.expected:
+        move.record.expected += 1
+    return True
+
+
+def rule_3(move):
+    """3. Type 4 without 123=Y: a verdict gives Reject; 36 below E gives Reject 5, tag 36; E stays. Otherwise E becomes
+    36."""
+    if move.msg_type != b"4" or move.first(123) == b"Y":
+        return False
+    finding = move.verdict()
+    if finding:
+        move.reject(*finding)
+    elif int(move.first(36)) < move.record.expected:
+        move.reject(5, 36)
+    else:
+        move.record.expected = int(move.first(36))
+    return True
+
+
+def rule_4(move):
+    """4. N > E: Resend Request 7=E, 16=0; E stays. An incoming Resend Request, if clean and not rejected below, is
+    served first."""
+    if not move.n > move.record.expected:
+        return False
+    if move.msg_type == b"2" and not move.verdict() and not unservable(move):
+        gap_fill_out(move)
+    move.ask_from_expected()
+    return True
+
+
+def rule_5(move):
+    """5. N < E: 43 not Y, Logout. 43=Y without 122, Reject 1, tag 122. Otherwise ignored."""
+    if not move.n < move.record.expected:
+        return False
+    if move.first(43) != b"Y":
+        move.log_out()
+    elif move.first(122) is None:
+        move.reject(1, 122)
+    return True
+
+
+def rule_6(move):
+    """6. N = E: a verdict gives Reject, E + 1. Then by type; where not said here, E + 1."""
+    move.record.expected = move.n + 1
+    finding = move.verdict()
+    if finding:
+        move.reject(*finding)
+    else:
+        IN_TURN[move.msg_type](move)
+    return True
+
+
+RULES = (rule_1, rule_2, rule_3, rule_4, rule_5, rule_6)
+
+
+def test_request_in(move):
+    """01: Type 1: Heartbeat with its 112."""
+    move.send(b"0", {112: move.first(112)})
+
+
+def resend_request_in(move):
+    """01: Type 2: gap fill, below."""
+    tag = unservable(move)
+    if tag:
+        move.reject(5, tag)
+    else:
+        gap_fill_out(move)
+
+
+def gap_fill_in(move):
+    """01: Gap fill: 36 not above N, Reject 5, tag 36, E + 1; else E becomes 36."""
+    new = int(move.first(36))
+    if not new > move.n:
+        move.reject(5, 36)
+    else:
+        move.record.expected = new
+
+
+def logout_in(move):
+    """01: Type 5: Logout, Closed."""
+    move.log_out(session_status=4)
+
+
+def logon_in(move):
+    """01: A: Reject 99, tag 35."""
+    move.reject(99, 35)
+
+
+def application_in(move):
+    """01: AD, F: delivered."""
+    move.delivered = True
+
+
+def nothing(move):
+    """01: 0, 3: nothing."""
+
+
+IN_TURN = {b"0": nothing, b"1": test_request_in, b"2": resend_request_in, b"3": nothing, b"4": gap_fill_in,
+           b"5": logout_in, b"A": logon_in, b"AD": application_in, b"F": application_in}

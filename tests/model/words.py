@@ -1,0 +1,85 @@
+"""The words of a request line: numbers, bytes, records and the writer's pairs, and how an answer spells them.
+
+The grammar of a request, where the driver's page leaves room:
+
+  LINE     is what stands before a line feed; nothing is trimmed, so a carriage return makes it unreadable. A last line
+           without a line feed is a line too, unless it is empty. There is no limit on the length of a line.
+  words    are separated by exactly one space; a space at either end, two in a row or an empty line are `error`.
+  `fixt`   may stand once before the request's own word and changes nothing.
+  NUMBER   is `0`, or a digit 1 to 9 and further digits; no sign, no leading zero; at most 18446744073709551615.
+  BYTES    is `-` for none, or one or more pairs of the digits 0-9 a-f.
+  BUFLEN   is a NUMBER up to 1048576, so that the driver can always lend as much.
+  RECORD   is BYTES BYTES and five NUMBERs, each as large as a NUMBER can be, the status too. The answer's record
+           repeats the request's words where the call left them alone: an overlong CompID stands in the answer whole,
+           and so does a status above 2.
+  stream   takes any number of pieces, none too (`frames pending -`); each is BYTES, so an empty piece is `-`.
+  write    BUFLEN TYPE PAIR..; TYPE is the MsgType in BYTES (`30` is a Heartbeat, `-` an empty type); PAIR is a NUMBER,
+           `=`, then `n` NUMBER or `b` BYTES. The call has a place for 21 tags: 7 16 34 36 45 108 371 373 1409 are taken
+           with `n` alone, 43 49 52 56 58 98 112 122 123 141 372 1137 with `b` alone. For one of these 21 the other
+           letter is `error`, and so is giving it twice; this holds whatever the type. For any other tag both letters
+           are readable, any number of times, and the answer is `refusal 8`.
+  `error`  is also: an unknown word, too few or too many words. A line is read whole before any call is made, so
+           `error` stands before every refusal.
+"""
+import re
+
+from .dictionary import FROM_ONE, FROM_ZERO
+from .record import Record
+from .writer import WRITER_TAGS
+
+GREATEST_WORD = 2 ** 64 - 1
+GREATEST_ROOM = 1_048_576
+NUMBER = re.compile(r"0|[1-9][0-9]{0,19}")
+WRITER_NUMBERS = {tag for tag in WRITER_TAGS if tag in FROM_ONE or tag in FROM_ZERO}
+
+
+class Unreadable(Exception):
+    """The line is answered `error`."""
+
+
+def number_of(word, greatest=GREATEST_WORD):
+    if not NUMBER.fullmatch(word) or int(word) > greatest:
+        raise Unreadable
+    return int(word)
+
+
+def bytes_of(word):
+    if word == "-":
+        return b""
+    try:
+        found = bytes.fromhex(word)
+    except ValueError:
+        raise Unreadable from None
+    if not found or found.hex() != word:
+        raise Unreadable
+    return found
+
+
+def record_of(words):
+    return Record(bytes_of(words[0]), bytes_of(words[1]), *(number_of(word) for word in words[2:]))
+
+
+def pair_of(word):
+    """A tag with its number or bytes, out of `TAG=nNUMBER` or `TAG=bBYTES`."""
+    tag, equals, value = word.partition("=")
+    if not equals or value[:1] not in ("n", "b"):
+        raise Unreadable
+    return number_of(tag), number_of(value[1:]) if value[0] == "n" else bytes_of(value[1:])
+
+
+def pairs_of(words):
+    values = {}
+    for tag, value in map(pair_of, words):
+        if tag in WRITER_TAGS and (tag in values or isinstance(value, int) != (tag in WRITER_NUMBERS)):
+            raise Unreadable
+        values[tag] = value
+    return values
+
+
+def in_hex(value):
+    return value.hex() or "-"
+
+
+def in_words(record):
+    return (f"{in_hex(record.ours)} {in_hex(record.peer)} {record.status} {record.expected} {record.next_out}"
+            f" {record.heartbeat} {record.last_sent}")
