@@ -1,71 +1,49 @@
-// The session: its record, and what it does with a frame, at a tick, for a message of the venue's own, when it is new and when it reconnects.
-mod changes;
+// The session: what it does with a frame, at a tick, for a message of the venue's own, when it is new and when it reconnects.
 mod gates;
-mod moved;
 mod own;
-mod reads;
 mod replies;
-mod rules;
 
 use calendar::utc;
-use changes::changed;
-use changes::in_range;
-use changes::is_comp_id;
-use changes::turned;
 use frame::body_of;
 use gates::is_active;
 use gates::is_spent;
 use gates::logon_gate;
 use gates::step_gate;
-use moved::answer_of;
-use moved::is_quiet;
-use moved::next_after;
+use moves::Letter;
+use moves::Plan;
+use moves::Record;
+use moves::Status;
+use moves::active;
+use moves::beating;
+use moves::changed;
+use moves::closing;
+use moves::in_range;
+use moves::is_comp_id;
+use moves::is_quiet;
+use moves::next_after;
+use moves::saying;
+use moves::turned;
+use moves::waiting;
 use own::is_test_id;
 use own::own_gate;
 use replies::put_both;
-use rules::Letter;
-use rules::Plan;
-use rules::active;
-use rules::beating;
-use rules::closing;
-use rules::saying;
-use rules::waiting;
 ghost use mathlib.Core.Path.{_≡_};
 ghost use mathlib.Core.List.{[], _++_};
+ghost use mathlib.Core.Bool.{cond};
 ghost use Prim.Native.Nat.{_≤_, _<_};
 ghost use lib.ListN.{length, take};
 ghost use Rattle.frame.specs.Bytes.{Bytes};
 ghost use Rattle.frame.specs.Stream.{joined};
 ghost use Rattle.calendar.specs.Time.{utc, limit};
 ghost use Rattle.writer.specs.Wrote.{Wrote};
-ghost use Rattle.session.specs.Session.{No, turned, fresh};
+ghost use Rattle.session.specs.Refusals.{No};
+ghost use Rattle.moves.specs.Session.{turned, fresh};
+ghost use Rattle.session.specs.declared.Answer.the-variants as Answer;
 ghost use Rattle.session.specs.Calls.{refusing, movesOn, due, step, tick, logout, test-request, new, reconnect};
-ghost use Rattle.session.specs.Held.{sessionOf, Leaves, answeredBy, recordOf, answeredNew, padded};
-ghost use Rattle.session.specs.code.Plan.{lettersOf, behind, bytesOf, planned, outcomeOf, AllPut, Ready};
-
-// Waiting for a logon, active, or closed.
-pub enum Status {
-    Waiting,
-    Active,
-    Closed,
-}
-
-// The record of a session. Each CompID is the first bytes of an array, as many as its length says.
-pub struct Record {
-    pub ours: [u8; 11],
-    pub oursLen: usize,
-    pub peer: [u8; 11],
-    pub peerLen: usize,
-    pub status: Status,
-    // The number that the peer's next message should have.
-    pub expected: u64,
-    // The number that our next message will have.
-    pub next: u64,
-    // The heartbeat's seconds.
-    pub heartbeat: u64,
-    // When the last message was sent, in microseconds since 1970.
-    pub sent: u64,
-}
+ghost use Rattle.moves.specs.Held.{sessionOf};
+ghost use Rattle.session.specs.Held.{Leaves, answeredBy, recordOf, answeredNew, padded};
+ghost use Rattle.moves.specs.code.Plan.{lettersOf, behind, planned, Ready};
+ghost use Rattle.session.specs.code.Played.{bytesOf, outcomeOf, AllPut};
 
 // Why a call changed nothing, or closed the session.
 pub enum Refusal {
@@ -147,6 +125,15 @@ fn unchanged(r: Record, answer: Answer) -> Answered
         after: r,
         len: 0,
     }
+}
+
+pub fn answer_of(delivered: bool) -> Answer
+    ensures { λ a. ⌜ a ≡ cond delivered Answer.Delivered Answer.Done ⌝ }
+{
+    if delivered {
+        return Answer::Delivered;
+    }
+    Answer::Done
 }
 
 // The messages of a plan, from the record as it was.

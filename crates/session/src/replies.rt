@@ -1,12 +1,12 @@
 // The messages of a plan, put into the buffer one behind the other.
-use crate::moved::next_after;
-use crate::reads::number_in;
-use crate::rules::Letter;
 use dictionary::Named;
 use dictionary::type_of;
 use fields::Place;
 use fields::first_field;
 use fields::type_field;
+use moves::Letter;
+use moves::next_after;
+use moves::number_in;
 use writer::gap_fill;
 use writer::heartbeat;
 use writer::logon;
@@ -25,8 +25,9 @@ ghost use Rattle.frame.specs.Stream.{joined};
 ghost use Rattle.fields.specs.Field.{firstField};
 ghost use Rattle.writer.specs.Reply.{optional, heartbeat};
 ghost use Rattle.writer.specs.Wrote.{Wrote};
-ghost use Rattle.session.specs.Seen.{repeated};
-ghost use Rattle.session.specs.code.Plan.{rejectOf, logonOf, lettersOf, behind, bytesOf, AllPut, Sending};
+ghost use Rattle.moves.specs.Seen.{repeated};
+ghost use Rattle.session.specs.code.Played.{rejectOf, logonOf, bytesOf, AllPut, Sending};
+ghost use Rattle.moves.specs.code.Plan.{lettersOf, behind};
 
 // A Reject of the message whose body this is.
 fn put_reject(
