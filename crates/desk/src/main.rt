@@ -6,9 +6,9 @@ mod played;
 
 use dictionary::Verdict;
 use frame::Reading;
+use moves::Record;
 use print::print_bytes;
 use print::print_count;
-use session::Record;
 ghost use Prim.Native.Nat.{_≤_};
 ghost use lib.ListN.{length};
 

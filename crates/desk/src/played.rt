@@ -4,11 +4,11 @@ use crate::begins;
 use crate::behind;
 use crate::find;
 use frame::Reading;
+use moves::Record;
+use moves::Status;
 use print::print_bytes;
 use session::Answer;
 use session::Answered;
-use session::Record;
-use session::Status;
 use session::refusal_number;
 ghost use Prim.Native.Nat.{_≤_};
 

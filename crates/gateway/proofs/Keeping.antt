@@ -12,11 +12,11 @@ use lib.ListN.{length, getD, set, take, drop, drop-of-length-le}
 use lib.Seq.{drop-cons, length-sets}
 use Rattle.frame.specs.Bytes.{Bytes, Byted}
 use Rattle.frame.proofs.Tests.{both}
-use Rattle.session.specs.Session.{Session, code, turned}
-use Rattle.session.specs.Held.{held, sessionOf, with}
-use Rattle.session.specs.declared.Record.{Record}
-use Rattle.session.specs.declared.Status.{Status}
-use Rattle.session.specs.declared.Status.the-variants.{Waiting, Active, Closed}
+use Rattle.moves.specs.Session.{Session, code, turned}
+use Rattle.moves.specs.Held.{held, sessionOf, with}
+use Rattle.moves.specs.declared.record.Record.{Record}
+use Rattle.moves.specs.declared.record.Status.{Status}
+use Rattle.moves.specs.declared.record.Status.the-variants.{Waiting, Active, Closed}
 use Rattle.gateway.proofs.Records.{status-is}
 use Rattle.gateway.specs.Record.{eleven, compIDsOf, state, wordsOf, saved, statusOf, spare, statusIf, statusIn, recordWith, recordIf, recordIn}
 

@@ -28,17 +28,19 @@ use Rattle.writer.specs.declared.Written.{Written}
 use Rattle.writer.specs.declared.Written.the-variants.{Message, Unfit, Short}
 use Rattle.writer.proofs.Promise as Writer
 use Rattle.writer.proofs.Joined.{joined-frames}
-use Rattle.session.specs.Words.{if_then_else_}
-use Rattle.session.specs.Session.{Session, code, No, numbers, compID, inRange, fresh, turned}
-use Rattle.session.specs.Held.{held, padded, sessionOf, recordOf, with}
+use Rattle.moves.specs.Words.{if_then_else_}
+use Rattle.moves.specs.Session.{Session, code, compID, inRange, fresh, turned}
+use Rattle.session.specs.Refusals.{No, numbers}
+use Rattle.moves.specs.Held.{held, sessionOf, with}
+use Rattle.session.specs.Held.{padded, recordOf}
 use Rattle.session.specs.Calls.{Outcome, keeping, refusing, tick, logout, test-request, new, reconnect, Call, call, Step, Tick, OurLogout, OurTestRequest, Reconnect}
 use Rattle.session.specs.Promise.{Kept, WholeReply, OfBytes, lent}
-use Rattle.session.specs.declared.Record.{Record}
+use Rattle.moves.specs.declared.record.Record.{Record}
 use Rattle.session.specs.declared.Answer.{Answer}
 use Rattle.session.specs.declared.Answer.the-variants as Answer
 use Rattle.session.specs.declared.Refusal.{Refusal}
 use Rattle.session.specs.declared.Refusal.the-variants.{SessionClosed, NotLogon, BadLogon, NumbersSpent, BufferShort, TimePast, BadValue, NotOneFrame, BadRecord}
-use Rattle.session.specs.declared.Status.the-variants.{Closed}
+use Rattle.moves.specs.declared.record.Status.the-variants.{Closed}
 use Rattle.session.proofs.Promise as Session
 use Rattle.gateway.specs.Numbers.{refusalOf, valueOf}
 use Rattle.gateway.specs.Border.{readNumber, readWords, ReadOut, PutOut, DropOut, BodyOut, its-body, no-frame, FieldOut, FirstOut, VerdictOut}

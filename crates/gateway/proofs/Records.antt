@@ -14,14 +14,16 @@ use lib.Seq.{drop-cons, set-at}
 use Rattle.frame.specs.Bytes.{Bytes, all, has, within}
 use Rattle.frame.proofs.Numerals.{within-is}
 use Rattle.frame.proofs.Tests.{both}
-use Rattle.session.specs.Words.{if_then_else_}
-use Rattle.session.specs.Session.{numbers, compID, fresh, turned}
-use Rattle.session.specs.Held.{sessionOf, answeredBy, Leaves, answeredNew}
+use Rattle.moves.specs.Words.{if_then_else_}
+use Rattle.session.specs.Refusals.{numbers}
+use Rattle.moves.specs.Session.{compID, fresh, turned}
+use Rattle.moves.specs.Held.{sessionOf}
+use Rattle.session.specs.Held.{answeredBy, Leaves, answeredNew}
 use Rattle.session.specs.Calls.{keeping, step, tick, logout, test-request, new, reconnect}
-use Rattle.session.specs.declared.Record.{Record}
+use Rattle.moves.specs.declared.record.Record.{Record}
 use Rattle.session.specs.declared.Answered.{Answered}
-use Rattle.session.specs.declared.Status.{Status}
-use Rattle.session.specs.declared.Status.the-variants.{Closed}
+use Rattle.moves.specs.declared.record.Status.{Status}
+use Rattle.moves.specs.declared.record.Status.the-variants.{Closed}
 use Rattle.session.specs.declared.Refusal.the-variants.{BadRecord}
 use Rattle.session.specs.declared.Answer.the-variants.{Done, Refused}
 use Rattle.gateway.specs.Numbers.{refusalOf, valueOf}

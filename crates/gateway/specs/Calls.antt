@@ -10,10 +10,11 @@ use Rattle.frame.specs.Bytes.{Bytes}
 use Rattle.frame.specs.Stream.{joined}
 use Rattle.writer.specs.Call as Writer
 use Rattle.writer.specs.declared.Values.{Values}
-use Rattle.session.specs.Session.{No, numbers}
-use Rattle.session.specs.Held.{sessionOf, with, recordOf}
+use Rattle.session.specs.Refusals.{No, numbers}
+use Rattle.moves.specs.Held.{sessionOf, with}
+use Rattle.session.specs.Held.{recordOf}
 use Rattle.session.specs.Calls.{Outcome, step, tick, logout, test-request, new, reconnect}
-use Rattle.session.specs.declared.Record.{Record}
+use Rattle.moves.specs.declared.record.Record.{Record}
 use Rattle.session.specs.declared.Refusal.the-variants.{BadRecord}
 use Rattle.gateway.specs.Numbers.{refusalOf, valueOf}
 use Rattle.gateway.specs.Record.{compIDsOf, wordsOf, saved, recordIn}

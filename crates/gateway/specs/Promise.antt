@@ -15,11 +15,11 @@ use Rattle.frame.specs.Promise.{ExactlyOne}
 use Rattle.fields.specs.Promise as Fields
 use Rattle.dictionary.specs.Promise as Dictionary
 use Rattle.writer.specs.Promise as Writer
-use Rattle.session.specs.Session.{code, inRange}
-use Rattle.session.specs.Held.{sessionOf}
+use Rattle.moves.specs.Session.{code, inRange}
+use Rattle.moves.specs.Held.{sessionOf}
 use Rattle.session.specs.Promise as Session
-use Rattle.session.specs.declared.Record.{Record}
-use Rattle.session.specs.declared.Status.the-variants.{Closed}
+use Rattle.moves.specs.declared.record.Record.{Record}
+use Rattle.moves.specs.declared.record.Status.the-variants.{Closed}
 use Rattle.gateway.specs.Border.{ReadOut, PutOut, DropOut, BodyOut, FieldOut, FirstOut, VerdictOut}
 use Rattle.gateway.specs.Record.{recordIn}
 use Rattle.gateway.specs.Calls.{Left, LeftByNew, LeftByReconnect, LeftByWrite, valuesOf, WriteOut, NewOut, ReconnectOut, StepOut, TickOut, LogoutOut, TestRequestOut}

@@ -9,10 +9,10 @@ use lib.Dec.{eqb}
 use lib.ListN.{length, drop, getD, replicate}
 use lib.Seq.{sets}
 use Rattle.frame.specs.Bytes.{Bytes, all}
-use Rattle.session.specs.Session.{code}
-use Rattle.session.specs.declared.Record.{Record}
-use Rattle.session.specs.declared.Status.{Status}
-use Rattle.session.specs.declared.Status.the-variants.{Waiting, Active, Closed}
+use Rattle.moves.specs.Session.{code}
+use Rattle.moves.specs.declared.record.Record.{Record}
+use Rattle.moves.specs.declared.record.Status.{Status}
+use Rattle.moves.specs.declared.record.Status.the-variants.{Waiting, Active, Closed}
 
 -- eleven bytes from a place on
 abbrev pub eleven : ℕ → Bytes → Bytes

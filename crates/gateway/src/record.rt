@@ -1,11 +1,12 @@
 // The session's record as it crosses the border: 24 bytes for the CompIDs with their lengths, and 24 words.
+use moves::Record;
+use moves::Status;
 use session::Answer;
-use session::Record;
-use session::Status;
 use session::refusal_number;
 ghost use mathlib.Core.Path.{_≡_};
 ghost use lib.ListN.{length, replicate};
-ghost use Rattle.session.specs.Session.{code, numbers};
+ghost use Rattle.moves.specs.Session.{code};
+ghost use Rattle.session.specs.Refusals.{numbers};
 ghost use Rattle.gateway.specs.Numbers.{refusalOf, valueOf};
 ghost use Rattle.gateway.specs.Record.{compIDsOf, wordsOf, saved, spare, statusOf, statusIn, recordWith};
 ghost use Rattle.gateway.specs.code.Held.{statusHeld};

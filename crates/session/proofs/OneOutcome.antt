@@ -3,10 +3,11 @@
 use Prim.Native.Nat.{ℕ}
 use mathlib.Core.Path.{_≡_, sym, _∙_}
 use Rattle.frame.specs.Bytes.{Bytes}
-use Rattle.session.specs.Session.{No}
+use Rattle.session.specs.Refusals.{No}
 use Rattle.session.specs.Calls.{Outcome, step, tick, logout, test-request, new, reconnect}
-use Rattle.session.specs.Held.{sessionOf, answeredBy, Leaves, answeredNew}
-use Rattle.session.specs.declared.Record.{Record}
+use Rattle.moves.specs.Held.{sessionOf}
+use Rattle.session.specs.Held.{answeredBy, Leaves, answeredNew}
+use Rattle.moves.specs.declared.record.Record.{Record}
 use Rattle.session.specs.declared.Answered.{Answered}
 use Rattle.session.specs.declared.Refusal.{Refusal}
 

@@ -8,19 +8,20 @@ use mathlib.Core.List.{List, [], _∷_, _++_}
 use mathlib.Core.Option.{Option, none, some}
 use lib.ListN.{length}
 use borrow.Author.Tests.{lt-ltb, le-ltb, lt-leb, le-leb, leb-false, ltb-false, not-true, not-false}
-use Rattle.frame.specs.Bytes.{Bytes, has, within, Byted}
-use Rattle.frame.proofs.Numerals.{within-is}
-use Rattle.frame.proofs.Tests.{both}
+use Rattle.frame.specs.Bytes.{Bytes, Byted}
 use Rattle.calendar.specs.Time.{limit}
-use Rattle.session.specs.Words.{first, _when_}
-use Rattle.session.specs.Session.{_==_, Session, inRange}
-use Rattle.session.specs.Moves as Words
-use Rattle.session.specs.Moves.{Deeds, Write, Becomes}
+use Rattle.moves.specs.Words.{first, _when_}
+use Rattle.moves.specs.Session.{_==_, Session, stringTo, inRange}
+use Rattle.moves.specs.Moves as Words
+use Rattle.moves.specs.Moves.{Deeds, Write, Becomes}
 use Rattle.session.specs.Calls.{Outcome, outcome, making, refusing, spent, unsendable, testID, test-request}
-use Rattle.session.specs.Held.{sessionOf, answeredBy, Leaves}
-use Rattle.session.specs.code.Fit.{Text, AllFit}
-use Rattle.session.specs.code.Plan.{shut, planned, summed, says, closes, Ready}
-use Rattle.session.specs.declared.Record.{Record}
+use Rattle.moves.specs.Held.{sessionOf}
+use Rattle.session.specs.Held.{answeredBy, Leaves}
+use Rattle.letters.specs.code.Fit.{Text}
+use Rattle.session.specs.code.Fit.{AllFit}
+use Rattle.session.specs.code.Played.{shut}
+use Rattle.moves.specs.code.Plan.{planned, summed, says, closes, Ready}
+use Rattle.moves.specs.declared.record.Record.{Record}
 use Rattle.session.specs.declared.Answered.{Answered}
 use Rattle.session.specs.declared.Answer.{Answer}
 use Rattle.session.specs.declared.Answer.the-variants.{Refused}
@@ -28,13 +29,18 @@ use Rattle.session.specs.declared.Refusal.{Refusal}
 use Rattle.session.specs.declared.Refusal.the-variants.{SessionClosed, NumbersSpent, BufferShort, TimePast, BadValue, BadRecord}
 use Rattle.session.specs.declared.Gate.{Gate}
 use Rattle.session.specs.declared.Gate.the-variants.{Open, Shut}
-use Rattle.session.specs.declared.Status.the-variants.{Active, Closed}
-use Rattle.session.specs.declared.rules.Plan.{Plan}
-use Rattle.session.specs.declared.rules.Letter.the-variants.{Nothing, Logout, Test}
-use Rattle.session.proofs.Words.{not-said, Silent, all-silent, first-some, first-rest}
-use Rattle.session.proofs.Ranges.{string-means}
+use Rattle.moves.specs.declared.record.Status.the-variants.{Active, Closed}
+use Rattle.moves.specs.declared.plan.Plan.{Plan}
+use Rattle.moves.specs.declared.plan.Letter.the-variants.{Nothing, Logout, Test}
+use Rattle.moves.proofs.Words.{not-said, Silent, all-silent, first-some, first-rest}
+use Rattle.moves.proofs.Ranges.{string-means}
 use Rattle.session.proofs.Fitting.{Ample}
 use Rattle.session.proofs.Stepping.{ready-by}
+
+-- THE 112 of a Test Request
+pub string-test : (c : Bytes) {b : Bool} → b ≡ stringTo 64 c → b ≡ testID c
+unfolding testID
+string-test c e = e
 
 -- THE REFUSALS: 11, 7, 6, 2 outside Active, 5
 module _ (s : Session) (t room : ℕ) {a : Bool} (ra : a ≡ inRange s) where
@@ -66,7 +72,7 @@ module _ (s : Session) (t room : ℕ) {a : Bool} (ra : a ≡ inRange s) where
           unfolding unsendable
           own-none h = rw (← ra, not-false a ha, lt-leb limit t h₇, le-ltb room 512 h₆, ← rc, not-false c h₂, ← rd, h)
 
-pub ruleset owning = (own-11, own-7, own-6, own-2, own-5, own-none)
+pub ruleset owning = (string-test, own-11, own-7, own-6, own-2, own-5, own-none)
 
 -- what passes them
 pub record OwnPassed (s : Session) (t room : ℕ) : Type 0 where

@@ -1,3 +1,2 @@
 pub mod Fit
-pub mod Plan
-pub mod Reads
+pub mod Played

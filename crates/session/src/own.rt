@@ -1,16 +1,16 @@
 // The venue's own messages: their refusals, in their order.
 use crate::Gate;
-use crate::Record;
 use crate::Refusal;
-use crate::changes::in_range;
-use crate::changes::is_string;
 use crate::gates::is_active;
 use crate::gates::is_spent;
+use moves::Record;
+use moves::in_range;
+use moves::is_string;
 ghost use mathlib.Core.Path.{_≡_};
-ghost use Rattle.session.specs.Words.{first};
+ghost use Rattle.moves.specs.Words.{first};
 ghost use Rattle.session.specs.Calls.{unsendable, testID};
-ghost use Rattle.session.specs.Held.{sessionOf};
-ghost use Rattle.session.specs.code.Plan.{shut};
+ghost use Rattle.moves.specs.Held.{sessionOf};
+ghost use Rattle.session.specs.code.Played.{shut};
 
 // 11, 7, 6, 2 outside Active, 5.
 pub fn own_gate(r: Record, time: u64, room: usize) -> Gate

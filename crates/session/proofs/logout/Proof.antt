@@ -3,7 +3,7 @@ use borrow.Author.Needs.{needs}
 use native.Mathlib.Omega.{arith}
 use mathlib.Core.List.{[]}
 use lib.ListN.{length}
-use Rattle.session.specs.Held.{sessionOf}
+use Rattle.moves.specs.Held.{sessionOf}
 use Rattle.session.specs.Calls.{unsendable, logout}
 use Rattle.session.proofs.Stepping.{ample}
 use Rattle.session.proofs.Playing.{plan-fits, plan-makes}

@@ -3,7 +3,7 @@ use borrow.Author.Needs.{needs}
 use native.Mathlib.Omega.{arith}
 use mathlib.Core.Path.{sym, _∙_}
 use borrow.Author.Tests.{not-false}
-use Rattle.session.specs.Held.{sessionOf}
+use Rattle.moves.specs.Held.{sessionOf}
 use Rattle.session.proofs.Stepping.{ample}
 use Rattle.session.proofs.Playing.{plan-fits, plan-makes}
 use Rattle.session.proofs.Venue.{sends-by, ready-to, test-shut, test-8, test-made, asked, asked-plan, asked-fit}

@@ -1,0 +1,8 @@
+pub mod Words
+pub mod Readings
+pub mod Ranges
+pub mod Types
+pub mod Numbering
+pub mod Deciding
+pub mod Choosing
+pub mod EachRule

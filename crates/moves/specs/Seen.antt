@@ -1,0 +1,48 @@
+-- What is seen of a frame's body: a field's value, its number, its type, the verdict.
+use Prim.Native.Nat.{ℕ}
+use mathlib.Core.Option.{Option, none, some}
+use mathlib.Core.Bool.{Bool, true, false, _&&_}
+use Rattle.frame.specs.Bytes.{Bytes, same, within, value}
+use Rattle.kinds.specs.Kind.{isNumber}
+use Rattle.dictionary.specs.declared.MsgType.{MsgType}
+use Rattle.dictionary.specs.Dictionary.{code35}
+use Rattle.dictionary.specs.declared.Verdict.{Verdict}
+use Rattle.dictionary.specs.declared.Verdict.the-variants.{Clean, Finding, NoBody}
+use Rattle.writer.specs.Message.{Value, absent, bytes}
+use Rattle.moves.specs.Words.{_when_}
+
+-- a field is there, and its value is w
+abbrev pub isIt : Bytes → Option Bytes → Bool
+isIt w none = false
+isIt w (some v) = same v w
+
+-- it, repeated in a reply
+abbrev pub repeated : Option Bytes → Value
+repeated none = absent
+repeated (some v) = bytes v
+
+-- its number, if it is one from a to b
+abbrev pub numberIn : ℕ → ℕ → Option Bytes → Option ℕ
+numberIn a b none = none
+numberIn a b (some v) = value v when (isNumber v && within a b (value v))
+
+-- what stands behind `35=` for one of the nine types
+abbrev pub codeOf : Option MsgType → Option Bytes
+codeOf none = none
+codeOf (some m) = some (code35 m)
+
+-- the verdict (NoBody is not met: the body of a good frame is a body)
+abbrev pub reasonOf : Verdict → ℕ
+reasonOf Clean = 0
+reasonOf (Finding reason tag) = reason
+reasonOf NoBody = 0
+
+abbrev pub tagOf : Verdict → ℕ
+tagOf Clean = 0
+tagOf (Finding reason tag) = tag
+tagOf NoBody = 0
+
+abbrev pub isClean : Verdict → Bool
+isClean Clean = true
+isClean (Finding reason tag) = false
+isClean NoBody = false

@@ -1,0 +1,53 @@
+-- The record of a session and its ranges.
+use Prim.Native.Nat.{ℕ}
+use mathlib.Core.Bool.{Bool, not, _&&_}
+use lib.ListN.{length}
+use Rattle.frame.specs.Bytes.{Bytes, byte, has, within}
+use Rattle.moves.specs.Words.{_=?_}
+use Rattle.moves.specs.declared.record.Status.{Status}
+use Rattle.moves.specs.declared.record.Status.the-variants.{Waiting, Active, Closed}
+
+-- "status Waiting, Active or Closed"
+abbrev pub code : Status → ℕ
+code Waiting = 0
+code Active = 1
+code Closed = 2
+
+infix 80 _==_
+abbrev pub _==_ : Status → Status → Bool
+_==_ a b = code a =? code b
+
+-- "The record holds CompIDs .., status .., expected number E, next number out, heartbeat seconds and time last sent."
+pub record Session : Type 0 where
+  pub ours : Bytes
+  pub peers : Bytes
+  pub status : Status
+  pub E : ℕ
+  pub next : ℕ
+  pub heartbeat : ℕ
+  pub sent : ℕ
+
+-- every change of the record is made here: the CompIDs stay
+abbrev pub changed : Session → Status → ℕ → ℕ → ℕ → ℕ → Session
+changed s st e n h t = record { ours = s .ours; peers = s .peers; status = st; E = e; next = n; heartbeat = h; sent = t }
+
+abbrev pub turned : Status → Session → Session
+turned st s = changed s st (s .E) (s .next) (s .heartbeat) (s .sent)
+
+-- "A new session starts Waiting with both numbers 1, heartbeat 30, last sent 0."
+abbrev pub fresh : Bytes → Bytes → Session
+fresh us them = record { ours = us; peers = them; status = Waiting; E = 1; next = 1; heartbeat = 30; sent = 0 }
+
+-- "strings of 1 to .. bytes, none `|`"
+abbrev pub stringTo : ℕ → Bytes → Bool
+stringTo most v = within 1 most (length v) && not (has v (byte "|"))
+
+-- "CompIDs (1 to 11 bytes, no `|`)"; "numbers 1 to 999,999,999, heartbeat 1 to 60"
+unfoldable pub compID : Bytes → Bool
+compID c = stringTo 11 c
+
+abbrev pub numbered : ℕ → Bool
+numbered n = within 1 999_999_999 n
+
+unfoldable pub inRange : Session → Bool
+inRange s = compID (s .ours) && compID (s .peers) && numbered (s .E) && numbered (s .next) && within 1 60 (s .heartbeat)

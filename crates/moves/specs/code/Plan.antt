@@ -1,0 +1,153 @@
+-- The moves as the code decides them. Only the code needs these: nothing here states document 01.
+use Prim.Native.Nat.{ℕ, _+_, _≤_, min}
+use mathlib.Core.List.{List, [], _∷_, _++_}
+use mathlib.Core.Option.{Option, none, some}
+use mathlib.Core.Bool.{Bool, true, false, cond, not, _&&_}
+use lib.Dec.{eqb, ltb}
+use Rattle.frame.specs.Bytes.{Bytes, fix}
+use Rattle.fields.specs.Field.{firstField}
+use Rattle.dictionary.specs.declared.MsgType.{MsgType}
+use Rattle.dictionary.specs.declared.MsgType.the-variants as MsgType
+use Rattle.dictionary.specs.declared.Verdict.{Verdict}
+use Rattle.dictionary.specs.Verdict.{msgType}
+use Rattle.writer.specs.Message.{absent}
+use Rattle.writer.specs.Reply.{optional}
+use Rattle.moves.specs.Words.{first, _otherwise_}
+use Rattle.moves.specs.Session.{Session}
+use Rattle.moves.specs.Seen.{isIt, repeated, numberIn, codeOf, reasonOf, tagOf}
+use Rattle.moves.specs.Moves as Words
+use Rattle.moves.specs.Moves.{Deed, Deeds, Write, Resend, E-becomes, Next-becomes, Heartbeat-becomes, Becomes, _holds_, b, e, L}
+use Rattle.moves.specs.declared.record.Record.{Record}
+use Rattle.moves.specs.declared.record.Status.{Status}
+use Rattle.moves.specs.declared.record.Status.the-variants.{Active, Closed}
+use Rattle.moves.specs.declared.plan.Plan.{Plan}
+use Rattle.moves.specs.declared.plan.Letter.{Letter}
+use Rattle.moves.specs.declared.plan.Letter.the-variants.{Nothing, Heartbeat, Echo, Logon, Ask, Reject, Fill, Logout, Test}
+
+-- E + 1, or not
+abbrev pub raised : Bool → ℕ → ℕ
+raised c e = cond c (e + 1) e
+
+-- WHAT DEEDS COME TO: whether the frame is delivered, the messages with their numbers, and the record but for its last sent
+pub record Sum : Type 0 where
+  pub delivered : Bool
+  pub letters : List (ℕ × Words.Letter)
+  pub status : Status
+  pub E : ℕ
+  pub next : ℕ
+  pub heartbeat : ℕ
+
+abbrev pub adding : Sum → Deed → Sum
+adding a (Write l) = record { delivered = a .delivered; letters = a .letters ++ ((a .next, l) ∷ []); status = a .status; E = a .E; next = a .next + 1; heartbeat = a .heartbeat }
+adding a (Resend n l) = record { delivered = a .delivered; letters = a .letters ++ ((n, l) ∷ []); status = a .status; E = a .E; next = a .next; heartbeat = a .heartbeat }
+adding a (E-becomes n) = record { delivered = a .delivered; letters = a .letters; status = a .status; E = n; next = a .next; heartbeat = a .heartbeat }
+adding a (Next-becomes n) = record { delivered = a .delivered; letters = a .letters; status = a .status; E = a .E; next = n; heartbeat = a .heartbeat }
+adding a (Heartbeat-becomes n) = record { delivered = a .delivered; letters = a .letters; status = a .status; E = a .E; next = a .next; heartbeat = n }
+adding a (Becomes st) = record { delivered = a .delivered; letters = a .letters; status = st; E = a .E; next = a .next; heartbeat = a .heartbeat }
+adding a Words.Deliver = record { delivered = true; letters = a .letters; status = a .status; E = a .E; next = a .next; heartbeat = a .heartbeat }
+
+abbrev pub adds : Sum → Deeds → Sum
+adds a [] = a
+adds a (d ∷ ds) = adds (adding a d) ds
+
+abbrev pub summed : Session → Deeds → Sum
+summed s ds = adds (record { delivered = false; letters = []; status = s .status; E = s .E; next = s .next; heartbeat = s .heartbeat }) ds
+
+-- A PLAN: a message of the code's in the words of the moves, with its number; by the body that came, or by the 112 that a Test Request is to have
+abbrev pub lettersOf : Bytes → ℕ → Letter → List (ℕ × Words.Letter)
+lettersOf body n Nothing = []
+lettersOf body n Heartbeat = (n, Words.Heartbeat absent) ∷ []
+lettersOf body n Echo = (n, Words.Heartbeat (repeated (firstField 112 body))) ∷ []
+lettersOf body n (Logon anew) = (cond anew 1 n, Words.Logon (repeated (firstField 98 body)) (repeated (firstField 108 body)) (repeated (firstField 1137 body)) (optional anew (fix "Y"))) ∷ []
+lettersOf body n (Ask from) = (n, Words.ResendRequest from) ∷ []
+lettersOf body n (Reject reason tag) = (n, Words.Reject (numberIn 1 999_999_999 (firstField 34 body) otherwise 0) tag (repeated (codeOf (msgType body))) reason) ∷ []
+lettersOf body n (Fill begin new) = (begin, Words.GapFill new) ∷ []
+lettersOf body n (Logout why) = (n, Words.Logout why) ∷ []
+lettersOf id n Test = (n, Words.TestRequest id) ∷ []
+
+-- the next number out behind it
+abbrev pub behind : ℕ → Letter → ℕ
+behind n Nothing = n
+behind n Heartbeat = n + 1
+behind n Echo = n + 1
+behind n (Logon anew) = cond anew 2 (n + 1)
+behind n (Ask from) = n + 1
+behind n (Reject reason tag) = n + 1
+behind n (Fill begin new) = n
+behind n (Logout why) = n + 1
+behind n Test = n + 1
+
+abbrev pub planned : Bytes → Session → Plan → Sum
+planned body s p =
+    record { delivered = p .delivered; letters = lettersOf body (s .next) (p .first) ++ lettersOf body (behind (s .next) (p .first)) (p .second); status = p .status; E = p .expected; next = behind (behind (s .next) (p .first)) (p .second); heartbeat = p .heartbeat }
+
+abbrev pub isNothing : Letter → Bool
+isNothing Nothing = true
+isNothing Heartbeat = false
+isNothing Echo = false
+isNothing (Logon anew) = false
+isNothing (Ask from) = false
+isNothing (Reject reason tag) = false
+isNothing (Fill begin new) = false
+isNothing (Logout why) = false
+isNothing Test = false
+
+-- the plans that the rules make on a session
+abbrev pub says : Session → Letter → Letter → Plan
+says s a b = record { delivered = false; first = a; second = b; status = s .status; expected = s .E; heartbeat = s .heartbeat }
+
+abbrev pub counts : Session → Letter → Plan
+counts s a = record { delivered = false; first = a; second = Nothing; status = s .status; expected = s .E + 1; heartbeat = s .heartbeat }
+
+abbrev pub expects : Session → ℕ → Plan
+expects s n = record { delivered = false; first = Nothing; second = Nothing; status = s .status; expected = n; heartbeat = s .heartbeat }
+
+abbrev pub closes : Session → Letter → Letter → ℕ → Plan
+closes s a b n = record { delivered = false; first = a; second = b; status = Closed; expected = n; heartbeat = s .heartbeat }
+
+abbrev pub delivers : Session → Plan
+delivers s = record { delivered = true; first = Nothing; second = Nothing; status = s .status; expected = s .E + 1; heartbeat = s .heartbeat }
+
+abbrev pub accepts : Bool → Letter → ℕ → ℕ → Plan
+accepts anew b n seconds = record { delivered = false; first = Logon anew; second = b; status = Active; expected = n; heartbeat = seconds }
+
+module _ (s : Session) (body : Bytes) where
+  -- the tag of the CompID that is wrong, or 0
+  abbrev pub strangeTag : ℕ
+  strangeTag = cond (_holds_ s body 49 (s .peers)) (cond (_holds_ s body 56 (s .ours)) 0 56) 49
+
+  -- the tag for which a Resend Request is rejected, or 0
+  unfoldable pub unservedTag : ℕ
+  unservedTag = cond (ltb (L s body) (b s body)) 7 (cond (ltb 0 (e s body) && ltb (e s body) (b s body)) 16 0)
+
+  -- the number to which a gap fill goes
+  unfoldable pub fillTo : ℕ
+  fillTo = cond (eqb (e s body) 0) (L s body) (min (e s body) (L s body)) + 1
+
+-- the first byte of a type's code, the last of AD's, or 0
+abbrev pub typeByte : Option MsgType → ℕ
+typeByte none = 0
+typeByte (some MsgType.Heartbeat) = 48
+typeByte (some MsgType.TestRequest) = 49
+typeByte (some MsgType.ResendRequest) = 50
+typeByte (some MsgType.Reject) = 51
+typeByte (some MsgType.SequenceReset) = 52
+typeByte (some MsgType.Logout) = 53
+typeByte (some MsgType.Logon) = 65
+typeByte (some MsgType.OrderCancelRequest) = 70
+typeByte (some MsgType.TradeCaptureReportRequest) = 68
+
+unfoldable pub isBareReset : Bytes → Bool
+isBareReset body = isIt (fix "4") (codeOf (msgType body)) && not (isIt (fix "Y") (firstField 123 body))
+
+abbrev pub rejectedBy : Verdict → Letter
+rejectedBy v = Reject (reasonOf v) (tagOf v)
+
+-- what a record has when it comes to the moves
+pub record Ready (r : Record) : Type 0 where
+  pub ours : r .oursLen ≤ 11
+  pub peer : r .peerLen ≤ 11
+  pub low : 1 ≤ r .expected
+  pub expected : r .expected ≤ 999_999_990
+  pub first : 1 ≤ r .next
+  pub next : r .next ≤ 999_999_990

@@ -1,0 +1,136 @@
+// The record of a session, its ranges and its changes.
+ghost use mathlib.Core.Path.{_≡_};
+ghost use Rattle.frame.specs.Bytes.{has};
+ghost use Rattle.moves.specs.Session.{changed, turned, stringTo, compID, numbered, inRange};
+ghost use Rattle.moves.specs.Held.{sessionOf, held, with};
+
+// Waiting for a logon, active, or closed.
+pub enum Status {
+    Waiting,
+    Active,
+    Closed,
+}
+
+// The record of a session. Each CompID is the first bytes of an array, as many as its length says.
+pub struct Record {
+    pub ours: [u8; 11],
+    pub oursLen: usize,
+    pub peer: [u8; 11],
+    pub peerLen: usize,
+    pub status: Status,
+    // The number that the peer's next message should have.
+    pub expected: u64,
+    // The number that our next message will have.
+    pub next: u64,
+    // The heartbeat's seconds.
+    pub heartbeat: u64,
+    // When the last message was sent, in microseconds since 1970.
+    pub sent: u64,
+}
+
+fn has_bar(s: &[u8]) -> bool
+    ensures { λ r. ⌜ r ≡ has (now (s .entry)) 1 ⌝ }
+{
+    let mut i = 0;
+    while i < s.len() {
+        if s[i] == 1 {
+            return true;
+        }
+        i += 1;
+    }
+    false
+}
+
+// Whether bytes are a string: 1 to so many, none of them `|`.
+pub fn is_string(s: &[u8], most: usize) -> bool
+    ensures { λ r. ⌜ r ≡ stringTo most (now (s .entry)) ⌝ }
+{
+    if s.len() < 1 {
+        return false;
+    }
+    if most < s.len() {
+        return false;
+    }
+    !has_bar(s)
+}
+
+pub fn is_comp_id(c: &[u8]) -> bool
+    ensures { λ r. ⌜ r ≡ compID (now (c .entry)) ⌝ }
+{
+    is_string(c, 11)
+}
+
+// Whether the first n of eleven bytes are a CompID.
+fn holds_comp_id(c: [u8; 11], n: usize) -> bool
+    ensures { λ r. ⌜ r ≡ compID (held n c) ⌝ }
+{
+    if 11 < n {
+        return false;
+    }
+    is_comp_id(&c[..n])
+}
+
+// Whether a record keeps its ranges: the CompIDs, the numbers 1 to 999,999,999, the heartbeat 1 to 60.
+pub fn in_range(r: Record) -> bool
+    ensures { λ b. ⌜ b ≡ inRange (sessionOf r) ⌝ }
+{
+    let ours = r.ours;
+    if !holds_comp_id(ours, r.oursLen) {
+        return false;
+    }
+    let peer = r.peer;
+    if !holds_comp_id(peer, r.peerLen) {
+        return false;
+    }
+    if !is_numbered(r.expected) {
+        return false;
+    }
+    if !is_numbered(r.next) {
+        return false;
+    }
+    if r.heartbeat < 1 {
+        return false;
+    }
+    r.heartbeat <= 60
+}
+
+fn is_numbered(n: u64) -> bool
+    ensures { λ b. ⌜ b ≡ numbered n ⌝ }
+{
+    if n < 1 {
+        return false;
+    }
+    n <= 999_999_999
+}
+
+// Every change of a record is made here: the CompIDs stay.
+pub fn changed(
+    r: Record,
+    status: Status,
+    expected: u64,
+    next: u64,
+    heartbeat: u64,
+    sent: u64,
+) -> Record
+    ensures { λ n. ⌜ n ≡ with r (changed (sessionOf r) status expected next heartbeat sent) ⌝ }
+{
+    let ours = r.ours;
+    let peer = r.peer;
+    Record {
+        ours,
+        oursLen: r.oursLen,
+        peer,
+        peerLen: r.peerLen,
+        status,
+        expected,
+        next,
+        heartbeat,
+        sent,
+    }
+}
+
+pub fn turned(r: Record, status: Status) -> Record
+    ensures { λ n. ⌜ n ≡ with r (turned status (sessionOf r)) ⌝ }
+{
+    changed(r, status, r.expected, r.next, r.heartbeat, r.sent)
+}
