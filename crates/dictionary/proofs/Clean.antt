@@ -21,7 +21,7 @@ use Rattle.dictionary.specs.declared.Says.the-variants.{Nothing, Reason}
 use Rattle.dictionary.specs.declared.Verdict.{Verdict}
 use Rattle.dictionary.specs.declared.Verdict.the-variants.{Clean, NoBody}
 use Rattle.dictionary.specs.Promise.{OfKind, required, Passed, PassedPart, AllPassed, CleanBody}
-use Rattle.dictionary.specs.code.Held.{tags}
+use Rattle.dictionary.specs.code.Held.{allRows, tags}
 use Rattle.frame.proofs.Numerals.{within-is}
 use Rattle.frame.proofs.Tests.{both}
 use Rattle.dictionary.proofs.Lists.{all-nine}
@@ -224,7 +224,7 @@ listed-tag (x ∷ l) t h k = let w = both (within 1 99_999 x) (all (within 1 99_
     go false e k f g = f k
 
 known-tagged : (t : ℕ) → inDictionary t ≡ true → within 1 99_999 t ≡ true
-unfolding tags
+unfolding allRows tags header fields №453 №580
 known-tagged t h = listed-tag tags t refl (go (has tags t) refl)
   where
     go : (b : Bool) → has tags t ≡ b → b ≡ true

@@ -28,7 +28,7 @@ unfolding rule4
 rule4-some t v e = rw (ne-eqb (length v) 0 e)
 
 -- rule 5: a bit of the entry as the code reads it, b, and what it means
-module _ {m : MsgType} {e : Entry} {seen b : Bool} (R : Right e) (p : b ≡ bitOf (e .marks) 10) where
+module _ {m : MsgType} {e : Entry} {seen b : Bool} (R : Right e) (p : b ≡ bitOf (e .marks) 29) where
   pub rule5-frame : b ≡ true → Rule5 m (e .tag) seen (Reason 13 (e .tag))
   unfolding rule5
   rule5-frame q = record { is = λ s h. rw (sym (R .in-frame) ∙ sym p ∙ q) }
@@ -66,7 +66,7 @@ module _ (m : MsgType) {e : Entry} {b : Bool} (R : Right e) (p : b ≡ bitOf (e 
     rule6-not h = rw (listed-rows m (e .tag), sym (R .outside-in m) ∙ sym p ∙ q, sym (R .member-in m) ∙ sym k ∙ h)
 
 -- rule 7
-module _ {e : Entry} {over b : Bool} (R : Right e) (p : b ≡ bitOf (e .marks) 9) where
+module _ {e : Entry} {over b : Bool} (R : Right e) (p : b ≡ bitOf (e .marks) 28) where
   pub rule7-late : b ≡ true → over ≡ true → Rule7 (e .tag) over (Reason 14 (e .tag))
   unfolding rule7
   rule7-late q o = record { is = λ s h. rw (sym (R .in-header) ∙ sym p ∙ q, sym h ∙ o) }

@@ -1,77 +1,97 @@
--- The required tags of a list that are not marked.
-use Prim.Native.Nat.{ℕ, suc, _+_, _-_, _≤_, _<_}
+-- The required tags of some rows that are not marked.
+use Prim.Native.Nat.{ℕ, zero, suc, _+_, _-_, _%_, _≤_, _<_}
 use native.Mathlib.Numerals.{add-one}
 use native.Mathlib.Omega.{arith}
-use borrow.Author.Tests.{ltb-true}
-use mathlib.Core.Path.{_≡_, refl, ap, sym, _∙_}
+use borrow.Author.Tests.{eqb-true, ltb-true}
+use mathlib.Core.Path.{_≡_, refl, ap, sym, subst, _∙_}
 use mathlib.Core.List.{List, [], _∷_}
-use mathlib.Core.Bool.{Bool, true, false, cond, not, _&&_}
-use lib.Dec.{eqb, ltb}
-use lib.ListN.{getD}
+use mathlib.Core.Bool.{Bool, true, false, cond, not, _&&_, false≢true}
+use lib.Dec.{eqb, leb, ltb}
+use lib.ListN.{length, getD}
 use lib.Seq.{drop-cons}
-use Rattle.frame.specs.Bytes.{has, same}
-use Rattle.kinds.proofs.Values.{same-true}
-use Rattle.dictionary.specs.Dictionary.{Row}
+use Rattle.frame.specs.Bytes.{has}
+use Rattle.frame.proofs.Tests.{both}
+use Rattle.kinds.specs.Kind.{day}
+use Rattle.dictionary.specs.Dictionary.{Row, №453, №580, header, fields}
 use Rattle.dictionary.specs.Verdict.{missing}
-use Rattle.dictionary.specs.code.Held.{tags, tagAt, needed, rowsFor, membersOf, membersSpan, spanOf, tagsIn, tagsFor, Required, Marked}
+use Rattle.dictionary.specs.code.Held.{agree, tagAt, allRows, rowsIn, rightRow, rightRows, InRows, lackedBy, Lacking, Missing, Marked}
 use Rattle.dictionary.specs.declared.Says.{Says}
 use Rattle.dictionary.specs.declared.Says.the-variants.{Nothing, Reason}
-use Rattle.dictionary.specs.declared.table.Rows.{Rows}
-use Rattle.dictionary.specs.declared.table.Rows.the-variants.{Header, Own, Members}
-use Rattle.dictionary.proofs.Lists.{all-nine}
-use Rattle.frame.proofs.Tests.{all-at}
+use Rattle.dictionary.proofs.Lists.{agree-true}
 
--- the first of some tags that was not met
-abbrev pub lacking : List ℕ → List ℕ → Says
-lacking [] met = Nothing
-lacking (t ∷ ts) met = cond (has met t) (lacking ts met) (Reason 1 t)
+row-at : (d : ℕ) (r : Row) (l : List ℕ) (rs : List Row) → rightRows l rs ≡ true → (k : ℕ) → k < length l → rightRow (getD l k d) (getD rs k r) ≡ true
+row-at d r [] rs h k n = absurd (omega arith)
+row-at d r (x ∷ l) [] h k n = absurd (false≢true h)
+row-at d r (x ∷ l) (y ∷ rs) h zero n = both (rightRow x y) (rightRows l rs) h .0
+row-at d r (x ∷ l) (y ∷ rs) h (suc k) n = row-at d r l rs (both (rightRow x y) (rightRows l rs) h .1) k (omega arith)
 
-pub missing-lacking : (rows : List Row) (met : List ℕ) → missing rows met ≡ lacking (needed rows) met
-missing-lacking [] met = refl
-missing-lacking (r ∷ rs) met = go (r .required) (has met (r .tag)) refl (missing-lacking rs met)
-  where
-    go : (q s : Bool) → has met (r .tag) ≡ s → missing rs met ≡ lacking (needed rs) met
-        → cond (q && not s) (Reason 1 (r .tag)) (missing rs met) ≡ lacking (cond q (r .tag ∷ needed rs) (needed rs)) met
-    go true true e ih = rw e ih
-    go true false e ih = rw e
-    go false s e ih = ih
+all-long : length allRows ≡ 48
+unfolding allRows header fields №453 №580
+all-long = refl
 
--- each list's part of the constant
-pub part-is : (l : List ℕ) → Required l → (rows : Rows) → tagsFor l (spanOf rows) ≡ needed (rowsFor rows)
-part-is l R Header = R .head
-part-is l R (Own m) = same-true _ _ (all-nine (λ k. same (tagsFor l (spanOf (Own k))) (needed (rowsFor (Own k)))) (R .own) m)
-part-is l R (Members g) = go (eqb g 453)
-  where
-    go : (b : Bool) → tagsFor l (membersSpan b) ≡ needed (membersOf b)
-    go true = R .parties
-    go false = R .dates
+-- one row further, or a tag that was not met
+module _ (l : List ℕ) (R : InRows l) (d k e : ℕ) (h : k < e) (w : e ≤ 48) where
+  none : Row
+  none = record { tag = 0; kind = day; required = false }
 
--- one tag further, or a tag that was not met
-module _ (l : List ℕ) (R : Required l) (d k e : ℕ) (h : k < e) (w : e ≤ 28) where
-  rest : tagsIn l k e ≡ tagAt (getD l k d) ∷ tagsIn l (k + 1) e
+  at : Row
+  at = getD allRows k none
+
+  rest : rowsIn k e ≡ at ∷ rowsIn (k + 1) e
+  unfolding at
   rest =
       let f : e - k ≡ suc (e - (k + 1)) = omega arith in
-      rw (drop-cons l k d (omega (arith, R .long)), f, add-one)
+      rw (drop-cons allRows k none (omega (arith, all-long)), f, add-one)
 
-  pub place-small : getD l k d < 44
-  place-small = ltb-true _ 44 (all-at (λ p. ltb p 44) d l (R .places) k (omega (arith, R .long)))
+  right : rightRow (getD l k d) at ≡ true
+  unfolding at
+  right = row-at d none l allRows (R .rows) k (omega (arith, R .long))
+
+  place : ℕ
+  place = getD l k d % 128
+
+  two : (ltb place 44 ≡ true) × (eqb (tagAt place) (at .tag) ≡ true)
+  unfolding place
+  two = let b = both (agree (leb 128 (getD l k d)) (at .required)) _ right .1 in
+        let c = both (ltb (getD l k d % 128) 44) _ b in
+        (c .0, c .1)
+
+  pub place-small : getD l k d % 128 < 44
+  unfolding place
+  place-small = ltb-true _ 44 (two .0)
 
   module _ (marks : List Bool) (met : List ℕ) (M : Marked marks met) where
-    mark-is : getD marks (getD l k d) false ≡ has met (tagAt (getD l k d))
-    mark-is = M .at (getD l k d) place-small
+    lacks-is : lackedBy marks (getD l k d) ≡ (at .required && not (has met (at .tag)))
+    unfolding place
+    lacks-is =
+        let a = agree-true (leb 128 (getD l k d)) (at .required) (both (agree (leb 128 (getD l k d)) (at .required)) _ right .0) in
+        let b = M .at (getD l k d % 128) place-small ∙ ap (has met) (eqb-true (tagAt place) (at .tag) (two .1)) in
+        rw (a, b)
 
-    pub needed-met : getD marks (getD l k d) false ≡ true → lacking (tagsIn l k e) met ≡ lacking (tagsIn l (k + 1) e) met
-    needed-met f = rw (rest, sym mark-is ∙ f)
+    pub needed-met : lackedBy marks (getD l k d) ≡ false → missing (rowsIn k e) met ≡ missing (rowsIn (k + 1) e) met
+    needed-met f = rw (rest, sym lacks-is ∙ f)
 
-    pub needed-not : getD marks (getD l k d) false ≡ false → lacking (tagsIn l k e) met ≡ Reason 1 (tagAt (getD l k d))
-    needed-not f = rw (rest, sym mark-is ∙ f)
+    pub needed-not : lackedBy marks (getD l k d) ≡ true → missing (rowsIn k e) met ≡ Reason 1 (tagAt (getD l k d % 128))
+    unfolding place
+    needed-not f = rw (rest, sym lacks-is ∙ f, eqb-true (tagAt place) (at .tag) (two .1))
 
--- at the end of the part, and before it
-pub none-left : (l : List ℕ) (k e : ℕ) (met : List ℕ) → e ≤ k → lacking (tagsIn l k e) met ≡ Nothing
-none-left l k e met h =
+-- at the end of the rows
+pub none-left : (k e : ℕ) (met : List ℕ) → e ≤ k → missing (rowsIn k e) met ≡ Nothing
+none-left k e met h =
     let f : e - k ≡ 0 = omega arith in
     rw f
 
-pub all-missing : (l : List ℕ) → Required l → (rows : Rows) (a e : ℕ) (met : List ℕ) → a ≡ spanOf rows .from → e ≡ spanOf rows .to
-    → missing (rowsFor rows) met ≡ lacking (tagsIn l a e) met
-all-missing l R rows a e met p q = missing-lacking (rowsFor rows) met ∙ ap (λ (x : List ℕ). lacking x met) (sym (part-is l R rows)) ∙ rw (p, q)
+-- what is said of the place that was found
+module _ {marks : List Bool} {rows : List Row} {p : ℕ} (L : Lacking marks rows p) where
+  pub lacks-nothing : p ≡ 44 → Missing marks rows Nothing
+  lacks-nothing e = record { is = λ met M. sym (L .nothing e met M) }
+
+  pub lacks-small : (p ≡ 44 → ⊥) → p < 44
+  lacks-small n = omega (arith, L .within)
+
+  pub lacks-one : {s : Says} → (p ≡ 44 → ⊥) → s ≡ Reason 1 (tagAt p) → Missing marks rows s
+  lacks-one n e = record { is = λ met M. e ∙ sym (L .first (lacks-small n) met M) }
+
+  -- the same rows by another name
+  pub lacks-same : {others : List Row} → rows ≡ others → Lacking marks others p
+  lacks-same e = subst (λ (l : List Row). Lacking marks l p) e L

@@ -10,9 +10,10 @@ use lib.Dec.{eqb}
 use lib.ListN.{length, getD, drop, length-map}
 use Rattle.frame.specs.Bytes.{Bytes, any, all, has, same}
 use Rattle.kinds.specs.Kind.{Kind, text, number_to_, Y/N, time, day, among}
+use Rattle.kinds.specs.Judged.{meaning}
 use Rattle.kinds.proofs.Values.{same-true}
-use Rattle.dictionary.specs.Dictionary.{Group, №453, №580, groups, theNine, header, fields, listed, member, rowsOf, frameTag}
-use Rattle.dictionary.specs.code.Held.{tags, tagAt, Placed, index, bitOf, written, sameAll, agree, rightIn, rightOf, right, entryOf, Table, Two, Right, Looked}
+use Rattle.dictionary.specs.Dictionary.{Group, №453, №580, groups, theNine, header, fields, listed, kindIn, member, rowsOf, frameTag}
+use Rattle.dictionary.specs.code.Held.{allRows, tags, tagAt, Placed, index, bitOf, isNumeric, kindFor, written, sameAll, agree, rightIn, rightOf, right, entryOf, Table, Two, Right, Looked}
 use Rattle.dictionary.specs.declared.MsgType.{MsgType}
 use Rattle.dictionary.specs.declared.table.Entry.{Entry}
 use Rattle.dictionary.specs.declared.table.Line.{Line}
@@ -20,7 +21,7 @@ use Rattle.dictionary.proofs.Lists.{agree-true, all-nine}
 use Rattle.frame.proofs.Tests.{both, all-at, map-at, has-next}
 
 pub tags-long : length tags ≡ 44
-unfolding tags
+unfolding allRows tags header fields №453 №580
 tags-long = refl
 
 pub entry-tag : (t : List Line) (d : Line) (i : ℕ) → Table t → i < 44 → getD t i d .0 ≡ tagAt i
@@ -37,7 +38,7 @@ place-next t d i x T h n =
     has-next tags i x (omega (arith, tags-long)) (λ e. n (entry-tag t d i T h ∙ e))
 
 pub place-none : (i x : ℕ) → i ≡ 44 → has tags x ≡ has (drop i tags) x → Placed x i
-unfolding tags
+unfolding allRows tags header fields №453 №580
 place-none i x e h = record { within = omega arith; there = λ k. absurd (omega arith); absent = λ k. h ∙ ap (λ (n : ℕ). has (drop n tags) x) e }
 
 -- no two places have the same tag
@@ -56,7 +57,7 @@ in-place-at i (x ∷ l) h zero n = eqb-true (placeIn tags x) i (both (eqb (place
 in-place-at i (x ∷ l) h (suc k) n = in-place-at (1 + i) l (both (eqb (placeIn tags x) i) _ h .1) k (omega arith) ∙ omega arith
 
 in-place : inPlace 0 tags ≡ true
-unfolding inPlace placeIn tags
+unfolding inPlace placeIn allRows tags header fields №453 №580
 in-place = refl
 
 back : (p : ℕ) → p < 44 → placeIn tags (tagAt p) ≡ p
@@ -107,24 +108,44 @@ unfolding right
 in-groups e h g (inl x) = rw x (both (rightOf e №453) _ (both (all (rightOf e) groups) _ (both (all (rightIn e) theNine) _ h .1) .0) .0)
 in-groups e h g (inr x) = rw x (both (rightOf e №580) _ (both (rightOf e №453) _ (both (all (rightOf e) groups) _ (both (all (rightIn e) theNine) _ h .1) .0) .1) .0)
 
+module _ (e : Entry) (h : right e ≡ true) (m : MsgType) where
+  out : Bool
+  out = agree (bitOf (e .marks) (index m)) (listed (header ++ fields m) (e .tag))
+
+  mem : Bool
+  mem = agree (bitOf (e .member .marks) (index m)) (member m (e .tag))
+
+  kin : Bool
+  kin = not (listed (rowsOf m) (e .tag)) || sameAll (written (meaning (kindFor m (e .kind)))) (written (kindIn (rowsOf m) (e .tag)))
+
+  num : Bool
+  num = not (bitOf (e .marks) 30) || isNumeric (meaning (kindFor m (e .kind)))
+
+  four : (out ≡ true) × (mem ≡ true) × (kin ≡ true) × (num ≡ true)
+  unfolding rightIn out mem kin num
+  four =
+      let a = both out _ (in-message e h m) in
+      let b = both mem _ (a .1) in
+      let c = both kin num (b .1) in
+      (a .0, b .0, c .0, c .1)
+
 right-is : (e : Entry) → right e ≡ true → Right e
-unfolding right rightIn rightOf
+unfolding right rightOf out mem kin num
 right-is e h =
-    let i = in-message e h in
     let g = in-groups e h in
     let h2 = both (all (rightOf e) groups) _ (both (all (rightIn e) theNine) _ h .1) .1 in
-    let h3 = both (agree (bitOf (e .marks) 9) (listed header (e .tag))) _ h2 .1 in
-    let h4 = both (agree (bitOf (e .marks) 10) (frameTag (e .tag))) _ h3 .1 in
+    let h3 = both (agree (bitOf (e .marks) 28) (listed header (e .tag))) _ h2 .1 in
+    let h4 = both (agree (bitOf (e .marks) 29) (frameTag (e .tag))) _ h3 .1 in
     record {
-      outside-in = λ m. agree-true _ _ (both (agree (bitOf (e .marks) (index m)) (listed (header ++ fields m) (e .tag))) _ (i m) .0);
-      member-in = λ m. agree-true _ _ (both (agree (bitOf (e .member .marks) (index m)) (member m (e .tag))) _ (both (agree (bitOf (e .marks) (index m)) (listed (header ++ fields m) (e .tag))) _ (i m) .1) .0);
-      kind-in = λ m l. same-kind _ _ (or-not (listed (rowsOf m) (e .tag)) _ (both (agree (bitOf (e .member .marks) (index m)) (member m (e .tag))) _ (both (agree (bitOf (e .marks) (index m)) (listed (header ++ fields m) (e .tag))) _ (i m) .1) .1) l);
+      outside-in = λ m. agree-true _ _ (four e h m .0);
+      member-in = λ m. agree-true _ _ (four e h m .1);
+      kind-in = λ m l. same-kind _ _ (or-not (listed (rowsOf m) (e .tag)) _ (four e h m .2) l);
       member-of = λ x y. agree-true _ _ (both (agree (eqb (x .counter) (e .member .group)) (listed (x .members) (e .tag))) _ (g x y) .0);
       first-of = λ x y. agree-true _ _ (both (agree (eqb (x .counter) (e .member .group)) (listed (x .members) (e .tag))) _ (g x y) .1);
-      in-header = agree-true _ _ (both (agree (bitOf (e .marks) 9) (listed header (e .tag))) _ h2 .0);
-      in-frame = agree-true _ _ (both (agree (bitOf (e .marks) 10) (frameTag (e .tag))) _ h3 .0);
-      counts = agree-true _ _ (both (agree (bitOf (e .marks) 11) (any (λ x. eqb (x .counter) (e .tag)) groups)) _ h4 .0);
-      counts-number = λ b. or-not (bitOf (e .marks) 11) _ (both (agree (bitOf (e .marks) 11) (any (λ x. eqb (x .counter) (e .tag)) groups)) _ h4 .1) b;
+      in-header = agree-true _ _ (both (agree (bitOf (e .marks) 28) (listed header (e .tag))) _ h2 .0);
+      in-frame = agree-true _ _ (both (agree (bitOf (e .marks) 29) (frameTag (e .tag))) _ h3 .0);
+      counts = agree-true _ _ h4;
+      counts-number = λ m b. or-not (bitOf (e .marks) 30) _ (four e h m .3) b;
     }
 
 module _ {t : List Line} (d : Line) {x p : ℕ} (T : Table t) (P : Placed x p) (n : p ≡ 44 → ⊥) where

@@ -24,7 +24,6 @@ use Rattle.dictionary.specs.declared.Verdict.{Verdict}
 use Rattle.dictionary.specs.declared.Verdict.the-variants.{Clean}
 use Rattle.dictionary.specs.declared.rules.State.{State}
 use Rattle.dictionary.specs.declared.table.Entry.{Entry}
-use Rattle.dictionary.specs.declared.table.Rows.the-variants.{Header, Own}
 use Rattle.dictionary.proofs.Places.{one-place}
 use Rattle.dictionary.proofs.Groups.{alone}
 
@@ -123,9 +122,9 @@ module _ {m : MsgType} {seen met : List Bool} {st : State} {r : Says} (C : Closi
   pub finish-closing : {a t : ℕ} {f : Verdict} → r ≡ Reason a t → f ≡ verdictBy r Clean → Finished m seen met st f
   finish-closing e v = record { is = λ w S. v ∙ rw (sym (C .is (w .place) (S .stood)), e) }
 
-  module _ {h : Says} (n : r ≡ Nothing) (H : Missing seen Header h) where
+  module _ {h : Says} (n : r ≡ Nothing) (H : Missing seen header h) where
     pub finish-header : {a t : ℕ} {f : Verdict} → h ≡ Reason a t → f ≡ verdictBy h Clean → Finished m seen met st f
     finish-header e v = record { is = λ w S. v ∙ rw (sym (C .is (w .place) (S .stood)), n, missing-append header (fields m) (w .seen), sym (H .is (w .seen) (S .marked)), e) }
 
-    pub finish-own : {o : Says} {f : Verdict} → h ≡ Nothing → Missing seen (Own m) o → f ≡ verdictBy o Clean → Finished m seen met st f
+    pub finish-own : {o : Says} {f : Verdict} → h ≡ Nothing → Missing seen (fields m) o → f ≡ verdictBy o Clean → Finished m seen met st f
     finish-own {o} e O v = record { is = λ w S. v ∙ rw (sym (C .is (w .place) (S .stood)), n, missing-append header (fields m) (w .seen), sym (H .is (w .seen) (S .marked)), e, sym (O .is (w .seen) (S .marked)), alone (firstOf (o ∷ [])), alone o) }

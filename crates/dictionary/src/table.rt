@@ -1,17 +1,17 @@
-// The constant table of the dictionary, looked up at each field, and the required tags in the document's order.
+// The constant table of the dictionary, looked up at each field, and the rows of the document's lists in their order.
 use super::MsgType;
 use super::Says;
 use kinds::Choice;
 use kinds::Kind;
 ghost use mathlib.Core.Path.{_≡_};
-ghost use Prim.Native.Nat.{_<_};
-ghost use Rattle.dictionary.specs.code.Held.{tagAt, entryOf, Table, Placed, Required, Missing, Spanned};
+ghost use Prim.Native.Nat.{_<_, _≤_};
+ghost use Rattle.dictionary.specs.Dictionary.{header, fields};
+ghost use Rattle.dictionary.specs.code.Held.{tagAt, entryOf, kindFor, Table, Placed, InRows, rowsIn, membersOf, lackedBy, Lacking, Missing};
 
-// A tag's line of the dictionary: its kind, with the list of its values; the messages that have it outside groups; and the group that has it as a
-// member.
+// A tag's line of the dictionary: the number of its kind; the messages that have it outside groups; and the group that has it as a member.
 pub struct Entry {
     pub tag: u32,
-    pub kind: Kind,
+    pub kind: u32,
     pub marks: u32,
     pub member: Member,
 }
@@ -23,8 +23,8 @@ pub struct Member {
     pub marks: u32,
 }
 
-// The marks of a line: bits 0 to 8 for the nine messages, 9 for the header, 10 for a tag of the frame, 11 for the count of a group, 12 for the
-// first member of one, and bits 16 to 24 for the nine messages again, where the tag is a member of a group.
+// The marks of a line: bits 0 to 27 for the messages that have the tag outside groups, 28 for the header, 29 for a tag of the frame, 30 for the
+// count of a group, 31 for the first member of one.
 const IN_0: u32 = 1;
 
 const IN_1: u32 = 2;
@@ -43,101 +43,158 @@ const IN_F: u32 = 128;
 
 const IN_AD: u32 = 256;
 
-const HEADER: u32 = 511 + 512;
+const IN_ALL: u32 = 511;
 
-const FRAME: u32 = 1024;
+const HEADER: u32 = IN_ALL + 268435456;
 
-const COUNT: u32 = 2048;
+const FRAME: u32 = 536870912;
 
-const FIRST: u32 = 4096;
+const COUNT: u32 = 1073741824;
 
-const MEMBER_F: u32 = 65536 * IN_F;
+const FIRST: u32 = 2147483648;
 
-const MEMBER_AD: u32 = 65536 * IN_AD;
+// The messages that have a group.
+const WITH_453: u32 = IN_F + IN_AD;
 
-const STRING: Kind = Kind::Text { most: 32 };
+const WITH_580: u32 = IN_AD;
 
-const NUMBER: Kind = Kind::Number {
-    least: 0,
-    most: 999999999,
-};
+// The kinds of values by their numbers.
+const STRING: u32 = 0;
 
-const COUNTED: Kind = Kind::Number {
-    least: 1,
-    most: 999999999,
-};
+const STRING_64: u32 = 1;
 
-const ONE_TO_8: Kind = Kind::Number { least: 1, most: 8 };
+const STRING_256: u32 = 2;
 
-const ONE_OR_2: Kind = Kind::Number { least: 1, most: 2 };
+const NUMBER: u32 = 3;
 
-// A line of the table: tag, kind, marks, and the count tag of the group that has the tag as a member (0: none).
-pub struct Line(pub u32, pub Kind, pub u32, pub u32);
+const COUNTED: u32 = 4;
+
+const UP_TO_60: u32 = 5;
+
+const UP_TO_8: u32 = 6;
+
+const UP_TO_2: u32 = 7;
+
+const FLAG: u32 = 8;
+
+const TIME: u32 = 9;
+
+const DAY: u32 = 10;
+
+const ZERO: u32 = 11;
+
+const EIGHT: u32 = 12;
+
+const NINE: u32 = 13;
+
+const D: u32 = 14;
+
+const ONE_OR_TWO: u32 = 15;
+
+const ZERO_OR_54: u32 = 16;
+
+const ROLES: u32 = 17;
+
+// The kind of an entry's values in a message.
+pub fn kind_of(e: Entry, m: MsgType) -> Kind
+    ensures { λ r. ⌜ r ≡ kindFor m (e .kind) ⌝ }
+{
+    let kind = e.kind;
+    match kind {
+        STRING => Kind::Text { most: 32 },
+        STRING_64 => Kind::Text { most: 64 },
+        STRING_256 => Kind::Text { most: 256 },
+        NUMBER => Kind::Number {
+            least: 0,
+            most: 999999999,
+        },
+        COUNTED => Kind::Number {
+            least: 1,
+            most: 999999999,
+        },
+        UP_TO_60 => Kind::Number { least: 1, most: 60 },
+        UP_TO_8 => Kind::Number { least: 1, most: 8 },
+        UP_TO_2 => Kind::Number { least: 1, most: 2 },
+        FLAG => Kind::Flag,
+        TIME => Kind::Time,
+        DAY => Kind::Day,
+        ZERO => Kind::OneOf(Choice::Zero),
+        EIGHT => Kind::OneOf(Choice::Eight),
+        NINE => Kind::OneOf(Choice::Nine),
+        D => Kind::OneOf(Choice::D),
+        ONE_OR_TWO => Kind::OneOf(Choice::OneOrTwo),
+        ZERO_OR_54 => Kind::OneOf(Choice::ZeroOr54),
+        _ => Kind::OneOf(Choice::Roles),
+    }
+}
+
+// A line of the table: tag, number of the kind, marks, and, where the tag is a member of a group, the messages that have the group and its count
+// tag (0: none).
+pub struct Line(pub u32, pub u32, pub u32, pub u32, pub u32);
 
 // The entry that a line is.
 pub fn entry_of(line: Line) -> Entry
     ensures { λ r. ⌜ r ≡ entryOf line ⌝ }
 {
-    let kind = line.1;
     let marks = line.2;
     Entry {
         tag: line.0,
-        kind,
+        kind: line.1,
         marks,
         member: Member {
-            group: line.3,
-            first: (marks >> 12) % 2 == 1,
-            marks: marks >> 16,
+            group: line.4,
+            first: (marks >> 31) % 2 == 1,
+            marks: line.3,
         },
     }
 }
 
-// In the order of the tags; a line's place is also the place of its tag's mark.
+// The tags of the frame, then those of the lists below as they come; a line's place is also the place of its tag's mark.
 const TABLE: [Line; 44] = [
-    Line(7, COUNTED, IN_2, 0),
-    Line(8, STRING, FRAME, 0),
-    Line(9, STRING, FRAME, 0),
-    Line(10, STRING, FRAME, 0),
-    Line(11, STRING, IN_F, 0),
-    Line(16, NUMBER, IN_2, 0),
-    Line(22, Kind::OneOf(Choice::Eight), IN_F + IN_AD, 0),
-    Line(34, COUNTED, HEADER, 0),
-    Line(35, STRING, HEADER, 0),
-    Line(36, COUNTED, IN_4, 0),
-    Line(41, STRING, IN_F, 0),
-    Line(43, Kind::Flag, HEADER, 0),
-    Line(45, COUNTED, IN_3, 0),
-    Line(48, STRING, IN_F + IN_AD, 0),
-    Line(49, STRING, HEADER, 0),
-    Line(52, Kind::Time, HEADER, 0),
-    Line(54, Kind::OneOf(Choice::OneOrTwo), IN_F, 0),
-    Line(56, STRING, HEADER, 0),
-    Line(58, Kind::Text { most: 256 }, IN_3 + IN_5 + IN_AD, 0),
-    Line(60, Kind::Time, IN_F + MEMBER_AD, 580),
-    Line(75, Kind::Day, FIRST + MEMBER_AD, 580),
-    Line(97, Kind::Flag, HEADER, 0),
-    Line(98, Kind::OneOf(Choice::Zero), IN_A, 0),
-    Line(108, Kind::Number { least: 1, most: 60 }, IN_A, 0),
-    Line(112, Kind::Text { most: 64 }, IN_0 + IN_1, 0),
-    Line(122, Kind::Time, HEADER, 0),
-    Line(123, Kind::Flag, IN_4, 0),
-    Line(141, Kind::Flag, IN_A, 0),
-    Line(263, Kind::OneOf(Choice::Zero), IN_AD, 0),
-    Line(371, NUMBER, IN_3, 0),
-    Line(372, STRING, IN_3, 0),
-    Line(373, NUMBER, IN_3, 0),
-    Line(447, Kind::OneOf(Choice::D), MEMBER_F + MEMBER_AD, 453),
-    Line(448, STRING, FIRST + MEMBER_F + MEMBER_AD, 453),
-    Line(452, Kind::OneOf(Choice::Roles), MEMBER_F + MEMBER_AD, 453),
-    Line(453, ONE_TO_8, IN_F + IN_AD + COUNT, 0),
-    Line(568, STRING, IN_AD, 0),
-    Line(569, Kind::OneOf(Choice::Zero), IN_AD, 0),
-    Line(580, ONE_OR_2, IN_AD + COUNT, 0),
-    Line(828, Kind::OneOf(Choice::ZeroOr54), IN_AD, 0),
-    Line(1041, STRING, IN_AD, 0),
-    Line(1128, Kind::OneOf(Choice::Nine), HEADER, 0),
-    Line(1137, Kind::OneOf(Choice::Nine), IN_A, 0),
-    Line(1409, NUMBER, IN_5, 0),
+    Line(8, STRING, FRAME, 0, 0),
+    Line(9, STRING, FRAME, 0, 0),
+    Line(10, STRING, FRAME, 0, 0),
+    Line(35, STRING, HEADER, 0, 0),
+    Line(49, STRING, HEADER, 0, 0),
+    Line(56, STRING, HEADER, 0, 0),
+    Line(34, COUNTED, HEADER, 0, 0),
+    Line(52, TIME, HEADER, 0, 0),
+    Line(43, FLAG, HEADER, 0, 0),
+    Line(97, FLAG, HEADER, 0, 0),
+    Line(122, TIME, HEADER, 0, 0),
+    Line(1128, NINE, HEADER, 0, 0),
+    Line(112, STRING_64, IN_0 + IN_1, 0, 0),
+    Line(7, COUNTED, IN_2, 0, 0),
+    Line(16, NUMBER, IN_2, 0, 0),
+    Line(45, COUNTED, IN_3, 0, 0),
+    Line(371, NUMBER, IN_3, 0, 0),
+    Line(372, STRING, IN_3, 0, 0),
+    Line(373, NUMBER, IN_3, 0, 0),
+    Line(58, STRING_256, IN_3 + IN_5 + IN_AD, 0, 0),
+    Line(36, COUNTED, IN_4, 0, 0),
+    Line(123, FLAG, IN_4, 0, 0),
+    Line(1409, NUMBER, IN_5, 0, 0),
+    Line(98, ZERO, IN_A, 0, 0),
+    Line(108, UP_TO_60, IN_A, 0, 0),
+    Line(1137, NINE, IN_A, 0, 0),
+    Line(141, FLAG, IN_A, 0, 0),
+    Line(11, STRING, IN_F, 0, 0),
+    Line(41, STRING, IN_F, 0, 0),
+    Line(54, ONE_OR_TWO, IN_F, 0, 0),
+    Line(48, STRING, IN_F + IN_AD, 0, 0),
+    Line(22, EIGHT, IN_F + IN_AD, 0, 0),
+    Line(60, TIME, IN_F, WITH_580, 580),
+    Line(453, UP_TO_8, WITH_453 + COUNT, 0, 0),
+    Line(568, STRING, IN_AD, 0, 0),
+    Line(569, ZERO, IN_AD, 0, 0),
+    Line(263, ZERO, IN_AD, 0, 0),
+    Line(828, ZERO_OR_54, IN_AD, 0, 0),
+    Line(580, UP_TO_2, WITH_580 + COUNT, 0, 0),
+    Line(1041, STRING, IN_AD, 0, 0),
+    Line(448, STRING, FIRST, WITH_453, 453),
+    Line(447, D, 0, WITH_453, 453),
+    Line(452, ROLES, 0, WITH_453, 453),
+    Line(75, DAY, FIRST, WITH_580, 580),
 ];
 
 // The one function that names the table: whoever looks into it takes it into a local, once.
@@ -173,114 +230,201 @@ fn tag_at(p: usize) -> u32
     line.0
 }
 
-// The required tags of each list in its order, by their places: as bytes, so that the constant costs two stores.
-const REQUIRED: [u8; 28] = [
-    // header: 35, 49, 56, 34, 52
+// The lists of the document one behind the other, each field by the place of its tag; 128 more where the tag is required. (As bytes, so that the
+// constant costs three stores.)
+const Y: u8 = 128;
+
+const ROWS: [u8; 48] = [
+    // header: 35, 49, 56, 34, 52, 43, 97, 122, 1128
+    Y + 3,
+    Y + 4,
+    Y + 5,
+    Y + 6,
+    Y + 7,
     8,
-    14,
-    17,
-    7,
-    15,
-    // TestRequest: 112
-    24,
-    // ResendRequest: 7, 16
-    0,
-    5,
-    // Reject: 45
-    12,
-    // SequenceReset: 36
     9,
-    // Logon: 98, 108, 1137
-    22,
-    23,
-    42,
-    // OrderCancelRequest: 11, 41, 54, 48, 22, 60
-    4,
     10,
+    11,
+    // 0: 112
+    12,
+    // 1: 112
+    Y + 12,
+    // 2: 7, 16
+    Y + 13,
+    Y + 14,
+    // 3: 45, 371, 372, 373, 58
+    Y + 15,
     16,
-    13,
-    6,
+    17,
+    18,
     19,
-    // TradeCaptureReportRequest: 568, 569, 22, 48, 580
+    // 4: 36, 123
+    Y + 20,
+    21,
+    // 5: 1409, 58
+    22,
+    19,
+    // A: 98, 108, 1137, 141
+    Y + 23,
+    Y + 24,
+    Y + 25,
+    26,
+    // F: 11, 41, 54, 48, 22, 60, 453
+    Y + 27,
+    Y + 28,
+    Y + 29,
+    Y + 30,
+    Y + 31,
+    Y + 32,
+    33,
+    // AD: 568, 569, 263, 828, 453, 22, 48, 580, 58, 1041
+    Y + 34,
+    Y + 35,
     36,
     37,
-    6,
-    13,
-    38,
-    // group 453: 448, 447, 452
     33,
+    Y + 31,
+    Y + 30,
+    Y + 38,
+    19,
+    39,
+    // group 453: 448, 447, 452
+    Y + 40,
+    Y + 41,
+    Y + 42,
+    // group 580: 75, 60
+    Y + 43,
     32,
-    34,
-    // group 580: 75
-    20,
 ];
 
-pub fn required() -> [u8; 28]
-    ensures { λ r. ⌜ Required r ⌝ }
+fn rows() -> [u8; 48]
+    ensures { λ r. ⌜ InRows r ⌝ }
 {
-    REQUIRED
+    ROWS
 }
 
-// Lists of the document: the header, a message's own fields, the members of a group.
-pub enum Rows {
-    Header,
-    Own(MsgType),
-    Members(u32),
-}
+// Where each list begins: where the one before it ends.
+const AT_0: usize = 9;
 
-// Where a list's required tags stand in REQUIRED.
-pub struct Span {
-    pub from: usize,
-    pub to: usize,
-}
+const AT_1: usize = AT_0 + 1;
 
-fn span_of(rows: Rows) -> Span
-    ensures { λ r. ⌜ Spanned rows r ⌝ }
+const AT_2: usize = AT_1 + 1;
+
+const AT_3: usize = AT_2 + 2;
+
+const AT_4: usize = AT_3 + 5;
+
+const AT_5: usize = AT_4 + 2;
+
+const AT_A: usize = AT_5 + 2;
+
+const AT_F: usize = AT_A + 4;
+
+const AT_AD: usize = AT_F + 7;
+
+const AT_453: usize = AT_AD + 10;
+
+const AT_580: usize = AT_453 + 3;
+
+const AT_END: usize = AT_580 + 2;
+
+// The place of the first required tag of some rows that is not marked, or 44.
+fn lacking(t: &[u8; 48], marks: &[bool; 128], from: usize, to: usize) -> usize
+    requires { ⌜ InRows (now t) ⌝ }
+    requires { ⌜ from ≤ to ⌝ }
+    requires { ⌜ to ≤ 48 ⌝ }
+    ensures { λ r. ⌜ Lacking (now (marks .entry)) (rowsIn from to) r ⌝ }
 {
-    match rows {
-        Rows::Header => Span { from: 0, to: 5 },
-        Rows::Own(m) => own(m),
-        Rows::Members(g) => if g == 453 {
-            Span { from: 24, to: 27 }
-        } else {
-            Span { from: 27, to: 28 }
-        },
-    }
-}
-
-fn own(m: MsgType) -> Span
-    ensures { λ r. ⌜ Spanned (Rows.Own m) r ⌝ }
-{
-    match m {
-        MsgType::Heartbeat => Span { from: 0, to: 0 },
-        MsgType::TestRequest => Span { from: 5, to: 6 },
-        MsgType::ResendRequest => Span { from: 6, to: 8 },
-        MsgType::Reject => Span { from: 8, to: 9 },
-        MsgType::SequenceReset => Span { from: 9, to: 10 },
-        MsgType::Logout => Span { from: 0, to: 0 },
-        MsgType::Logon => Span { from: 10, to: 13 },
-        MsgType::OrderCancelRequest => Span { from: 13, to: 19 },
-        MsgType::TradeCaptureReportRequest => Span { from: 19, to: 24 },
-    }
-}
-
-// The first required tag of a list that is not marked.
-pub fn missing(marks: &[bool; 128], rows: Rows) -> Says
-    ensures { λ r. ⌜ Missing (now (marks .entry)) rows r ⌝ }
-{
-    let t = required();
-    let s = span_of(rows);
-    let to = s.to;
-    let mut k = s.from;
+    let mut k = from;
     while k < to {
-        let place = t[k] as usize;
-        if !marks[place] {
-            return Says::Reason {
-                reason: 1,
-                tag: tag_at(place),
-            };
+        let row = t[k];
+        if lacks(marks, row) {
+            return (row % Y) as usize;
         }
         k += 1;
     }
-    Says::Nothing
+    44
+}
+
+// A row's tag is required and not marked.
+fn lacks(marks: &[bool; 128], row: u8) -> bool
+    ensures { λ r. ⌜ r ≡ lackedBy (now (marks .entry)) row ⌝ }
+{
+    if row < Y {
+        return false;
+    }
+    let place = (row % Y) as usize;
+    !marks[place]
+}
+
+// The finding on a required tag that is missing, by its place.
+fn absent(place: usize) -> Says
+    requires { ⌜ place < 44 ⌝ }
+    ensures { λ r. ⌜ r ≡ Says.Reason 1 (tagAt place) ⌝ }
+{
+    Says::Reason {
+        reason: 1,
+        tag: tag_at(place),
+    }
+}
+
+// The first required tag of the header that is not marked, ..
+pub fn missing_header(marks: &[bool; 128]) -> Says
+    ensures { λ r. ⌜ Missing (now (marks .entry)) header r ⌝ }
+{
+    let t = rows();
+    let place = lacking(&t, marks, 0, AT_0);
+    if place == 44 {
+        return Says::Nothing;
+    }
+    absent(place)
+}
+
+// .. of a message's own fields, ..
+pub fn missing_own(marks: &[bool; 128], m: MsgType) -> Says
+    ensures { λ r. ⌜ Missing (now (marks .entry)) (fields m) r ⌝ }
+{
+    let place = lacking_own(marks, m);
+    if place == 44 {
+        return Says::Nothing;
+    }
+    absent(place)
+}
+
+fn lacking_own(marks: &[bool; 128], m: MsgType) -> usize
+    ensures { λ r. ⌜ Lacking (now (marks .entry)) (fields m) r ⌝ }
+{
+    let t = rows();
+    match m {
+        MsgType::Heartbeat => lacking(&t, marks, AT_0, AT_1),
+        MsgType::TestRequest => lacking(&t, marks, AT_1, AT_2),
+        MsgType::ResendRequest => lacking(&t, marks, AT_2, AT_3),
+        MsgType::Reject => lacking(&t, marks, AT_3, AT_4),
+        MsgType::SequenceReset => lacking(&t, marks, AT_4, AT_5),
+        MsgType::Logout => lacking(&t, marks, AT_5, AT_A),
+        MsgType::Logon => lacking(&t, marks, AT_A, AT_F),
+        MsgType::OrderCancelRequest => lacking(&t, marks, AT_F, AT_AD),
+        MsgType::TradeCaptureReportRequest => lacking(&t, marks, AT_AD, AT_453),
+    }
+}
+
+// .. of the members of a group, named by its count tag.
+pub fn missing_member(marks: &[bool; 128], group: u32) -> Says
+    ensures { λ r. ⌜ Missing (now (marks .entry)) (membersOf group) r ⌝ }
+{
+    let place = lacking_member(marks, group);
+    if place == 44 {
+        return Says::Nothing;
+    }
+    absent(place)
+}
+
+fn lacking_member(marks: &[bool; 128], group: u32) -> usize
+    ensures { λ r. ⌜ Lacking (now (marks .entry)) (membersOf group) r ⌝ }
+{
+    let t = rows();
+    if group == 453 {
+        return lacking(&t, marks, AT_453, AT_580);
+    }
+    lacking(&t, marks, AT_580, AT_END)
 }

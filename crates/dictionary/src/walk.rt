@@ -11,9 +11,9 @@ use super::rules::noted;
 use super::rules::of_known;
 use super::rules::of_malformed;
 use super::rules::of_unknown;
-use super::table::Rows;
 use super::table::entry_of;
-use super::table::missing;
+use super::table::missing_header;
+use super::table::missing_own;
 use super::table::place_of;
 use super::table::table;
 use fields::Item;
@@ -48,11 +48,11 @@ fn finish(m: MsgType, st: State, seen: &[bool; 128], met: &[bool; 128]) -> Verdi
     let Says::Nothing = end else {
         return finding(end);
     };
-    let header = missing(seen, Rows::Header);
+    let header = missing_header(seen);
     let Says::Nothing = header else {
         return finding(header);
     };
-    finding(missing(seen, Rows::Own(m)))
+    finding(missing_own(seen, m))
 }
 
 // The fields from the left; the first finding stands. One mark is set at each field outside groups (seen); the members met in the last instance of

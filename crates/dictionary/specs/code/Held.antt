@@ -4,31 +4,50 @@ use mathlib.Core.Path.{_≡_}
 use mathlib.Core.Logic.{_⊎_}
 use mathlib.Core.List.{List, [], _∷_, _++_, map}
 use mathlib.Core.Bool.{Bool, true, false, cond, not, _&&_, _||_}
-use lib.Dec.{eqb, ltb}
+use lib.Dec.{eqb, leb, ltb}
 use lib.ListN.{length, take, drop, getD}
 use Rattle.frame.specs.Bytes.{Bytes, any, all, has, same, value}
 use Rattle.fields.specs.Field.{Part, field, malformed}
 use Rattle.kinds.specs.Kind.{Kind, text, number_to_, Y/N, time, day, among, isNumber}
 use Rattle.kinds.specs.Judged.{meaning}
+use Rattle.kinds.specs.declared.Kind as Code
+use Rattle.kinds.specs.declared.Kind.the-variants.{Text, Number, Flag, Time, Day, OneOf}
+use Rattle.kinds.specs.declared.Choice.the-variants.{Zero, Eight, Nine, D, OneOrTwo, ZeroOr54, Roles}
 use Rattle.dictionary.specs.Dictionary.{Row, Group, groups, №453, №580, theNine, header, fields, listed, kindIn, groupsOf, member, rowsOf, frameTag}
 use Rattle.dictionary.specs.Verdict.{Open, Place, outside, inside, Past, firstOf, missing, incomplete, closing, ends, begins, firstMember, left, rule1, rule5, rule7, rule8, rule9, rule10, said, opened, walk}
 use Rattle.dictionary.specs.declared.MsgType.{MsgType}
 use Rattle.dictionary.specs.declared.MsgType.the-variants.{Heartbeat, TestRequest, ResendRequest, Reject, SequenceReset, Logout, Logon, OrderCancelRequest, TradeCaptureReportRequest}
 use Rattle.dictionary.specs.declared.Says.{Says}
-use Rattle.dictionary.specs.declared.Says.the-variants.{Nothing}
+use Rattle.dictionary.specs.declared.Says.the-variants.{Nothing, Reason}
 use Rattle.dictionary.specs.declared.Verdict.{Verdict}
 use Rattle.dictionary.specs.declared.rules.State.{State}
 use Rattle.dictionary.specs.declared.table.Entry.{Entry}
 use Rattle.dictionary.specs.declared.table.Line.{Line}
-use Rattle.dictionary.specs.declared.table.Span.{Span}
-use Rattle.dictionary.specs.declared.table.Rows.{Rows}
-use Rattle.dictionary.specs.declared.table.Rows.the-variants.{Header, Own, Members}
 
--- THE TABLE. The dictionary's tags in the order of the table: the place of a tag here is the place of its entry and of its mark.
+-- THE TABLE. All rows of the document's lists, in its order, ..
+unfoldable pub allRows : List Row
+allRows =
+    header ++
+    fields Heartbeat ++
+    fields TestRequest ++
+    fields ResendRequest ++
+    fields Reject ++
+    fields SequenceReset ++
+    fields Logout ++
+    fields Logon ++
+    fields OrderCancelRequest ++
+    fields TradeCaptureReportRequest ++
+    №453 .members ++
+    №580 .members
+
+-- .. and the dictionary's tags, those of the frame first and then as the rows have them, each once: the place of a tag here is the place of its
+-- entry and of its mark.
+abbrev pub once : List ℕ → List ℕ → List ℕ
+once met [] = met
+once met (t ∷ ts) = once (cond (has met t) met (met ++ t ∷ [])) ts
+
 unfoldable pub tags : List ℕ
-tags =
-    7 ∷ 8 ∷ 9 ∷ 10 ∷ 11 ∷ 16 ∷ 22 ∷ 34 ∷ 35 ∷ 36 ∷ 41 ∷ 43 ∷ 45 ∷ 48 ∷ 49 ∷ 52 ∷ 54 ∷ 56 ∷ 58 ∷ 60 ∷ 75 ∷ 97 ∷ 98 ∷ 108 ∷ 112 ∷ 122 ∷ 123 ∷ 141 ∷
-    263 ∷ 371 ∷ 372 ∷ 373 ∷ 447 ∷ 448 ∷ 452 ∷ 453 ∷ 568 ∷ 569 ∷ 580 ∷ 828 ∷ 1041 ∷ 1128 ∷ 1137 ∷ 1409 ∷ []
+tags = once (8 ∷ 9 ∷ 10 ∷ []) (map (λ (r : Row). r .tag) allRows)
 
 abbrev pub tagAt : ℕ → ℕ
 tagAt p = getD tags p 0
@@ -85,12 +104,35 @@ abbrev pub agree : Bool → Bool → Bool
 agree true b = b
 agree false b = not b
 
+-- The code's kinds by their numbers, in a message.
+unfoldable pub kindFor : MsgType → ℕ → Code.Kind
+kindFor m n =
+    cond (eqb n 0) (Text 32)
+    (cond (eqb n 1) (Text 64)
+    (cond (eqb n 2) (Text 256)
+    (cond (eqb n 3) (Number 0 999_999_999)
+    (cond (eqb n 4) (Number 1 999_999_999)
+    (cond (eqb n 5) (Number 1 60)
+    (cond (eqb n 6) (Number 1 8)
+    (cond (eqb n 7) (Number 1 2)
+    (cond (eqb n 8) Flag
+    (cond (eqb n 9) Time
+    (cond (eqb n 10) Day
+    (cond (eqb n 11) (OneOf Zero)
+    (cond (eqb n 12) (OneOf Eight)
+    (cond (eqb n 13) (OneOf Nine)
+    (cond (eqb n 14) (OneOf D)
+    (cond (eqb n 15) (OneOf OneOrTwo)
+    (cond (eqb n 16) (OneOf ZeroOr54)
+    (OneOf Roles)))))))))))))))))
+
 -- An entry says of its tag what the document's lists say: in each message, ..
 unfoldable pub rightIn : Entry → MsgType → Bool
 rightIn e m =
     agree (bitOf (e .marks) (index m)) (listed (header ++ fields m) (e .tag))
     && (agree (bitOf (e .member .marks) (index m)) (member m (e .tag))
-    && (not (listed (rowsOf m) (e .tag)) || sameAll (written (meaning (e .kind))) (written (kindIn (rowsOf m) (e .tag)))))
+    && ((not (listed (rowsOf m) (e .tag)) || sameAll (written (meaning (kindFor m (e .kind)))) (written (kindIn (rowsOf m) (e .tag))))
+    && (not (bitOf (e .marks) 30) || isNumeric (meaning (kindFor m (e .kind))))))
 
 -- .. of each group, ..
 unfoldable pub rightOf : Entry → Group → Bool
@@ -103,15 +145,14 @@ unfoldable pub right : Entry → Bool
 right e =
     all (rightIn e) theNine
     && (all (rightOf e) groups
-    && (agree (bitOf (e .marks) 9) (listed header (e .tag))
-    && (agree (bitOf (e .marks) 10) (frameTag (e .tag))
-    && (agree (bitOf (e .marks) 11) (any (λ g. eqb (g .counter) (e .tag)) groups)
-    && (not (bitOf (e .marks) 11) || isNumeric (meaning (e .kind)))))))
+    && (agree (bitOf (e .marks) 28) (listed header (e .tag))
+    && (agree (bitOf (e .marks) 29) (frameTag (e .tag))
+    && agree (bitOf (e .marks) 30) (any (λ g. eqb (g .counter) (e .tag)) groups))))
 
 -- the entry that a line of the table is, and the computed test of the whole table
 abbrev pub entryOf : Line → Entry
 entryOf l =
-    record { tag = l .0; kind = l .1; marks = l .2; member = record { group = l .3; first = bitOf (l .2) 12; marks = l .2 / (2 ^ 16) } }
+    record { tag = l .0; kind = l .1; marks = l .2; member = record { group = l .4; first = bitOf (l .2) 31; marks = l .3 } }
 
 pub record Table (t : List Line) : Type 0 where
   pub order : map (λ (l : Line). l .0) t ≡ tags
@@ -125,13 +166,13 @@ Two g = (g ≡ №453) ⊎ (g ≡ №580)
 pub record Right (e : Entry) : Type 0 where
   pub outside-in : (m : MsgType) → bitOf (e .marks) (index m) ≡ listed (header ++ fields m) (e .tag)
   pub member-in : (m : MsgType) → bitOf (e .member .marks) (index m) ≡ member m (e .tag)
-  pub kind-in : (m : MsgType) → listed (rowsOf m) (e .tag) ≡ true → meaning (e .kind) ≡ kindIn (rowsOf m) (e .tag)
+  pub kind-in : (m : MsgType) → listed (rowsOf m) (e .tag) ≡ true → meaning (kindFor m (e .kind)) ≡ kindIn (rowsOf m) (e .tag)
   pub member-of : (g : Group) → Two g → eqb (g .counter) (e .member .group) ≡ listed (g .members) (e .tag)
   pub first-of : (g : Group) → Two g → (eqb (g .counter) (e .member .group) && e .member .first) ≡ firstMember (g .members) (e .tag)
-  pub in-header : bitOf (e .marks) 9 ≡ listed header (e .tag)
-  pub in-frame : bitOf (e .marks) 10 ≡ frameTag (e .tag)
-  pub counts : bitOf (e .marks) 11 ≡ any (λ g. eqb (g .counter) (e .tag)) groups
-  pub counts-number : bitOf (e .marks) 11 ≡ true → isNumeric (meaning (e .kind)) ≡ true
+  pub in-header : bitOf (e .marks) 28 ≡ listed header (e .tag)
+  pub in-frame : bitOf (e .marks) 29 ≡ frameTag (e .tag)
+  pub counts : bitOf (e .marks) 30 ≡ any (λ g. eqb (g .counter) (e .tag)) groups
+  pub counts-number : (m : MsgType) → bitOf (e .marks) 30 ≡ true → isNumeric (meaning (kindFor m (e .kind))) ≡ true
 
 -- an entry that was looked up, and its place
 pub record Looked (e : Entry) (p : ℕ) : Type 0 where
@@ -139,57 +180,26 @@ pub record Looked (e : Entry) (p : ℕ) : Type 0 where
   pub small : p < 44
   pub tagged : tagAt p ≡ e .tag
 
--- REQUIRED TAGS. The required tags of some rows, in their order.
-abbrev pub needed : List Row → List ℕ
-needed [] = []
-needed (r ∷ rs) = cond (r .required) (r .tag ∷ needed rs) (needed rs)
+-- THE ROWS. A byte of the constant is the place of its row's tag, and 128 more where the tag is required.
+abbrev pub rightRow : ℕ → Row → Bool
+rightRow x r = agree (leb 128 x) (r .required) && (ltb (x % 128) 44 && eqb (tagAt (x % 128)) (r .tag))
 
-abbrev pub membersOf : Bool → List Row
-membersOf true = №453 .members
-membersOf false = №580 .members
+abbrev pub rightRows : List ℕ → List Row → Bool
+rightRows [] [] = true
+rightRows [] (r ∷ rs) = false
+rightRows (x ∷ l) [] = false
+rightRows (x ∷ l) (r ∷ rs) = rightRow x r && rightRows l rs
 
-abbrev pub rowsFor : Rows → List Row
-rowsFor Header = header
-rowsFor (Own m) = fields m
-rowsFor (Members g) = membersOf (eqb g 453)
+pub record InRows (l : List ℕ) : Type 0 where
+  pub rows : rightRows l allRows ≡ true
+  pub long : length l ≡ 48
 
-abbrev pub membersSpan : Bool → Span
-membersSpan true = record { from = 24; to = 27 }
-membersSpan false = record { from = 27; to = 28 }
+-- some of the rows, and the members of a group
+abbrev pub rowsIn : ℕ → ℕ → List Row
+rowsIn a e = take (e - a) (drop a allRows)
 
-abbrev pub spanOf : Rows → Span
-spanOf Header = record { from = 0; to = 5 }
-spanOf (Own Heartbeat) = record { from = 0; to = 0 }
-spanOf (Own TestRequest) = record { from = 5; to = 6 }
-spanOf (Own ResendRequest) = record { from = 6; to = 8 }
-spanOf (Own Reject) = record { from = 8; to = 9 }
-spanOf (Own SequenceReset) = record { from = 9; to = 10 }
-spanOf (Own Logout) = record { from = 0; to = 0 }
-spanOf (Own Logon) = record { from = 10; to = 13 }
-spanOf (Own OrderCancelRequest) = record { from = 13; to = 19 }
-spanOf (Own TradeCaptureReportRequest) = record { from = 19; to = 24 }
-spanOf (Members g) = membersSpan (eqb g 453)
-
-pub record Spanned (rows : Rows) (r : Span) : Type 0 where
-  pub first : r .from ≡ spanOf rows .from
-  pub last : r .to ≡ spanOf rows .to
-  pub order : r .from ≤ r .to
-  pub within : r .to ≤ 28
-
--- the tags in the part of the constant that belongs to some rows are their required ones
-abbrev pub tagsIn : List ℕ → ℕ → ℕ → List ℕ
-tagsIn l a e = map tagAt (take (e - a) (drop a l))
-
-abbrev pub tagsFor : List ℕ → Span → List ℕ
-tagsFor l s = tagsIn l (s .from) (s .to)
-
-pub record Required (l : List ℕ) : Type 0 where
-  pub head : tagsFor l (spanOf Header) ≡ needed (rowsFor Header)
-  pub own : all (λ m. same (tagsFor l (spanOf (Own m))) (needed (fields m))) theNine ≡ true
-  pub parties : tagsFor l (membersSpan true) ≡ needed (membersOf true)
-  pub dates : tagsFor l (membersSpan false) ≡ needed (membersOf false)
-  pub places : all (λ p. ltb p 44) l ≡ true
-  pub long : length l ≡ 28
+abbrev pub membersOf : ℕ → List Row
+membersOf g = cond (eqb g 453) (№453 .members) (№580 .members)
 
 -- WHAT THE WALK REMEMBERS. A mark stands at the place of each tag that was met, and at no other.
 pub record Marked (marks : List Bool) (met : List ℕ) : Type 0 where
@@ -226,8 +236,16 @@ pub record Belongs (p : Part) (group : ℕ) (first : Bool) : Type 0 where
   pub begun : (g : Group) → Two g → begins (g .members) p ≡ (eqb (g .counter) group && first)
 
 -- WHAT THE CODE'S FUNCTIONS ANSWER, for whatever past their state stands for.
-pub record Missing (marks : List Bool) (rows : Rows) (r : Says) : Type 0 where
-  pub is : (met : List ℕ) → Marked marks met → r ≡ missing (rowsFor rows) met
+abbrev pub lackedBy : List Bool → ℕ → Bool
+lackedBy marks x = leb 128 x && not (getD marks (x % 128) false)
+
+pub record Lacking (marks : List Bool) (rows : List Row) (r : ℕ) : Type 0 where
+  pub within : r ≤ 44
+  pub nothing : r ≡ 44 → (met : List ℕ) → Marked marks met → missing rows met ≡ Nothing
+  pub first : r < 44 → (met : List ℕ) → Marked marks met → missing rows met ≡ Reason 1 (tagAt r)
+
+pub record Missing (marks : List Bool) (rows : List Row) (r : Says) : Type 0 where
+  pub is : (met : List ℕ) → Marked marks met → r ≡ missing rows met
 
 pub record Incomplete (met : List Bool) (st : State) (r : Says) : Type 0 where
   pub is : (g : Open) → InGroup g met st → r ≡ incomplete g
@@ -247,8 +265,8 @@ pub record Rule7 (t : ℕ) (over : Bool) (r : Says) : Type 0 where
 pub record Rule8 (m : MsgType) (met : List Bool) (st : State) (t : ℕ) (r : Says) : Type 0 where
   pub is : (pl : Place) (v : Bytes) → Stood pl met st → r ≡ rule8 m (left pl (field t v)) t
 
-pub record Rules9and10 (t : ℕ) (v : Bytes) (r : Says) : Type 0 where
-  pub is : (m : MsgType) → listed (rowsOf m) t ≡ true → r ≡ firstOf (rule9 m t v ∷ rule10 m t v ∷ [])
+pub record Rules9and10 (m : MsgType) (t : ℕ) (v : Bytes) (r : Says) : Type 0 where
+  pub is : listed (rowsOf m) t ≡ true → r ≡ firstOf (rule9 m t v ∷ rule10 m t v ∷ [])
 
 -- what is said of a part
 pub record OfMalformed (met : List Bool) (st : State) (r : Says) : Type 0 where

@@ -2,12 +2,12 @@
 use mathlib.Core.Path.{refl}
 use Rattle.kinds.specs.Kind.{kindOf}
 use Rattle.dictionary.specs.Dictionary.{№453, №580, header, fields, groupsOf, member, rowsOf}
-use Rattle.dictionary.specs.code.Held.{tags, bitOf, rightIn, rightOf, right}
+use Rattle.dictionary.specs.code.Held.{allRows, tags, bitOf, kindFor, rightIn, rightOf, right}
 use Rattle.dictionary.proofs.table.table.Statement.{statement}
 use Rattle.dictionary.proofs.table.table.Tie as tie
 
 returns : tie.Need-returns
-unfolding tags bitOf rightIn rightOf right №453 №580 header fields groupsOf member rowsOf kindOf
+unfolding allRows tags bitOf kindFor rightIn rightOf right №453 №580 header fields groupsOf member rowsOf kindOf
 returns c = record { order = refl; rights = refl }
 
 pub table-spec : {M : Type 1} → statement M
