@@ -53,8 +53,8 @@ module _ (l : List ℕ) (R : InRows l) (d k e : ℕ) (h : k < e) (w : e ≤ 48) 
   two : (ltb place 44 ≡ true) × (eqb (tagAt place) (at .tag) ≡ true)
   unfolding place
   two = let b = both (agree (leb 128 (getD l k d)) (at .required)) _ right .1 in
-        let c = both (ltb (getD l k d % 128) 44) _ b in
-        (c .0, c .1)
+      let c = both (ltb (getD l k d % 128) 44) _ b in
+      (c .0, c .1)
 
   pub place-small : getD l k d % 128 < 44
   unfolding place

@@ -12,12 +12,12 @@ use Rattle.frame.specs.Bytes.{Bytes, any, all, has, same}
 use Rattle.kinds.specs.Kind.{Kind, text, number_to_, Y/N, time, day, among}
 use Rattle.kinds.specs.Judged.{meaning}
 use Rattle.kinds.proofs.Values.{same-true}
-use Rattle.dictionary.specs.Dictionary.{Group, №453, №580, groups, theNine, header, fields, listed, kindIn, member, rowsOf, frameTag}
+use Rattle.dictionary.specs.Dictionary.{Group, №453, №580, groups, walked, header, fields, listed, kindIn, member, rowsOf, frameTag}
 use Rattle.dictionary.specs.code.Held.{allRows, tags, tagAt, Placed, index, bitOf, isNumeric, kindFor, written, sameAll, agree, rightIn, rightOf, right, entryOf, Table, Two, Right, Looked}
 use Rattle.dictionary.specs.declared.MsgType.{MsgType}
 use Rattle.dictionary.specs.declared.table.Entry.{Entry}
 use Rattle.dictionary.specs.declared.table.Line.{Line}
-use Rattle.dictionary.proofs.Lists.{agree-true, all-nine}
+use Rattle.dictionary.proofs.Lists.{agree-true, all-walked}
 use Rattle.frame.proofs.Tests.{both, all-at, map-at, has-next}
 
 pub tags-long : length tags ≡ 44
@@ -101,12 +101,12 @@ or-not false b h e = absurd (false≢true e)
 
 in-message : (e : Entry) → right e ≡ true → (m : MsgType) → rightIn e m ≡ true
 unfolding right
-in-message e h = all-nine (rightIn e) (both (all (rightIn e) theNine) _ h .0)
+in-message e h = all-walked (rightIn e) (both (all (rightIn e) walked) _ h .0)
 
 in-groups : (e : Entry) → right e ≡ true → (g : Group) → Two g → rightOf e g ≡ true
 unfolding right
-in-groups e h g (inl x) = rw x (both (rightOf e №453) _ (both (all (rightOf e) groups) _ (both (all (rightIn e) theNine) _ h .1) .0) .0)
-in-groups e h g (inr x) = rw x (both (rightOf e №580) _ (both (rightOf e №453) _ (both (all (rightOf e) groups) _ (both (all (rightIn e) theNine) _ h .1) .0) .1) .0)
+in-groups e h g (inl x) = rw x (both (rightOf e №453) _ (both (all (rightOf e) groups) _ (both (all (rightIn e) walked) _ h .1) .0) .0)
+in-groups e h g (inr x) = rw x (both (rightOf e №580) _ (both (rightOf e №453) _ (both (all (rightOf e) groups) _ (both (all (rightIn e) walked) _ h .1) .0) .1) .0)
 
 module _ (e : Entry) (h : right e ≡ true) (m : MsgType) where
   out : Bool
@@ -133,7 +133,7 @@ right-is : (e : Entry) → right e ≡ true → Right e
 unfolding right rightOf out mem kin num
 right-is e h =
     let g = in-groups e h in
-    let h2 = both (all (rightOf e) groups) _ (both (all (rightIn e) theNine) _ h .1) .1 in
+    let h2 = both (all (rightOf e) groups) _ (both (all (rightIn e) walked) _ h .1) .1 in
     let h3 = both (agree (bitOf (e .marks) 28) (listed header (e .tag))) _ h2 .1 in
     let h4 = both (agree (bitOf (e .marks) 29) (frameTag (e .tag))) _ h3 .1 in
     record {

@@ -12,7 +12,7 @@ use Rattle.frame.specs.Bytes.{Bytes, any, all, has}
 use Rattle.fields.specs.Field.{field, malformed}
 use Rattle.kinds.specs.Kind.{Kind, formed, allowed}
 use Rattle.kinds.specs.Judged.{meaning, judged}
-use Rattle.dictionary.specs.Dictionary.{Row, Group, №453, №580, theNine, header, fields, code35, listed, kindIn, groupsOf, member, rowsOf, inDictionary, administrative}
+use Rattle.dictionary.specs.Dictionary.{Row, Group, №453, №580, walked, header, fields, code35, listed, kindIn, groupsOf, member, rowsOf, inDictionary, administrative}
 use Rattle.dictionary.specs.Verdict.{Place, outside, inside, Past, _when_, firstOf, firstMember, rule1, rule2, rule3, rule4, rule5, rule6, rule7, rule8, rule9, rule10, left, skipped, rules4to10, said}
 use Rattle.dictionary.specs.code.Held.{allRows, tags, tagAt, index, kindFor, Two, Right, Looked, Belongs, Marked, Stood, away, within, Rules9and10}
 use Rattle.dictionary.specs.declared.MsgType.{MsgType}
@@ -50,7 +50,7 @@ frame-placed : all (has tags) (8 ∷ 9 ∷ 10 ∷ []) ≡ true
 unfolding allRows tags header fields №453 №580
 frame-placed = refl
 
-rows-placed : all (λ m. all placed (rowsOf m)) theNine ≡ true
+rows-placed : all (λ m. all placed (rowsOf m)) walked ≡ true
 unfolding placed allRows tags rowsOf header fields groupsOf №453 №580
 rows-placed = refl
 
@@ -78,7 +78,7 @@ module _ (t : ℕ) (n : has tags t ≡ false) where
 
   pub unknown-tag : inDictionary t ≡ false
   unfolding inDictionary
-  unknown-tag = rw (not-among (8 ∷ 9 ∷ 10 ∷ []) frame-placed, not-in theNine rows-placed)
+  unknown-tag = rw (not-among (8 ∷ 9 ∷ 10 ∷ []) frame-placed, not-in walked rows-placed)
 
   -- such a field is a member of no group
   pub unknown-belongs : (v : Bytes) → Belongs (field t v) 0 false

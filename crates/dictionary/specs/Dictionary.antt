@@ -70,10 +70,14 @@ groups = №453 ∷ №580 ∷ []
 unfoldable pub header : List Row
 header = 35 Y ∷ 49 Y ∷ 56 Y ∷ 34 Y ∷ 52 Y ∷ 43 N ∷ 97 N ∷ 122 N ∷ 1128 of "9" N ∷ []
 
--- The nine message types, in the document's order: what stands behind `35=`, and the fields of each.
+-- The nine message types, in the document's order: those that a Reject's 372 may name, ..
 abbrev pub theNine : List MsgType
 theNine =
     Heartbeat ∷ TestRequest ∷ ResendRequest ∷ Reject ∷ SequenceReset ∷ Logout ∷ Logon ∷ OrderCancelRequest ∷ TradeCaptureReportRequest ∷ []
+
+-- .. and those that are walked: what stands behind `35=`, and the fields of each.
+abbrev pub walked : List MsgType
+walked = theNine
 
 unfoldable pub code35 : MsgType → Bytes
 code35 Heartbeat = fix "0"
@@ -104,7 +108,7 @@ typeAmong [] v = none
 typeAmong (m ∷ ms) v = cond (same v (code35 m)) (some m) (typeAmong ms v)
 
 unfoldable pub typeOf : Bytes → Option MsgType
-typeOf v = typeAmong theNine v
+typeOf v = typeAmong walked v
 
 -- the code's answer for it, and what such an answer stands for
 abbrev pub named : Option MsgType → Named
@@ -152,4 +156,4 @@ abbrev pub frameTag : ℕ → Bool
 frameTag t = has (8 ∷ 9 ∷ 10 ∷ []) t
 
 unfoldable pub inDictionary : ℕ → Bool
-inDictionary t = frameTag t || any (λ m. listed (rowsOf m) t) theNine
+inDictionary t = frameTag t || any (λ m. listed (rowsOf m) t) walked

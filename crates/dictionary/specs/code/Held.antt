@@ -13,7 +13,7 @@ use Rattle.kinds.specs.Judged.{meaning}
 use Rattle.kinds.specs.declared.Kind as Code
 use Rattle.kinds.specs.declared.Kind.the-variants.{Text, Number, Flag, Time, Day, OneOf}
 use Rattle.kinds.specs.declared.Choice.the-variants.{Zero, Eight, Nine, D, OneOrTwo, ZeroOr54, Roles}
-use Rattle.dictionary.specs.Dictionary.{Row, Group, groups, №453, №580, theNine, header, fields, listed, kindIn, groupsOf, member, rowsOf, frameTag}
+use Rattle.dictionary.specs.Dictionary.{Row, Group, groups, №453, №580, walked, header, fields, listed, kindIn, groupsOf, member, rowsOf, frameTag}
 use Rattle.dictionary.specs.Verdict.{Open, Place, outside, inside, Past, firstOf, missing, incomplete, closing, ends, begins, firstMember, left, rule1, rule5, rule7, rule8, rule9, rule10, said, opened, walk}
 use Rattle.dictionary.specs.declared.MsgType.{MsgType}
 use Rattle.dictionary.specs.declared.MsgType.the-variants.{Heartbeat, TestRequest, ResendRequest, Reject, SequenceReset, Logout, Logon, OrderCancelRequest, TradeCaptureReportRequest}
@@ -143,7 +143,7 @@ rightOf e g =
 -- .. of the header, of the frame's tags and of the counts of groups.
 unfoldable pub right : Entry → Bool
 right e =
-    all (rightIn e) theNine
+    all (rightIn e) walked
     && (all (rightOf e) groups
     && (agree (bitOf (e .marks) 28) (listed header (e .tag))
     && (agree (bitOf (e .marks) 29) (frameTag (e .tag))
