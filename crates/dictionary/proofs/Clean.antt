@@ -13,18 +13,18 @@ use lib.ListN.{length, drop}
 use Rattle.frame.specs.Bytes.{Bytes, all, has, starts, within}
 use Rattle.fields.specs.Field.{Part, field, malformed, partOf, parts, firstOfParts, firstField, isBody}
 use Rattle.fields.proofs.Firsts.{tagged, starts-append, tag-part, part-split}
-use Rattle.dictionary.specs.Dictionary.{Row, №453, №580, walked, header, fields, rowsOf, listed, administrative, inDictionary}
+use Rattle.table.specs.Dictionary.{Row, №453, №580, walked, header, fields, rowsOf, listed, administrative, inDictionary}
 use Rattle.dictionary.specs.Verdict.{Open, Place, outside, inside, Past, _when_, firstOf, missing, closing, left, rule1, rule2, rule4, rule6, rule9, rule10, said, skipped, taken, after, verdictBy, walk, nothingYet, msgType, judgedAs, verdict}
-use Rattle.dictionary.specs.declared.MsgType.{MsgType}
+use Rattle.table.specs.declared.MsgType.{MsgType}
 use Rattle.dictionary.specs.declared.Says.{Says}
 use Rattle.dictionary.specs.declared.Says.the-variants.{Nothing, Reason}
 use Rattle.dictionary.specs.declared.Verdict.{Verdict}
 use Rattle.dictionary.specs.declared.Verdict.the-variants.{Clean, NoBody}
 use Rattle.dictionary.specs.Promise.{OfKind, required, Passed, PassedPart, AllPassed, CleanBody}
-use Rattle.dictionary.specs.code.Held.{allRows, tags}
+use Rattle.table.specs.code.Held.{allRows, tags}
 use Rattle.frame.proofs.Numerals.{within-is}
 use Rattle.frame.proofs.Tests.{both}
-use Rattle.dictionary.proofs.Lists.{all-walked}
+use Rattle.table.proofs.Lists.{all-walked}
 use Rattle.dictionary.proofs.Saying.{unknown-tag}
 use Rattle.dictionary.proofs.Turns.{silent, silent-at, unknown-skipped}
 

@@ -2,19 +2,21 @@
 use Prim.Native.Nat.{ℕ, _<_}
 use borrow.Author.Tests.{eq-eqb, ne-eqb, not-true, not-false}
 use mathlib.Core.Path.{_≡_, refl, ap, sym, _∙_}
-use mathlib.Core.List.{List, _++_}
+use mathlib.Core.List.{List, [], _∷_, _++_}
 use mathlib.Core.Bool.{Bool, true, false, not, _||_, false≢true, or-true}
 use lib.Dec.{eqb}
 use lib.ListN.{length, getD}
 use Rattle.frame.specs.Bytes.{Bytes, has}
 use Rattle.fields.specs.Field.{field}
-use Rattle.dictionary.specs.Dictionary.{Row, header, fields, listed, allMembers, groupsOf, member, rowsOf}
+use Rattle.table.specs.Dictionary.{Row, header, fields, listed, allMembers, groupsOf, member, rowsOf}
 use Rattle.dictionary.specs.Verdict.{Open, Place, outside, inside, firstMember, left, rule4, rule5, rule6, rule7, rule8}
-use Rattle.dictionary.specs.code.Held.{tagAt, index, bitOf, Right, InGroup, Stood, away, within, insideOf, Rule5, Rule7, Rule8}
-use Rattle.dictionary.specs.declared.MsgType.{MsgType}
+use Rattle.table.specs.code.Held.{tagAt, index, bitOf, Right}
+use Rattle.dictionary.specs.code.Held.{InGroup, Stood, away, within, insideOf, Rule5, Rule7, Rule8}
+use Rattle.table.specs.code.Held as Table
+use Rattle.table.specs.declared.MsgType.{MsgType}
 use Rattle.dictionary.specs.declared.Says.the-variants.{Nothing, Reason}
 use Rattle.dictionary.specs.declared.rules.State.{State}
-use Rattle.dictionary.specs.declared.table.Entry.{Entry}
+use Rattle.table.specs.declared.lines.Entry.{Entry}
 use Rattle.frame.proofs.Tests.{both, any-append}
 use Rattle.dictionary.proofs.Groups.{counted}
 
@@ -97,9 +99,13 @@ module _ {e : Entry} {met : List Bool} {st : State} (R : Right e) where
       (g, (refl, I, rw (sym (R .member-of (g .group) (I .two)), h), h))
 
 -- rule 8
+pub first-is : (rows : List Row) (t : ℕ) → Table.leads rows t ≡ firstMember rows t
+first-is [] t = refl
+first-is (r ∷ rs) t = refl
+
 pub leads : (e : Entry) (met : List Bool) (st : State) → Right e → (g : Open) → InGroup g met st → eqb (g .group .counter) (e .member .group) ≡ true
     → firstMember (g .group .members) (e .tag) ≡ e .member .first
-leads e met st R g I h = sym (R .first-of (g .group) (I .two)) ∙ rw h
+leads e met st R g I h = sym (first-is (g .group .members) (e .tag)) ∙ sym (R .first-of (g .group) (I .two)) ∙ rw h
 
 mark-of : (met : List Bool) (st : State) (p t : ℕ) → p < 44 → tagAt p ≡ t → (g : Open) → InGroup g met st → eqb (g .begun) 0 ≡ false → getD met p false ≡ has (g .last) t
 mark-of met st p t l e g I z = I .last z .at p l ∙ ap (has (g .last)) e

@@ -8,9 +8,10 @@ use mathlib.Core.Bool.{Bool, true, false, not}
 use mathlib.Core.Logic.{inl, inr}
 use lib.Dec.{eqb}
 use Rattle.fields.specs.Field.{Part}
-use Rattle.dictionary.specs.Dictionary.{Row, Group, №453, №580}
+use Rattle.table.specs.Dictionary.{Row, Group, №453, №580}
 use Rattle.dictionary.specs.Verdict.{Open, Place, outside, inside, firstOf, missing, incomplete, closing, ends, rule1}
-use Rattle.dictionary.specs.code.Held.{Two, membersOf, InGroup, Stood, away, within, Belongs, Missing, Incomplete, Closing}
+use Rattle.table.specs.code.Held.{Two, membersOf}
+use Rattle.dictionary.specs.code.Held.{InGroup, Stood, away, within, Belongs, Missing, Incomplete, Closing}
 use Rattle.dictionary.specs.declared.Says.{Says}
 use Rattle.dictionary.specs.declared.Says.the-variants.{Nothing, Reason}
 use Rattle.dictionary.specs.declared.rules.State.{State}

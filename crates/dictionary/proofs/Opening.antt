@@ -12,13 +12,14 @@ use Rattle.kinds.specs.Kind.{Kind, text, number_to_, Y/N, time, day, among, for
 use Rattle.kinds.specs.Judged.{meaning, numberOf}
 use Rattle.kinds.specs.declared.Number.{Number}
 use Rattle.kinds.specs.declared.Number.the-variants.{Is, Bad}
-use Rattle.dictionary.specs.Dictionary.{Row, Group, №453, №580, groups, header, fields, listed, kindIn, groupsAmong, groupsOf, rowsOf}
+use Rattle.table.specs.Dictionary.{Row, Group, №453, №580, groups, header, fields, listed, kindIn, groupsAmong, groupsOf, rowsOf}
 use Rattle.dictionary.specs.Verdict.{Open, outside, inside, _when_, opened, rule9}
-use Rattle.dictionary.specs.code.Held.{bitOf, isNumeric, kindFor, Two, Right, away, within, Over, Counted, Noted}
-use Rattle.dictionary.specs.declared.MsgType.{MsgType}
+use Rattle.table.specs.code.Held.{bitOf, isNumeric, kindFor, Two, Right}
+use Rattle.dictionary.specs.code.Held.{away, within, Over, Counted, Noted}
+use Rattle.table.specs.declared.MsgType.{MsgType}
 use Rattle.dictionary.specs.declared.Says.the-variants.{Nothing, Reason}
 use Rattle.dictionary.specs.declared.rules.State.{State}
-use Rattle.dictionary.specs.declared.table.Entry.{Entry}
+use Rattle.table.specs.declared.lines.Entry.{Entry}
 use Rattle.frame.proofs.Tests.{any-append}
 use Rattle.dictionary.proofs.FourToEight.{listed-rows}
 

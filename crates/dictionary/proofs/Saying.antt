@@ -12,18 +12,20 @@ use Rattle.frame.specs.Bytes.{Bytes, any, all, has}
 use Rattle.fields.specs.Field.{field, malformed}
 use Rattle.kinds.specs.Kind.{Kind, formed, allowed}
 use Rattle.kinds.specs.Judged.{meaning, judged}
-use Rattle.dictionary.specs.Dictionary.{Row, Group, №453, №580, walked, header, fields, code35, listed, kindIn, groupsOf, member, rowsOf, inDictionary, administrative}
+use Rattle.table.specs.Dictionary.{Row, Group, №453, №580, walked, header, fields, code35, listed, kindIn, groupsOf, member, rowsOf, inDictionary, administrative}
 use Rattle.dictionary.specs.Verdict.{Place, outside, inside, Past, _when_, firstOf, firstMember, rule1, rule2, rule3, rule4, rule5, rule6, rule7, rule8, rule9, rule10, left, skipped, rules4to10, said}
-use Rattle.dictionary.specs.code.Held.{allRows, tags, tagAt, index, kindFor, Two, Right, Looked, Belongs, Marked, Stood, away, within, Rules9and10}
-use Rattle.dictionary.specs.declared.MsgType.{MsgType}
-use Rattle.dictionary.specs.declared.MsgType.the-variants.{Heartbeat, TestRequest, ResendRequest, Reject, SequenceReset, Logout, Logon, OrderCancelRequest, TradeCaptureReportRequest}
+use Rattle.table.specs.code.Held.{allRows, tags, tagAt, index, kindFor, Two, Right, Looked, Marked}
+use Rattle.dictionary.specs.code.Held.{Belongs, Stood, away, within, Rules9and10}
+use Rattle.table.specs.declared.MsgType.{MsgType}
+use Rattle.table.specs.declared.MsgType.the-variants.{Heartbeat, TestRequest, ResendRequest, Reject, SequenceReset, Logout, Logon, OrderCancelRequest, TradeCaptureReportRequest}
 use Rattle.dictionary.specs.declared.Says.{Says}
 use Rattle.dictionary.specs.declared.Says.the-variants.{Nothing, Reason}
 use Rattle.dictionary.specs.declared.rules.State.{State}
-use Rattle.dictionary.specs.declared.table.Entry.{Entry}
+use Rattle.table.specs.declared.lines.Entry.{Entry}
 use Rattle.frame.proofs.Tests.{both, neither, all-at}
-use Rattle.dictionary.proofs.Places.{tags-long}
+use Rattle.table.proofs.Places.{tags-long}
 use Rattle.dictionary.proofs.Groups.{counted}
+use Rattle.dictionary.proofs.FourToEight.{first-is}
 
 -- r is what the first rule says that speaks: one that does, and one that does not
 pub record First (l : List Says) (r : Says) : Type 0 where
@@ -104,7 +106,7 @@ malformed-belongs = record {
 }
 
 pub entry-belongs : (e : Entry) (v : Bytes) → Right e → Belongs (field (e .tag) v) (e .member .group) (e .member .first)
-entry-belongs e v R = record { ended = λ g T. rw (R .member-of g T); begun = λ g T. sym (R .first-of g T) }
+entry-belongs e v R = record { ended = λ g T. rw (R .member-of g T); begun = λ g T. sym (first-is (g .members) (e .tag)) ∙ sym (R .first-of g T) }
 
 pub known-entry : {e : Entry} {p : ℕ} → Looked e p → inDictionary (e .tag) ≡ true
 known-entry {e} {p} L = ap inDictionary (sym (L .tagged)) ∙ known-tag p (L .small)

@@ -14,17 +14,18 @@ use Rattle.fields.specs.Item.{Span, Lies, Cut}
 use Rattle.fields.specs.declared.Item.{Item}
 use Rattle.fields.specs.declared.Item.the-variants.{Field, Malformed, End, NoBody}
 use Rattle.fields.proofs.Rows.{Step, Stepped, parts-step}
-use Rattle.dictionary.specs.Dictionary.{Row, header, fields}
+use Rattle.table.specs.Dictionary.{Row, header, fields}
 use Rattle.dictionary.specs.Verdict.{Past, firstOf, rule1, rule2, said, after, verdictBy, walk, nothingYet, missing}
-use Rattle.dictionary.specs.code.Held.{tagAt, Looked, Marked, away, Stands, Closing, Missing, Finished}
-use Rattle.dictionary.specs.declared.MsgType.{MsgType}
+use Rattle.table.specs.code.Held.{tagAt, Looked, Marked}
+use Rattle.dictionary.specs.code.Held.{away, Stands, Closing, Missing, Finished}
+use Rattle.table.specs.declared.MsgType.{MsgType}
 use Rattle.dictionary.specs.declared.Says.{Says}
 use Rattle.dictionary.specs.declared.Says.the-variants.{Nothing, Reason}
 use Rattle.dictionary.specs.declared.Verdict.{Verdict}
 use Rattle.dictionary.specs.declared.Verdict.the-variants.{Clean}
 use Rattle.dictionary.specs.declared.rules.State.{State}
-use Rattle.dictionary.specs.declared.table.Entry.{Entry}
-use Rattle.dictionary.proofs.Places.{one-place}
+use Rattle.table.specs.declared.lines.Entry.{Entry}
+use Rattle.table.proofs.Places.{one-place}
 use Rattle.dictionary.proofs.Groups.{alone}
 
 -- a mark that is set, and no marks

@@ -1,14 +1,15 @@
 // The ten rules at a field, each a function under its number.
-use super::MsgType;
 use super::Says;
-use super::table::Entry;
-use super::table::kind_of;
-use super::table::missing_member;
+use super::missing::missing_member;
+use table::Entry;
+use table::MsgType;
+use table::kind_of;
 ghost use mathlib.Core.Path.{_≡_};
 ghost use Prim.Native.Nat.{_<_};
-ghost use Rattle.dictionary.specs.Dictionary.{administrative};
+ghost use Rattle.table.specs.Dictionary.{administrative};
 ghost use Rattle.dictionary.specs.Verdict.{rule4, rule6};
-ghost use Rattle.dictionary.specs.code.Held.{Index, index, bitOf, Right, Looked, insideOf, Incomplete, Closing, Rule1, Rule5, Rule7, Rule8, Rules9and10, OfMalformed, OfUnknown, OfKnown, Counted, Over, Noted, leftOf, begunOf};
+ghost use Rattle.table.specs.code.Held.{Index, index, bitOf, Right, Looked};
+ghost use Rattle.dictionary.specs.code.Held.{insideOf, Incomplete, Closing, Rule1, Rule5, Rule7, Rule8, Rules9and10, OfMalformed, OfUnknown, OfKnown, Counted, Over, Noted, leftOf, begunOf};
 
 // What the walk holds beside its marks: a tag outside the header was met; the open group by its count tag (0: none), its count, and the instances
 // begun.

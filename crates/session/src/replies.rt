@@ -2,11 +2,11 @@
 use crate::moved::next_after;
 use crate::reads::number_in;
 use crate::rules::Letter;
-use dictionary::Named;
 use dictionary::type_of;
 use fields::Place;
 use fields::first_field;
 use fields::type_field;
+use table::Named;
 use writer::gap_fill;
 use writer::heartbeat;
 use writer::logon;

@@ -11,11 +11,11 @@ use borrow.Author.Tests.{ne-eqb}
 use Rattle.frame.specs.Bytes.{Bytes, fix, same}
 use Rattle.frame.proofs.Tests.{both, allBelow, at-below}
 use Rattle.kinds.proofs.Values.{same-long}
-use Rattle.dictionary.specs.declared.MsgType.{MsgType}
-use Rattle.dictionary.specs.declared.MsgType.the-variants.{OrderCancelRequest, TradeCaptureReportRequest}
-use Rattle.dictionary.specs.Dictionary.{code35, walked, typeAmong, typeOf, rowsOf, listed, administrative}
-use Rattle.dictionary.specs.code.Held.{agree}
-use Rattle.dictionary.proofs.Lists.{agree-true}
+use Rattle.table.specs.declared.MsgType.{MsgType}
+use Rattle.table.specs.declared.MsgType.the-variants.{OrderCancelRequest, TradeCaptureReportRequest}
+use Rattle.table.specs.Dictionary.{code35, walked, typeAmong, typeOf, rowsOf, listed, administrative}
+use Rattle.table.specs.code.Held.{agree}
+use Rattle.table.proofs.Lists.{agree-true}
 use Rattle.dictionary.proofs.Types.{one-byte, type-coded}
 use Rattle.writer.specs.Message.{own}
 use Rattle.writer.specs.Call.{required, ifAdministrative, admin}
