@@ -10,7 +10,7 @@ use Rattle.frame.specs.Bytes.{Bytes, has}
 use Rattle.fields.specs.Field.{field}
 use Rattle.table.specs.Dictionary.{Row, header, fields, listed, allMembers, groupsOf, member, rowsOf}
 use Rattle.dictionary.specs.Verdict.{Open, Place, outside, inside, firstMember, left, rule4, rule5, rule6, rule7, rule8}
-use Rattle.table.specs.code.Held.{tagAt, index, bitOf, Right}
+use Rattle.table.specs.code.Held.{tagCount, tagAt, index, bitOf, Right}
 use Rattle.dictionary.specs.code.Held.{InGroup, Stood, away, within, insideOf, Rule5, Rule7, Rule8}
 use Rattle.table.specs.code.Held as Table
 use Rattle.table.specs.declared.MsgType.{MsgType}
@@ -107,7 +107,7 @@ pub leads : (e : Entry) (met : List Bool) (st : State) → Right e → (g : Open
     → firstMember (g .group .members) (e .tag) ≡ e .member .first
 leads e met st R g I h = sym (first-is (g .group .members) (e .tag)) ∙ sym (R .first-of (g .group) (I .two)) ∙ rw h
 
-mark-of : (met : List Bool) (st : State) (p t : ℕ) → p < 44 → tagAt p ≡ t → (g : Open) → InGroup g met st → eqb (g .begun) 0 ≡ false → getD met p false ≡ has (g .last) t
+mark-of : (met : List Bool) (st : State) (p t : ℕ) → p < tagCount → tagAt p ≡ t → (g : Open) → InGroup g met st → eqb (g .begun) 0 ≡ false → getD met p false ≡ has (g .last) t
 mark-of met st p t l e g I z = I .last z .at p l ∙ ap (has (g .last)) e
 
 module _ {m : MsgType} {e : Entry} {met : List Bool} {st : State} (R : Right e) where
@@ -138,7 +138,7 @@ module _ {m : MsgType} {e : Entry} {met : List Bool} {st : State} (R : Right e) 
             rw (w .1 .2, leads e met st R (w .0) (w .1 .1) (w .1 .3) ∙ f, eq-eqb (w .0 .begun) 0 (sym (w .1 .1 .begun) ∙ z));
       }
 
-      module _ {p : ℕ} (n : st .begun ≡ 0 → ⊥) (l : p < 44) (t : tagAt p ≡ e .tag) where
+      module _ {p : ℕ} (n : st .begun ≡ 0 → ⊥) (l : p < tagCount) (t : tagAt p ≡ e .tag) where
         pub rule8-again : getD met p false ≡ true → Rule8 m met st (e .tag) (Reason 13 (e .tag))
         unfolding rule8
         rule8-again y = record {

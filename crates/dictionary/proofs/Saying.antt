@@ -14,7 +14,7 @@ use Rattle.kinds.specs.Kind.{Kind, formed, allowed}
 use Rattle.kinds.specs.Judged.{meaning, judged}
 use Rattle.table.specs.Dictionary.{Row, Group, №453, №580, walked, header, fields, code35, listed, kindIn, groupsOf, member, rowsOf, inDictionary, administrative}
 use Rattle.dictionary.specs.Verdict.{Place, outside, inside, Past, _when_, firstOf, firstMember, rule1, rule2, rule3, rule4, rule5, rule6, rule7, rule8, rule9, rule10, left, skipped, rules4to10, said}
-use Rattle.table.specs.code.Held.{allRows, tags, tagAt, index, kindFor, Two, Right, Looked, Marked}
+use Rattle.table.specs.code.Held.{tagCount, allRows, tags, tagAt, index, kindFor, Two, Right, Looked, Marked}
 use Rattle.dictionary.specs.code.Held.{Belongs, Stood, away, within, Rules9and10}
 use Rattle.table.specs.declared.MsgType.{MsgType}
 use Rattle.table.specs.declared.MsgType.the-variants.{Heartbeat, TestRequest, ResendRequest, Reject, SequenceReset, Logout, Logon, OrderCancelRequest, TradeCaptureReportRequest}
@@ -42,7 +42,7 @@ all-known : all inDictionary tags ≡ true
 unfolding allRows tags inDictionary rowsOf header fields groupsOf №453 №580
 all-known = refl
 
-pub known-tag : (p : ℕ) → p < 44 → inDictionary (tagAt p) ≡ true
+pub known-tag : (p : ℕ) → p < tagCount → inDictionary (tagAt p) ≡ true
 known-tag p h = all-at inDictionary 0 tags all-known p (omega (arith, tags-long))
 
 placed : Row → Bool

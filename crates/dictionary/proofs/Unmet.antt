@@ -7,7 +7,7 @@ use mathlib.Core.Bool.{Bool, true, false, cond, not, _&&_}
 use mathlib.Core.Option.{Option, none, some}
 use Rattle.frame.specs.Bytes.{has}
 use Rattle.table.specs.Dictionary.{Row}
-use Rattle.table.specs.code.Held.{tagAt, unmet, Lacking}
+use Rattle.table.specs.code.Held.{tagCount, tagAt, unmet, Lacking}
 use Rattle.dictionary.specs.Verdict.{missing}
 use Rattle.dictionary.specs.code.Held.{Missing}
 use Rattle.dictionary.specs.declared.Says.{Says}
@@ -29,13 +29,13 @@ by-unmet (r ∷ rs) met = go (r .required && not (has met (r .tag))) (by-unmet r
 
 -- what is said of the place that was found
 module _ {marks : List Bool} {rows : List Row} {p : ℕ} (L : Lacking marks rows p) where
-  pub lacks-nothing : p ≡ 44 → Missing marks rows Nothing
+  pub lacks-nothing : p ≡ tagCount → Missing marks rows Nothing
   unfolding saidOf
   lacks-nothing e = record { is = λ met M. sym (by-unmet rows met ∙ ap saidOf (L .nothing e met M)) }
 
-  pub lacks-small : (p ≡ 44 → ⊥) → p < 44
+  pub lacks-small : (p ≡ tagCount → ⊥) → p < tagCount
   lacks-small n = omega (arith, L .within)
 
-  pub lacks-one : {s : Says} → (p ≡ 44 → ⊥) → s ≡ Reason 1 (tagAt p) → Missing marks rows s
+  pub lacks-one : {s : Says} → (p ≡ tagCount → ⊥) → s ≡ Reason 1 (tagAt p) → Missing marks rows s
   unfolding saidOf
   lacks-one n e = record { is = λ met M. e ∙ sym (by-unmet rows met ∙ ap saidOf (L .first (lacks-small n) met M)) }

@@ -16,7 +16,7 @@ use Rattle.fields.specs.declared.Item.the-variants.{Field, Malformed, End, NoBo
 use Rattle.fields.proofs.Rows.{Step, Stepped, parts-step}
 use Rattle.table.specs.Dictionary.{Row, header, fields}
 use Rattle.dictionary.specs.Verdict.{Past, firstOf, rule1, rule2, said, after, verdictBy, walk, nothingYet, missing}
-use Rattle.table.specs.code.Held.{tagAt, Looked, Marked}
+use Rattle.table.specs.code.Held.{tagCount, tagAt, Looked, Marked}
 use Rattle.dictionary.specs.code.Held.{away, Stands, Closing, Missing, Finished}
 use Rattle.table.specs.declared.MsgType.{MsgType}
 use Rattle.dictionary.specs.declared.Says.{Says}
@@ -32,10 +32,10 @@ use Rattle.dictionary.proofs.Groups.{alone}
 pub mark-more : {e : Entry} {p : ℕ} {marks : List Bool} {met : List ℕ} → Looked e p → length marks ≡ 128 → Marked marks met → Marked (set marks p true) (e .tag ∷ met)
 mark-more {e} {p} {marks} {met} L n M = record { at = λ q h. go q h (eqb (e .tag) (tagAt q)) refl }
   where
-    go : (q : ℕ) → q < 44 → (b : Bool) → eqb (e .tag) (tagAt q) ≡ b → getD (set marks p true) q false ≡ (b || has met (tagAt q))
+    go : (q : ℕ) → q < tagCount → (b : Bool) → eqb (e .tag) (tagAt q) ≡ b → getD (set marks p true) q false ≡ (b || has met (tagAt q))
     go q h true x =
         let s : p ≡ q = one-place p q (L .small) h (L .tagged ∙ eqb-true (e .tag) (tagAt q) x) in
-        let k : q < 44 = h in
+        let k : q < tagCount = h in
         rw s (getD-set-same marks q true false (omega arith))
     go q h false x =
         getD-set-other marks p q true false (λ s. eqb-false (e .tag) (tagAt q) x (sym (L .tagged) ∙ ap tagAt (sym s))) ∙ M .at q h

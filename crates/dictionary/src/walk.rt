@@ -19,6 +19,7 @@ use fields::type_field;
 use kinds::same;
 use table::MsgType;
 use table::Named;
+use table::TAGS;
 use table::entry_of;
 use table::place_of;
 use table::table;
@@ -82,7 +83,7 @@ fn walk(m: MsgType, body: &[u8]) -> Verdict
                 next,
             } => {
                 let p = place_of(tag);
-                if p == 44 {
+                if p == TAGS {
                     let said = of_unknown(m, st, &met, tag);
                     let Says::Nothing = said else {
                         return finding(said);

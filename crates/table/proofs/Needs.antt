@@ -14,7 +14,7 @@ use Rattle.frame.specs.Bytes.{has}
 use Rattle.frame.proofs.Tests.{both}
 use Rattle.kinds.specs.Kind.{day}
 use Rattle.table.specs.Dictionary.{Row, №453, №580, header, fields}
-use Rattle.table.specs.code.Held.{agree, tagAt, allRows, rowsIn, rightRow, rightRows, InRows, lackedBy, unmet, Lacking, Marked}
+use Rattle.table.specs.code.Held.{tagCount, rowCount, agree, tagAt, allRows, rowsIn, rightRow, rightRows, InRows, lackedBy, unmet, Lacking, Marked}
 use Rattle.table.proofs.Lists.{agree-true}
 
 row-at : (d : ℕ) (r : Row) (l : List ℕ) (rs : List Row) → rightRows l rs ≡ true → (k : ℕ) → k < length l → rightRow (getD l k d) (getD rs k r) ≡ true
@@ -23,12 +23,12 @@ row-at d r (x ∷ l) [] h k n = absurd (false≢true h)
 row-at d r (x ∷ l) (y ∷ rs) h zero n = both (rightRow x y) (rightRows l rs) h .0
 row-at d r (x ∷ l) (y ∷ rs) h (suc k) n = row-at d r l rs (both (rightRow x y) (rightRows l rs) h .1) k (omega arith)
 
-all-long : length allRows ≡ 48
+all-long : length allRows ≡ rowCount
 unfolding allRows header fields №453 №580
 all-long = refl
 
 -- one row further, or a tag that was not met
-module _ (l : List ℕ) (R : InRows l) (d k e : ℕ) (h : k < e) (w : e ≤ 48) where
+module _ (l : List ℕ) (R : InRows l) (d k e : ℕ) (h : k < e) (w : e ≤ rowCount) where
   void : Row
   void = record { tag = 0; kind = day; required = false }
 
@@ -48,15 +48,15 @@ module _ (l : List ℕ) (R : InRows l) (d k e : ℕ) (h : k < e) (w : e ≤ 48) 
   place : ℕ
   place = getD l k d % 128
 
-  two : (ltb place 44 ≡ true) × (eqb (tagAt place) (at .tag) ≡ true)
+  two : (ltb place tagCount ≡ true) × (eqb (tagAt place) (at .tag) ≡ true)
   unfolding place
   two = let b = both (agree (leb 128 (getD l k d)) (at .required)) _ right .1 in
-      let c = both (ltb (getD l k d % 128) 44) _ b in
+      let c = both (ltb (getD l k d % 128) tagCount) _ b in
       (c .0, c .1)
 
-  pub place-small : getD l k d % 128 < 44
+  pub place-small : getD l k d % 128 < tagCount
   unfolding place
-  place-small = ltb-true _ 44 (two .0)
+  place-small = ltb-true _ tagCount (two .0)
 
   module _ (marks : List Bool) (met : List ℕ) (M : Marked marks met) where
     lacks-is : lackedBy marks (getD l k d) ≡ (at .required && not (has met (at .tag)))

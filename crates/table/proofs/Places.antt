@@ -13,31 +13,31 @@ use Rattle.kinds.specs.Kind.{Kind, text, number_to_, Y/N, time, day, among}
 use Rattle.kinds.specs.Judged.{meaning}
 use Rattle.kinds.proofs.Values.{same-true}
 use Rattle.table.specs.Dictionary.{Group, №453, №580, groups, walked, header, fields, listed, kindIn, member, rowsOf, frameTag}
-use Rattle.table.specs.code.Held.{allRows, tags, tagAt, Placed, index, bitOf, isNumeric, kindFor, written, sameAll, agree, rightIn, rightOf, right, entryOf, Table, Two, Right, Looked}
+use Rattle.table.specs.code.Held.{tagCount, allRows, tags, tagAt, Placed, index, bitOf, isNumeric, kindFor, written, sameAll, agree, rightIn, rightOf, right, entryOf, Table, Two, Right, Looked}
 use Rattle.table.specs.declared.MsgType.{MsgType}
 use Rattle.table.specs.declared.lines.Entry.{Entry}
 use Rattle.table.specs.declared.lines.Line.{Line}
 use Rattle.table.proofs.Lists.{agree-true, all-walked}
 use Rattle.frame.proofs.Tests.{both, all-at, map-at, has-next}
 
-pub tags-long : length tags ≡ 44
+pub tags-long : length tags ≡ tagCount
 unfolding allRows tags header fields №453 №580
 tags-long = refl
 
-pub entry-tag : (t : List Line) (d : Line) (i : ℕ) → Table t → i < 44 → getD t i d .0 ≡ tagAt i
+pub entry-tag : (t : List Line) (d : Line) (i : ℕ) → Table t → i < tagCount → getD t i d .0 ≡ tagAt i
 entry-tag t d i T h =
-    let e : length t ≡ 44 = sym (length-map t (λ (x : Line). x .0)) ∙ ap length (T .order) ∙ tags-long in
+    let e : length t ≡ tagCount = sym (length-map t (λ (x : Line). x .0)) ∙ ap length (T .order) ∙ tags-long in
     sym (map-at (λ (x : Line). x .0) d 0 t i (omega arith)) ∙ ap (λ (l : List ℕ). getD l i 0) (T .order)
 
 -- the search for a tag, at a place and past it
-pub place-here : (t : List Line) (d : Line) (i x : ℕ) → Table t → i < 44 → getD t i d .0 ≡ x → Placed x i
+pub place-here : (t : List Line) (d : Line) (i x : ℕ) → Table t → i < tagCount → getD t i d .0 ≡ x → Placed x i
 place-here t d i x T h e = record { within = omega arith; there = λ k. sym (entry-tag t d i T h) ∙ e; absent = λ k. absurd (omega arith) }
 
-pub place-next : (t : List Line) (d : Line) (i x : ℕ) → Table t → i < 44 → (getD t i d .0 ≡ x → ⊥) → has (drop i tags) x ≡ has (drop (i + 1) tags) x
+pub place-next : (t : List Line) (d : Line) (i x : ℕ) → Table t → i < tagCount → (getD t i d .0 ≡ x → ⊥) → has (drop i tags) x ≡ has (drop (i + 1) tags) x
 place-next t d i x T h n =
     has-next tags i x (omega (arith, tags-long)) (λ e. n (entry-tag t d i T h ∙ e))
 
-pub place-none : (i x : ℕ) → i ≡ 44 → has tags x ≡ has (drop i tags) x → Placed x i
+pub place-none : (i x : ℕ) → i ≡ tagCount → has tags x ≡ has (drop i tags) x → Placed x i
 unfolding allRows tags header fields №453 №580
 place-none i x e h = record { within = omega arith; there = λ k. absurd (omega arith); absent = λ k. h ∙ ap (λ (n : ℕ). has (drop n tags) x) e }
 
@@ -60,10 +60,10 @@ in-place : inPlace 0 tags ≡ true
 unfolding inPlace placeIn allRows tags header fields №453 №580
 in-place = refl
 
-back : (p : ℕ) → p < 44 → placeIn tags (tagAt p) ≡ p
+back : (p : ℕ) → p < tagCount → placeIn tags (tagAt p) ≡ p
 back p h = in-place-at 0 tags in-place p (omega (arith, tags-long)) ∙ omega arith
 
-pub one-place : (p q : ℕ) → p < 44 → q < 44 → tagAt p ≡ tagAt q → p ≡ q
+pub one-place : (p q : ℕ) → p < tagCount → q < tagCount → tagAt p ≡ tagAt q → p ≡ q
 one-place p q h k e = sym (back p h) ∙ ap (placeIn tags) e ∙ back q k
 
 -- an entry that passed the test says of its tag what the document's lists say
@@ -148,8 +148,8 @@ right-is e h =
       counts-number = λ m b. or-not (bitOf (e .marks) 30) _ (four e h m .3) b;
     }
 
-module _ {t : List Line} (d : Line) {x p : ℕ} (T : Table t) (P : Placed x p) (n : p ≡ 44 → ⊥) where
-  small : p < 44
+module _ {t : List Line} (d : Line) {x p : ℕ} (T : Table t) (P : Placed x p) (n : p ≡ tagCount → ⊥) where
+  small : p < tagCount
   small = omega (arith, P .within)
 
   pub entry-is : {e : Entry} → e ≡ entryOf (getD t p d) → e .tag ≡ x
@@ -157,7 +157,7 @@ module _ {t : List Line} (d : Line) {x p : ℕ} (T : Table t) (P : Placed x p) (
 
   here : Looked (entryOf (getD t p d)) p
   here =
-      let e : length (map (λ (y : Line). y .0) t) ≡ 44 = ap length (T .order) ∙ tags-long in
+      let e : length (map (λ (y : Line). y .0) t) ≡ tagCount = ap length (T .order) ∙ tags-long in
       record {
         right = right-is (entryOf (getD t p d)) (all-at (λ (l : Line). right (entryOf l)) d t (T .rights) p (omega (arith, small, length-map t (λ (y : Line). y .0))));
         small = small;

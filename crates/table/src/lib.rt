@@ -25,6 +25,7 @@ mod rows;
 pub use lines::Entry;
 pub use lines::Line;
 pub use lines::Member;
+pub use lines::TAGS;
 pub use lines::entry_of;
 pub use lines::kind_of;
 pub use lines::place_of;

@@ -4,7 +4,7 @@ use kinds::Choice;
 use kinds::Kind;
 ghost use mathlib.Core.Path.{_≡_};
 ghost use Prim.Native.Nat.{_<_};
-ghost use Rattle.table.specs.code.Held.{tagAt, entryOf, kindFor, Table, Placed};
+ghost use Rattle.table.specs.code.Held.{tagCount, tagAt, entryOf, kindFor, Table, Placed};
 
 // A tag's line of the dictionary: the number of its kind; the messages that have it outside groups; and the group that has it as a member.
 pub struct Entry {
@@ -93,7 +93,7 @@ const ZERO_OR_54: u32 = 16;
 
 const ROLES: u32 = 17;
 
-// The kind of an entry's values in a message.
+// The kind of an entry's values in a message. (In document 01 a tag has the same kind in all of its messages.)
 pub fn kind_of(e: Entry, m: MsgType) -> Kind
     ensures { λ r. ⌜ r ≡ kindFor m (e .kind) ⌝ }
 {
@@ -147,8 +147,11 @@ pub fn entry_of(line: Line) -> Entry
     }
 }
 
+// How many tags there are.
+pub const TAGS: usize = 44;
+
 // The tags of the frame, then those of the lists below as they come; a line's place is also the place of its tag's mark.
-const TABLE: [Line; 44] = [
+const TABLE: [Line; TAGS] = [
     Line(8, STRING, FRAME, 0, 0),
     Line(9, STRING, FRAME, 0, 0),
     Line(10, STRING, FRAME, 0, 0),
@@ -196,19 +199,19 @@ const TABLE: [Line; 44] = [
 ];
 
 // The one function that names the table: whoever looks into it takes it into a local, once.
-pub fn table() -> [Line; 44]
+pub fn table() -> [Line; TAGS]
     ensures { λ r. ⌜ Table r ⌝ }
 {
     TABLE
 }
 
-// The place of a tag in the table, or 44. (Compiled, the search over constants is a tree of comparisons.)
+// The place of a tag in the table, or the number of tags. (Compiled, the search over constants is a tree of comparisons.)
 pub fn place_of(tag: u32) -> usize
     ensures { λ r. ⌜ Placed tag r ⌝ }
 {
     let t = table();
     let mut i: usize = 0;
-    while i < 44 {
+    while i < TAGS {
         let line = t[i];
         if line.0 == tag {
             return i;
@@ -220,7 +223,7 @@ pub fn place_of(tag: u32) -> usize
 
 // The tag of a line.
 pub fn tag_at(p: usize) -> u32
-    requires { ⌜ p < 44 ⌝ }
+    requires { ⌜ p < tagCount ⌝ }
     ensures { λ r. ⌜ r ≡ tagAt p ⌝ }
 {
     let t = table();

@@ -1,15 +1,16 @@
 // The rows of the document's lists in their order, and the first required tag of a list that is not marked.
 use super::MsgType;
+use super::lines::TAGS;
 ghost use Prim.Native.Nat.{_≤_};
 ghost use mathlib.Core.Path.{_≡_};
 ghost use Rattle.table.specs.Dictionary.{header, fields};
-ghost use Rattle.table.specs.code.Held.{InRows, rowsIn, membersOf, lackedBy, Lacking};
+ghost use Rattle.table.specs.code.Held.{rowCount, InRows, rowsIn, membersOf, lackedBy, Lacking};
 
 // The lists of the document one behind the other, each field by the place of its tag; 128 more where the tag is required. (As bytes, so that the
 // constant costs three stores.)
 const Y: u8 = 128;
 
-const ROWS: [u8; 48] = [
+const ROWS: [u8; AT_END] = [
     // header: 35, 49, 56, 34, 52, 43, 97, 122, 1128
     Y + 3,
     Y + 4,
@@ -72,7 +73,7 @@ const ROWS: [u8; 48] = [
     32,
 ];
 
-fn rows() -> [u8; 48]
+fn rows() -> [u8; AT_END]
     ensures { λ r. ⌜ InRows r ⌝ }
 {
     ROWS
@@ -103,11 +104,11 @@ const AT_580: usize = AT_453 + 3;
 
 const AT_END: usize = AT_580 + 2;
 
-// The place of the first required tag of some rows that is not marked, or 44.
-fn lacking(t: &[u8; 48], marks: &[bool; 128], from: usize, to: usize) -> usize
+// The place of the first required tag of some rows that is not marked, or the number of tags.
+fn lacking(t: &[u8; AT_END], marks: &[bool; 128], from: usize, to: usize) -> usize
     requires { ⌜ InRows (now t) ⌝ }
     requires { ⌜ from ≤ to ⌝ }
-    requires { ⌜ to ≤ 48 ⌝ }
+    requires { ⌜ to ≤ rowCount ⌝ }
     ensures { λ r. ⌜ Lacking (now (marks .entry)) (rowsIn from to) r ⌝ }
 {
     let mut k = from;
@@ -118,7 +119,7 @@ fn lacking(t: &[u8; 48], marks: &[bool; 128], from: usize, to: usize) -> usize
         }
         k += 1;
     }
-    44
+    TAGS
 }
 
 // A row's tag is required and not marked.

@@ -1,5 +1,5 @@
 -- What the walk remembers, and what its functions answer. Only the code's walk needs these: nothing here states document 01.
-use Prim.Native.Nat.{ℕ, _+_, _<_}
+use Prim.Native.Nat.{ℕ, _+_}
 use mathlib.Core.Path.{_≡_}
 use mathlib.Core.List.{List, [], _∷_, _++_}
 use mathlib.Core.Bool.{Bool, true, false, not, _&&_}
@@ -9,7 +9,7 @@ use Rattle.fields.specs.Field.{Part, field, malformed}
 use Rattle.kinds.specs.Kind.{isNumber}
 use Rattle.table.specs.Dictionary.{Row, Group, header, fields, listed, groupsOf, rowsOf}
 use Rattle.table.specs.code.Held.{tags, Two, Marked}
-use Rattle.dictionary.specs.Verdict.{Open, Place, outside, inside, Past, firstOf, missing, incomplete, closing, ends, begins, firstMember, left, rule1, rule5, rule7, rule8, rule9, rule10, said, opened, walk}
+use Rattle.dictionary.specs.Verdict.{Open, Place, outside, inside, Past, firstOf, missing, incomplete, closing, ends, begins, left, rule1, rule5, rule7, rule8, rule9, rule10, said, opened, walk}
 use Rattle.table.specs.declared.MsgType.{MsgType}
 use Rattle.dictionary.specs.declared.Says.{Says}
 use Rattle.dictionary.specs.declared.Says.the-variants.{Nothing}

@@ -44,14 +44,21 @@ once met (t ∷ ts) = once (cond (has met t) met (met ++ t ∷ [])) ts
 unfoldable pub tags : List ℕ
 tags = once (8 ∷ 9 ∷ 10 ∷ []) (map (λ (r : Row). r .tag) allRows)
 
+-- how many there are of both
+abbrev pub rowCount : ℕ
+rowCount = 48
+
+abbrev pub tagCount : ℕ
+tagCount = 44
+
 abbrev pub tagAt : ℕ → ℕ
 tagAt p = getD tags p 0
 
--- r is the place of tag t, or 44
+-- r is the place of tag t, or the number of tags
 pub record Placed (t r : ℕ) : Type 0 where
-  pub within : r ≤ 44
-  pub there : r < 44 → tagAt r ≡ t
-  pub absent : r ≡ 44 → has tags t ≡ false
+  pub within : r ≤ tagCount
+  pub there : r < tagCount → tagAt r ≡ t
+  pub absent : r ≡ tagCount → has tags t ≡ false
 
 -- the bit of a message in an entry's marks
 abbrev pub index : MsgType → ℕ
@@ -176,12 +183,12 @@ pub record Right (e : Entry) : Type 0 where
 -- an entry that was looked up, and its place
 pub record Looked (e : Entry) (p : ℕ) : Type 0 where
   pub right : Right e
-  pub small : p < 44
+  pub small : p < tagCount
   pub tagged : tagAt p ≡ e .tag
 
 -- THE ROWS. A byte of the constant is the place of its row's tag, and 128 more where the tag is required.
 abbrev pub rightRow : ℕ → Row → Bool
-rightRow x r = agree (leb 128 x) (r .required) && (ltb (x % 128) 44 && eqb (tagAt (x % 128)) (r .tag))
+rightRow x r = agree (leb 128 x) (r .required) && (ltb (x % 128) tagCount && eqb (tagAt (x % 128)) (r .tag))
 
 abbrev pub rightRows : List ℕ → List Row → Bool
 rightRows [] [] = true
@@ -191,7 +198,7 @@ rightRows (x ∷ l) (r ∷ rs) = rightRow x r && rightRows l rs
 
 pub record InRows (l : List ℕ) : Type 0 where
   pub rows : rightRows l allRows ≡ true
-  pub long : length l ≡ 48
+  pub long : length l ≡ rowCount
 
 -- some of the rows, and the members of a group
 abbrev pub rowsIn : ℕ → ℕ → List Row
@@ -202,18 +209,18 @@ membersOf g = cond (eqb g 453) (№453 .members) (№580 .members)
 
 -- MARKS. A mark stands at the place of each tag that was met, and at no other.
 pub record Marked (marks : List Bool) (met : List ℕ) : Type 0 where
-  pub at : (p : ℕ) → p < 44 → getD marks p false ≡ has met (tagAt p)
+  pub at : (p : ℕ) → p < tagCount → getD marks p false ≡ has met (tagAt p)
 
 -- WHAT IS MISSING. The first required tag of some rows that is not among the tags met, ..
 abbrev pub unmet : List Row → List ℕ → Option ℕ
 unmet [] met = none
 unmet (r ∷ rs) met = cond (r .required && not (has met (r .tag))) (some (r .tag)) (unmet rs met)
 
--- .. a row whose tag is required and not marked, and the place of the first such tag, or 44
+-- .. a row whose tag is required and not marked, and the place of the first such tag, or the number of tags
 abbrev pub lackedBy : List Bool → ℕ → Bool
 lackedBy marks x = leb 128 x && not (getD marks (x % 128) false)
 
 pub record Lacking (marks : List Bool) (rows : List Row) (r : ℕ) : Type 0 where
-  pub within : r ≤ 44
-  pub nothing : r ≡ 44 → (met : List ℕ) → Marked marks met → unmet rows met ≡ none
-  pub first : r < 44 → (met : List ℕ) → Marked marks met → unmet rows met ≡ some (tagAt r)
+  pub within : r ≤ tagCount
+  pub nothing : r ≡ tagCount → (met : List ℕ) → Marked marks met → unmet rows met ≡ none
+  pub first : r < tagCount → (met : List ℕ) → Marked marks met → unmet rows met ≡ some (tagAt r)

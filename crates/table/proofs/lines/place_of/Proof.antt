@@ -6,15 +6,15 @@ use mathlib.Core.Path.{_≡_, refl, _∙_}
 use Rattle.table.proofs.Places.{place-here, place-next, place-none}
 use lib.ListN.{drop}
 use Rattle.frame.specs.Bytes.{has}
-use Rattle.table.specs.code.Held.{tags}
+use Rattle.table.specs.code.Held.{tagCount, tags}
 use Rattle.table.proofs.lines.place_of.Statement.{statement}
 use Rattle.table.proofs.lines.place_of.Tie as tie
 
 abbrev Inv-loop : tie.InvT-loop
-Inv-loop tag t i₀ i = (i ≤ 44) × (has tags tag ≡ has (drop i tags) tag)
+Inv-loop tag t i₀ i = (i ≤ tagCount) × (has tags tag ≡ has (drop i tags) tag)
 
 abbrev μ-loop : tie.MeasureT-loop
-μ-loop tag t i₀ i = 44 - i
+μ-loop tag t i₀ i = tagCount - i
 
 loop-holds : tie.Need-loop-holds Inv-loop μ-loop
 loop-holds c = (search needs, refl)
