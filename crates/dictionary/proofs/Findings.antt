@@ -13,13 +13,13 @@ use Rattle.frame.proofs.Tests.{both}
 use Rattle.frame.proofs.Numerals.{numeral-means, value-below}
 use Rattle.fields.specs.Field.{Part, field, malformed, partOf, isTag, before, behind, parts, isBody}
 use Rattle.kinds.specs.Kind.{formed, allowed}
-use Rattle.dictionary.specs.declared.MsgType.{MsgType}
-use Rattle.dictionary.specs.declared.MsgType.the-variants.{Heartbeat, TestRequest, ResendRequest, Reject, SequenceReset, Logout, Logon, OrderCancelRequest, TradeCaptureReportRequest}
+use Rattle.table.specs.declared.MsgType.{MsgType}
+use Rattle.table.specs.declared.MsgType.the-variants.{Heartbeat, TestRequest, ResendRequest, Reject, SequenceReset, Logout, Logon, OrderCancelRequest, TradeCaptureReportRequest}
 use Rattle.dictionary.specs.declared.Says.{Says}
 use Rattle.dictionary.specs.declared.Says.the-variants.{Nothing, Reason}
 use Rattle.dictionary.specs.declared.Verdict.{Verdict}
 use Rattle.dictionary.specs.declared.Verdict.the-variants.{Clean, Finding, NoBody}
-use Rattle.dictionary.specs.Dictionary.{Row, Group, №453, №580, groups, header, fields, groupsAmong, groupsOf, member, rowsOf, listed, kindIn, administrative, frameTag, inDictionary}
+use Rattle.table.specs.Dictionary.{Row, Group, №453, №580, groups, header, fields, groupsAmong, groupsOf, member, rowsOf, listed, kindIn, administrative, frameTag, inDictionary}
 use Rattle.dictionary.specs.Verdict.{Open, Place, outside, inside, Past, _when_, firstOf, missing, incomplete, miscounted, closing, ends, begins, firstMember, rule1, left, rule2, skipped, rule3, rule4, rule5, rule6, rule7, rule8, rule9, rule10, rules4to10, said, opened, taken, after, verdictBy, walk, msgType, nothingYet, judgedAs, verdict, numbers}
 use Rattle.dictionary.specs.Promise.{reasons, Found}
 

@@ -2,19 +2,21 @@
 use Prim.Native.Nat.{ℕ, _<_}
 use borrow.Author.Tests.{eq-eqb, ne-eqb, not-true, not-false}
 use mathlib.Core.Path.{_≡_, refl, ap, sym, _∙_}
-use mathlib.Core.List.{List, _++_}
+use mathlib.Core.List.{List, [], _∷_, _++_}
 use mathlib.Core.Bool.{Bool, true, false, not, _||_, false≢true, or-true}
 use lib.Dec.{eqb}
 use lib.ListN.{length, getD}
 use Rattle.frame.specs.Bytes.{Bytes, has}
 use Rattle.fields.specs.Field.{field}
-use Rattle.dictionary.specs.Dictionary.{Row, header, fields, listed, allMembers, groupsOf, member, rowsOf}
+use Rattle.table.specs.Dictionary.{Row, header, fields, listed, allMembers, groupsOf, member, rowsOf}
 use Rattle.dictionary.specs.Verdict.{Open, Place, outside, inside, firstMember, left, rule4, rule5, rule6, rule7, rule8}
-use Rattle.dictionary.specs.code.Held.{tagAt, index, bitOf, Right, InGroup, Stood, away, within, insideOf, Rule5, Rule7, Rule8}
-use Rattle.dictionary.specs.declared.MsgType.{MsgType}
+use Rattle.table.specs.code.Held.{tagCount, tagAt, index, bitOf, Right}
+use Rattle.dictionary.specs.code.Held.{InGroup, Stood, away, within, insideOf, Rule5, Rule7, Rule8}
+use Rattle.table.specs.code.Held as Table
+use Rattle.table.specs.declared.MsgType.{MsgType}
 use Rattle.dictionary.specs.declared.Says.the-variants.{Nothing, Reason}
 use Rattle.dictionary.specs.declared.rules.State.{State}
-use Rattle.dictionary.specs.declared.table.Entry.{Entry}
+use Rattle.table.specs.declared.lines.Entry.{Entry}
 use Rattle.frame.proofs.Tests.{both, any-append}
 use Rattle.dictionary.proofs.Groups.{counted}
 
@@ -28,7 +30,7 @@ unfolding rule4
 rule4-some t v e = rw (ne-eqb (length v) 0 e)
 
 -- rule 5: a bit of the entry as the code reads it, b, and what it means
-module _ {m : MsgType} {e : Entry} {seen b : Bool} (R : Right e) (p : b ≡ bitOf (e .marks) 10) where
+module _ {m : MsgType} {e : Entry} {seen b : Bool} (R : Right e) (p : b ≡ bitOf (e .marks) 29) where
   pub rule5-frame : b ≡ true → Rule5 m (e .tag) seen (Reason 13 (e .tag))
   unfolding rule5
   rule5-frame q = record { is = λ s h. rw (sym (R .in-frame) ∙ sym p ∙ q) }
@@ -66,7 +68,7 @@ module _ (m : MsgType) {e : Entry} {b : Bool} (R : Right e) (p : b ≡ bitOf (e 
     rule6-not h = rw (listed-rows m (e .tag), sym (R .outside-in m) ∙ sym p ∙ q, sym (R .member-in m) ∙ sym k ∙ h)
 
 -- rule 7
-module _ {e : Entry} {over b : Bool} (R : Right e) (p : b ≡ bitOf (e .marks) 9) where
+module _ {e : Entry} {over b : Bool} (R : Right e) (p : b ≡ bitOf (e .marks) 28) where
   pub rule7-late : b ≡ true → over ≡ true → Rule7 (e .tag) over (Reason 14 (e .tag))
   unfolding rule7
   rule7-late q o = record { is = λ s h. rw (sym (R .in-header) ∙ sym p ∙ q, sym h ∙ o) }
@@ -97,11 +99,15 @@ module _ {e : Entry} {met : List Bool} {st : State} (R : Right e) where
       (g, (refl, I, rw (sym (R .member-of (g .group) (I .two)), h), h))
 
 -- rule 8
+pub first-is : (rows : List Row) (t : ℕ) → Table.leads rows t ≡ firstMember rows t
+first-is [] t = refl
+first-is (r ∷ rs) t = refl
+
 pub leads : (e : Entry) (met : List Bool) (st : State) → Right e → (g : Open) → InGroup g met st → eqb (g .group .counter) (e .member .group) ≡ true
     → firstMember (g .group .members) (e .tag) ≡ e .member .first
-leads e met st R g I h = sym (R .first-of (g .group) (I .two)) ∙ rw h
+leads e met st R g I h = sym (first-is (g .group .members) (e .tag)) ∙ sym (R .first-of (g .group) (I .two)) ∙ rw h
 
-mark-of : (met : List Bool) (st : State) (p t : ℕ) → p < 44 → tagAt p ≡ t → (g : Open) → InGroup g met st → eqb (g .begun) 0 ≡ false → getD met p false ≡ has (g .last) t
+mark-of : (met : List Bool) (st : State) (p t : ℕ) → p < tagCount → tagAt p ≡ t → (g : Open) → InGroup g met st → eqb (g .begun) 0 ≡ false → getD met p false ≡ has (g .last) t
 mark-of met st p t l e g I z = I .last z .at p l ∙ ap (has (g .last)) e
 
 module _ {m : MsgType} {e : Entry} {met : List Bool} {st : State} (R : Right e) where
@@ -132,7 +138,7 @@ module _ {m : MsgType} {e : Entry} {met : List Bool} {st : State} (R : Right e) 
             rw (w .1 .2, leads e met st R (w .0) (w .1 .1) (w .1 .3) ∙ f, eq-eqb (w .0 .begun) 0 (sym (w .1 .1 .begun) ∙ z));
       }
 
-      module _ {p : ℕ} (n : st .begun ≡ 0 → ⊥) (l : p < 44) (t : tagAt p ≡ e .tag) where
+      module _ {p : ℕ} (n : st .begun ≡ 0 → ⊥) (l : p < tagCount) (t : tagAt p ≡ e .tag) where
         pub rule8-again : getD met p false ≡ true → Rule8 m met st (e .tag) (Reason 13 (e .tag))
         unfolding rule8
         rule8-again y = record {

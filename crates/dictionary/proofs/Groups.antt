@@ -8,13 +8,13 @@ use mathlib.Core.Bool.{Bool, true, false, not}
 use mathlib.Core.Logic.{inl, inr}
 use lib.Dec.{eqb}
 use Rattle.fields.specs.Field.{Part}
-use Rattle.dictionary.specs.Dictionary.{Row, Group, №453, №580}
+use Rattle.table.specs.Dictionary.{Row, Group, №453, №580}
 use Rattle.dictionary.specs.Verdict.{Open, Place, outside, inside, firstOf, missing, incomplete, closing, ends, rule1}
-use Rattle.dictionary.specs.code.Held.{Two, rowsFor, InGroup, Stood, away, within, Belongs, Missing, Incomplete, Closing}
+use Rattle.table.specs.code.Held.{Two, membersOf}
+use Rattle.dictionary.specs.code.Held.{InGroup, Stood, away, within, Belongs, Missing, Incomplete, Closing}
 use Rattle.dictionary.specs.declared.Says.{Says}
 use Rattle.dictionary.specs.declared.Says.the-variants.{Nothing, Reason}
 use Rattle.dictionary.specs.declared.rules.State.{State}
-use Rattle.dictionary.specs.declared.table.Rows.the-variants.{Members}
 
 -- the two groups' count tags, and their members by these
 pub counted : (g : Group) → Two g → g .counter ≡ 0 → ⊥
@@ -22,7 +22,7 @@ unfolding №453 №580
 counted g (inl e) z = let h : _≡_ {A = ℕ} 453 0 = ap (λ (x : Group). x .counter) (sym e) ∙ z in omega arith
 counted g (inr e) z = let h : _≡_ {A = ℕ} 580 0 = ap (λ (x : Group). x .counter) (sym e) ∙ z in omega arith
 
-members-by : (g : Group) → Two g → rowsFor (Members (g .counter)) ≡ g .members
+members-by : (g : Group) → Two g → membersOf (g .counter) ≡ g .members
 unfolding №453 №580
 members-by g (inl e) = rw e
 members-by g (inr e) = rw e
@@ -42,13 +42,13 @@ module _ {met : List Bool} {st : State} where
   unfolding incomplete
   none-began z g I = rw (eq-eqb (g .begun) 0 (sym (I .begun) ∙ z))
 
-  pub one-began : {r : Says} → (st .begun ≡ 0 → ⊥) → Missing met (Members (st .group)) r → (g : Open) → InGroup g met st → r ≡ incomplete g
+  pub one-began : {r : Says} → (st .begun ≡ 0 → ⊥) → Missing met (membersOf (st .group)) r → (g : Open) → InGroup g met st → r ≡ incomplete g
   unfolding incomplete
   one-began n M g I =
       let b : eqb (g .begun) 0 ≡ false = ne-eqb (g .begun) 0 (λ e. n (I .begun ∙ e)) in
       rw b
       (M .is (g .last) (I .last b)
-      ∙ ap (λ (c : ℕ). missing (rowsFor (Members c)) (g .last)) (I .counter)
+      ∙ ap (λ (c : ℕ). missing (membersOf c) (g .last)) (I .counter)
       ∙ ap (λ (l : List Row). missing l (g .last)) (members-by (g .group) (I .two)))
 
   -- the end of a group

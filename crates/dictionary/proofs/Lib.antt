@@ -1,6 +1,4 @@
-pub mod Lists
-pub mod Places
-pub mod Needs
+pub mod Unmet
 pub mod Groups
 pub mod FourToEight
 pub mod Saying

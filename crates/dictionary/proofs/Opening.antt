@@ -12,18 +12,19 @@ use Rattle.kinds.specs.Kind.{Kind, text, number_to_, Y/N, time, day, among, for
 use Rattle.kinds.specs.Judged.{meaning, numberOf}
 use Rattle.kinds.specs.declared.Number.{Number}
 use Rattle.kinds.specs.declared.Number.the-variants.{Is, Bad}
-use Rattle.dictionary.specs.Dictionary.{Row, Group, №453, №580, groups, header, fields, listed, kindIn, groupsAmong, groupsOf, rowsOf}
+use Rattle.table.specs.Dictionary.{Row, Group, №453, №580, groups, header, fields, listed, kindIn, groupsAmong, groupsOf, rowsOf}
 use Rattle.dictionary.specs.Verdict.{Open, outside, inside, _when_, opened, rule9}
-use Rattle.dictionary.specs.code.Held.{bitOf, isNumeric, Two, Right, away, within, Over, Counted, Noted}
-use Rattle.dictionary.specs.declared.MsgType.{MsgType}
+use Rattle.table.specs.code.Held.{bitOf, isNumeric, kindFor, Two, Right}
+use Rattle.dictionary.specs.code.Held.{away, within, Over, Counted, Noted}
+use Rattle.table.specs.declared.MsgType.{MsgType}
 use Rattle.dictionary.specs.declared.Says.the-variants.{Nothing, Reason}
 use Rattle.dictionary.specs.declared.rules.State.{State}
-use Rattle.dictionary.specs.declared.table.Entry.{Entry}
+use Rattle.table.specs.declared.lines.Entry.{Entry}
 use Rattle.frame.proofs.Tests.{any-append}
 use Rattle.dictionary.proofs.FourToEight.{listed-rows}
 
 -- the header
-module _ {e : Entry} {over b : Bool} (R : Right e) (p : b ≡ bitOf (e .marks) 9) where
+module _ {e : Entry} {over b : Bool} (R : Right e) (p : b ≡ bitOf (e .marks) 28) where
   pub over-header : b ≡ true → Over over (e .tag) over
   over-header q = record { is = λ seen h. rw (sym (R .in-header) ∙ sym p ∙ q) h }
 
@@ -102,7 +103,7 @@ rule9-silent m t v = go (formed (kindIn (rowsOf m) t) v)
     go true h = refl
     go false h = let z : _≡_ {A = ℕ} 0 1 = cc in absurd (omega arith)
 
-module _ {e : Entry} {st : State} {v : Bytes} {over b : Bool} (R : Right e) (O : Over (st .over) (e .tag) over) (p : b ≡ bitOf (e .marks) 11) where
+module _ {e : Entry} {st : State} {v : Bytes} {over b : Bool} (R : Right e) (O : Over (st .over) (e .tag) over) (p : b ≡ bitOf (e .marks) 30) where
   pub noted-count : {n : ℕ} → b ≡ true → Counted v n → Noted st (e .tag) v (record { over = over; group = e .tag; count = n; begun = 0 })
   unfolding groupsOf newly
   noted-count {n} q C = record {
@@ -113,7 +114,7 @@ module _ {e : Entry} {st : State} {v : Bytes} {over b : Bool} (R : Right e) (O :
         let g = w .0 in
         let f = own-field m (e .tag) (ap (listed header) (w .1 .1) ∙ no-header g (w .1 .0)) l in
         let k : listed (rowsOf m) (e .tag) ≡ true = rw (listed-rows m (e .tag), l) in
-        let i : isNumber v ≡ true = sym (numeric (meaning (e .kind)) v (R .counts-number (sym p ∙ q))) ∙ ap (λ (x : Kind). formed x v) (R .kind-in m k) ∙ rule9-silent m (e .tag) v s in
+        let i : isNumber v ≡ true = sym (numeric (meaning (kindFor m (e .kind))) v (R .counts-number m (sym p ∙ q))) ∙ ap (λ (x : Kind). formed x v) (R .kind-in m k) ∙ rule9-silent m (e .tag) v s in
         rw (opened-among groups (fields m) (e .tag) v f, w .1 .2)
         (within (record { two = w .1 .0; counter = w .1 .1; count = C .is i; begun = refl; last = λ z. absurd (false≢true (sym z)) }));
   }

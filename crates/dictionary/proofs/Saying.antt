@@ -12,18 +12,20 @@ use Rattle.frame.specs.Bytes.{Bytes, any, all, has}
 use Rattle.fields.specs.Field.{field, malformed}
 use Rattle.kinds.specs.Kind.{Kind, formed, allowed}
 use Rattle.kinds.specs.Judged.{meaning, judged}
-use Rattle.dictionary.specs.Dictionary.{Row, Group, №453, №580, theNine, header, fields, code35, listed, kindIn, groupsOf, member, rowsOf, inDictionary, administrative}
+use Rattle.table.specs.Dictionary.{Row, Group, №453, №580, walked, header, fields, code35, listed, kindIn, groupsOf, member, rowsOf, inDictionary, administrative}
 use Rattle.dictionary.specs.Verdict.{Place, outside, inside, Past, _when_, firstOf, firstMember, rule1, rule2, rule3, rule4, rule5, rule6, rule7, rule8, rule9, rule10, left, skipped, rules4to10, said}
-use Rattle.dictionary.specs.code.Held.{tags, tagAt, index, Two, Right, Looked, Belongs, Marked, Stood, away, within, Rules9and10}
-use Rattle.dictionary.specs.declared.MsgType.{MsgType}
-use Rattle.dictionary.specs.declared.MsgType.the-variants.{Heartbeat, TestRequest, ResendRequest, Reject, SequenceReset, Logout, Logon, OrderCancelRequest, TradeCaptureReportRequest}
+use Rattle.table.specs.code.Held.{tagCount, allRows, tags, tagAt, index, kindFor, Two, Right, Looked, Marked}
+use Rattle.dictionary.specs.code.Held.{Belongs, Stood, away, within, Rules9and10}
+use Rattle.table.specs.declared.MsgType.{MsgType}
+use Rattle.table.specs.declared.MsgType.the-variants.{Heartbeat, TestRequest, ResendRequest, Reject, SequenceReset, Logout, Logon, OrderCancelRequest, TradeCaptureReportRequest}
 use Rattle.dictionary.specs.declared.Says.{Says}
 use Rattle.dictionary.specs.declared.Says.the-variants.{Nothing, Reason}
 use Rattle.dictionary.specs.declared.rules.State.{State}
-use Rattle.dictionary.specs.declared.table.Entry.{Entry}
+use Rattle.table.specs.declared.lines.Entry.{Entry}
 use Rattle.frame.proofs.Tests.{both, neither, all-at}
-use Rattle.dictionary.proofs.Places.{tags-long}
+use Rattle.table.proofs.Places.{tags-long}
 use Rattle.dictionary.proofs.Groups.{counted}
+use Rattle.dictionary.proofs.FourToEight.{first-is}
 
 -- r is what the first rule says that speaks: one that does, and one that does not
 pub record First (l : List Says) (r : Says) : Type 0 where
@@ -37,25 +39,25 @@ passes p e h = record { is = rw (sym p ∙ e) (h .is) }
 
 -- the tags that have a place are those of the dictionary
 all-known : all inDictionary tags ≡ true
-unfolding tags inDictionary rowsOf header fields groupsOf №453 №580
+unfolding allRows tags inDictionary rowsOf header fields groupsOf №453 №580
 all-known = refl
 
-pub known-tag : (p : ℕ) → p < 44 → inDictionary (tagAt p) ≡ true
+pub known-tag : (p : ℕ) → p < tagCount → inDictionary (tagAt p) ≡ true
 known-tag p h = all-at inDictionary 0 tags all-known p (omega (arith, tags-long))
 
 placed : Row → Bool
 placed r = has tags (r .tag)
 
 frame-placed : all (has tags) (8 ∷ 9 ∷ 10 ∷ []) ≡ true
-unfolding tags
+unfolding allRows tags header fields №453 №580
 frame-placed = refl
 
-rows-placed : all (λ m. all placed (rowsOf m)) theNine ≡ true
-unfolding placed tags rowsOf header fields groupsOf №453 №580
+rows-placed : all (λ m. all placed (rowsOf m)) walked ≡ true
+unfolding placed allRows tags rowsOf header fields groupsOf №453 №580
 rows-placed = refl
 
 members-placed : (g : Group) → Two g → all placed (g .members) ≡ true
-unfolding placed tags №453 №580
+unfolding placed allRows tags header fields №453 №580
 members-placed g (inl e) = rw e
 members-placed g (inr e) = rw e
 
@@ -78,7 +80,7 @@ module _ (t : ℕ) (n : has tags t ≡ false) where
 
   pub unknown-tag : inDictionary t ≡ false
   unfolding inDictionary
-  unknown-tag = rw (not-among (8 ∷ 9 ∷ 10 ∷ []) frame-placed, not-in theNine rows-placed)
+  unknown-tag = rw (not-among (8 ∷ 9 ∷ 10 ∷ []) frame-placed, not-in walked rows-placed)
 
   -- such a field is a member of no group
   pub unknown-belongs : (v : Bytes) → Belongs (field t v) 0 false
@@ -104,7 +106,7 @@ malformed-belongs = record {
 }
 
 pub entry-belongs : (e : Entry) (v : Bytes) → Right e → Belongs (field (e .tag) v) (e .member .group) (e .member .first)
-entry-belongs e v R = record { ended = λ g T. rw (R .member-of g T); begun = λ g T. sym (R .first-of g T) }
+entry-belongs e v R = record { ended = λ g T. rw (R .member-of g T); begun = λ g T. sym (first-is (g .members) (e .tag)) ∙ sym (R .first-of g T) }
 
 pub known-entry : {e : Entry} {p : ℕ} → Looked e p → inDictionary (e .tag) ≡ true
 known-entry {e} {p} L = ap inDictionary (sym (L .tagged)) ∙ known-tag p (L .small)
@@ -189,16 +191,16 @@ speaking m t v = go (formed (kindIn (rowsOf m) t) v) (allowed (kindIn (rowsOf m)
     go true false h = refl
     go false a h = refl
 
-by-kind : (e : Entry) (v : Bytes) (n : ℕ) → Right e → n ≡ judged (meaning (e .kind)) v → (m : MsgType) → listed (rowsOf m) (e .tag) ≡ true → n ≡ judged (kindIn (rowsOf m) (e .tag)) v
-by-kind e v n R j m l = j ∙ ap (λ (k : Kind). judged k v) (R .kind-in m l)
+by-kind : (e : Entry) (v : Bytes) (n : ℕ) (m : MsgType) → Right e → n ≡ judged (meaning (kindFor m (e .kind))) v → listed (rowsOf m) (e .tag) ≡ true → n ≡ judged (kindIn (rowsOf m) (e .tag)) v
+by-kind e v n m R j l = j ∙ ap (λ (k : Kind). judged k v) (R .kind-in m l)
 
-module _ {e : Entry} {v : Bytes} {n : ℕ} (R : Right e) (j : n ≡ judged (meaning (e .kind)) v) where
-  pub judged-well : n ≡ 0 → Rules9and10 (e .tag) v Nothing
-  judged-well z = record { is = λ m l. silent m (e .tag) v (sym (by-kind e v n R j m l) ∙ z) }
+module _ {m : MsgType} {e : Entry} {v : Bytes} {n : ℕ} (R : Right e) (j : n ≡ judged (meaning (kindFor m (e .kind))) v) where
+  pub judged-well : n ≡ 0 → Rules9and10 m (e .tag) v Nothing
+  judged-well z = record { is = λ l. silent m (e .tag) v (sym (by-kind e v n m R j l) ∙ z) }
 
-  pub judged-ill : (n ≡ 0 → ⊥) → Rules9and10 (e .tag) v (Reason n (e .tag))
+  pub judged-ill : (n ≡ 0 → ⊥) → Rules9and10 m (e .tag) v (Reason n (e .tag))
   judged-ill z = record {
-    is = λ m l.
-        let b = by-kind e v n R j m l in
+    is = λ l.
+        let b = by-kind e v n m R j l in
         ap (λ (k : ℕ). Reason k (e .tag)) b ∙ speaking m (e .tag) v (λ y. z (b ∙ y));
   }

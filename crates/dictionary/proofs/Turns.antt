@@ -9,14 +9,15 @@ use lib.ListN.{length, getD, drop, set, replicate, length-set, length-replicate}
 use Rattle.frame.specs.Bytes.{Bytes, has}
 use Rattle.fields.specs.Field.{field, parts}
 use Rattle.fields.proofs.Rows.{Step}
-use Rattle.dictionary.specs.Dictionary.{header, fields, listed, groupsOf, member, inDictionary, administrative}
+use Rattle.table.specs.Dictionary.{header, fields, listed, groupsOf, member, inDictionary, administrative}
 use Rattle.dictionary.specs.Verdict.{Open, Place, outside, inside, Past, _when_, firstOf, firstMember, left, rule1, rule4, rule6, rule8, rule9, rule10, skipped, said, opened, taken, after, walk}
-use Rattle.dictionary.specs.code.Held.{tags, Looked, Marked, Stood, away, within, insideOf, pastHeader, Stands, Noted, leftOf, begunOf}
-use Rattle.dictionary.specs.declared.MsgType.{MsgType}
+use Rattle.table.specs.code.Held.{tags, Looked, Marked}
+use Rattle.dictionary.specs.code.Held.{Stood, away, within, insideOf, pastHeader, Stands, Noted, leftOf, begunOf}
+use Rattle.table.specs.declared.MsgType.{MsgType}
 use Rattle.dictionary.specs.declared.Says.{Says}
 use Rattle.dictionary.specs.declared.Says.the-variants.{Nothing, Reason}
 use Rattle.dictionary.specs.declared.rules.State.{State}
-use Rattle.dictionary.specs.declared.table.Entry.{Entry}
+use Rattle.table.specs.declared.lines.Entry.{Entry}
 use Rattle.dictionary.proofs.FourToEight.{listed-rows, left-away, left-within, leads}
 use Rattle.dictionary.proofs.Saying.{known-entry, unknown-tag, unknown-left, unknown-says, rulesHeard, known-says}
 use Rattle.dictionary.proofs.Walking.{At, mark-more, no-marks, goes-on}

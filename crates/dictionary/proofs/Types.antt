@@ -15,14 +15,14 @@ use Rattle.fields.specs.First.{First, valueAt}
 use Rattle.fields.specs.declared.Place.{Place}
 use Rattle.fields.specs.declared.Place.the-variants.{At, Absent}
 use Rattle.kinds.proofs.Values.{same-long, same-true}
-use Rattle.dictionary.specs.Dictionary.{code35, theNine, typeAmong, typeOf, named, typeIs}
+use Rattle.table.specs.Dictionary.{code35, walked, typeAmong, typeOf, named, typeIs}
 use Rattle.dictionary.specs.Verdict.{typeBy, judgedAs, walk, nothingYet, verdict}
-use Rattle.dictionary.specs.declared.MsgType.{MsgType}
-use Rattle.dictionary.specs.declared.MsgType.the-variants.{TradeCaptureReportRequest}
+use Rattle.table.specs.declared.MsgType.{MsgType}
+use Rattle.table.specs.declared.MsgType.the-variants.{TradeCaptureReportRequest}
 use Rattle.dictionary.specs.declared.Verdict.{Verdict}
 use Rattle.dictionary.specs.declared.Verdict.the-variants.{Finding, NoBody}
-use Rattle.dictionary.specs.declared.walk.Named.{Named}
-use Rattle.dictionary.specs.declared.walk.Named.the-variants.{Of, Other}
+use Rattle.table.specs.declared.Named.{Named}
+use Rattle.table.specs.declared.Named.the-variants.{Of, Other}
 
 -- THE TYPE of one byte, of two, and of others
 pub one-byte : (v : Bytes) → length v ≡ 1 → (getD v 0 0 ∷ []) ≡ v
@@ -54,7 +54,7 @@ among-coded (n ∷ ms) v m e = go (same v (code35 n)) refl e (among-coded ms v m
 
 pub type-coded : (v : Bytes) (m : MsgType) → typeOf v ≡ some m → v ≡ code35 m
 unfolding typeOf
-type-coded v m e = among-coded theNine v m e
+type-coded v m e = among-coded walked v m e
 
 -- and the answer of `type_of` stands for it
 named-is : (o : Option MsgType) → typeIs (named o) ≡ o

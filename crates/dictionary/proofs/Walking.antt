@@ -14,28 +14,28 @@ use Rattle.fields.specs.Item.{Span, Lies, Cut}
 use Rattle.fields.specs.declared.Item.{Item}
 use Rattle.fields.specs.declared.Item.the-variants.{Field, Malformed, End, NoBody}
 use Rattle.fields.proofs.Rows.{Step, Stepped, parts-step}
-use Rattle.dictionary.specs.Dictionary.{Row, header, fields}
+use Rattle.table.specs.Dictionary.{Row, header, fields}
 use Rattle.dictionary.specs.Verdict.{Past, firstOf, rule1, rule2, said, after, verdictBy, walk, nothingYet, missing}
-use Rattle.dictionary.specs.code.Held.{tagAt, Looked, Marked, away, Stands, Closing, Missing, Finished}
-use Rattle.dictionary.specs.declared.MsgType.{MsgType}
+use Rattle.table.specs.code.Held.{tagCount, tagAt, Looked, Marked}
+use Rattle.dictionary.specs.code.Held.{away, Stands, Closing, Missing, Finished}
+use Rattle.table.specs.declared.MsgType.{MsgType}
 use Rattle.dictionary.specs.declared.Says.{Says}
 use Rattle.dictionary.specs.declared.Says.the-variants.{Nothing, Reason}
 use Rattle.dictionary.specs.declared.Verdict.{Verdict}
 use Rattle.dictionary.specs.declared.Verdict.the-variants.{Clean}
 use Rattle.dictionary.specs.declared.rules.State.{State}
-use Rattle.dictionary.specs.declared.table.Entry.{Entry}
-use Rattle.dictionary.specs.declared.table.Rows.the-variants.{Header, Own}
-use Rattle.dictionary.proofs.Places.{one-place}
+use Rattle.table.specs.declared.lines.Entry.{Entry}
+use Rattle.table.proofs.Places.{one-place}
 use Rattle.dictionary.proofs.Groups.{alone}
 
 -- a mark that is set, and no marks
 pub mark-more : {e : Entry} {p : ℕ} {marks : List Bool} {met : List ℕ} → Looked e p → length marks ≡ 128 → Marked marks met → Marked (set marks p true) (e .tag ∷ met)
 mark-more {e} {p} {marks} {met} L n M = record { at = λ q h. go q h (eqb (e .tag) (tagAt q)) refl }
   where
-    go : (q : ℕ) → q < 44 → (b : Bool) → eqb (e .tag) (tagAt q) ≡ b → getD (set marks p true) q false ≡ (b || has met (tagAt q))
+    go : (q : ℕ) → q < tagCount → (b : Bool) → eqb (e .tag) (tagAt q) ≡ b → getD (set marks p true) q false ≡ (b || has met (tagAt q))
     go q h true x =
         let s : p ≡ q = one-place p q (L .small) h (L .tagged ∙ eqb-true (e .tag) (tagAt q) x) in
-        let k : q < 44 = h in
+        let k : q < tagCount = h in
         rw s (getD-set-same marks q true false (omega arith))
     go q h false x =
         getD-set-other marks p q true false (λ s. eqb-false (e .tag) (tagAt q) x (sym (L .tagged) ∙ ap tagAt (sym s))) ∙ M .at q h
@@ -123,9 +123,9 @@ module _ {m : MsgType} {seen met : List Bool} {st : State} {r : Says} (C : Closi
   pub finish-closing : {a t : ℕ} {f : Verdict} → r ≡ Reason a t → f ≡ verdictBy r Clean → Finished m seen met st f
   finish-closing e v = record { is = λ w S. v ∙ rw (sym (C .is (w .place) (S .stood)), e) }
 
-  module _ {h : Says} (n : r ≡ Nothing) (H : Missing seen Header h) where
+  module _ {h : Says} (n : r ≡ Nothing) (H : Missing seen header h) where
     pub finish-header : {a t : ℕ} {f : Verdict} → h ≡ Reason a t → f ≡ verdictBy h Clean → Finished m seen met st f
     finish-header e v = record { is = λ w S. v ∙ rw (sym (C .is (w .place) (S .stood)), n, missing-append header (fields m) (w .seen), sym (H .is (w .seen) (S .marked)), e) }
 
-    pub finish-own : {o : Says} {f : Verdict} → h ≡ Nothing → Missing seen (Own m) o → f ≡ verdictBy o Clean → Finished m seen met st f
+    pub finish-own : {o : Says} {f : Verdict} → h ≡ Nothing → Missing seen (fields m) o → f ≡ verdictBy o Clean → Finished m seen met st f
     finish-own {o} e O v = record { is = λ w S. v ∙ rw (sym (C .is (w .place) (S .stood)), n, missing-append header (fields m) (w .seen), sym (H .is (w .seen) (S .marked)), e, sym (O .is (w .seen) (S .marked)), alone (firstOf (o ∷ [])), alone o) }

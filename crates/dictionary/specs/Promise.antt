@@ -9,9 +9,9 @@ use lib.ListN.{length}
 use Rattle.frame.specs.Bytes.{Bytes, any, has}
 use Rattle.fields.specs.Field.{Part, field, malformed, partOf, parts, firstField, isBody}
 use Rattle.kinds.specs.Kind.{formed, allowed}
-use Rattle.dictionary.specs.Dictionary.{Row, header, fields, rowsOf, listed, kindIn, administrative, inDictionary}
+use Rattle.table.specs.Dictionary.{Row, header, fields, rowsOf, listed, kindIn, administrative, inDictionary}
 use Rattle.dictionary.specs.Verdict.{msgType, verdict, numbers}
-use Rattle.dictionary.specs.declared.MsgType.{MsgType}
+use Rattle.table.specs.declared.MsgType.{MsgType}
 use Rattle.dictionary.specs.declared.Verdict.{Verdict}
 use Rattle.dictionary.specs.declared.Verdict.the-variants.{Clean, Finding}
 

@@ -8,8 +8,8 @@ use lib.ListN.{length}
 use Rattle.frame.specs.Bytes.{Bytes, any, has, value}
 use Rattle.fields.specs.Field.{parts, firstField, Part, field, malformed, partOf, isBody}
 use Rattle.kinds.specs.Kind.{formed, allowed}
-use Rattle.dictionary.specs.Dictionary.{Row, Group, header, fields, groupsOf, member, rowsOf, listed, kindIn, typeOf, administrative, frameTag, inDictionary}
-use Rattle.dictionary.specs.declared.MsgType.{MsgType}
+use Rattle.table.specs.Dictionary.{Row, Group, header, fields, groupsOf, member, rowsOf, listed, kindIn, typeOf, administrative, frameTag, inDictionary}
+use Rattle.table.specs.declared.MsgType.{MsgType}
 use Rattle.dictionary.specs.declared.Says.{Says}
 use Rattle.dictionary.specs.declared.Says.the-variants.{Nothing, Reason}
 use Rattle.dictionary.specs.declared.Verdict.{Verdict}

@@ -1,17 +1,4 @@
-// The dictionary: one fixed table of tags with their kinds and messages, and the verdict on a body.
-
-// The nine message types.
-pub enum MsgType {
-    Heartbeat,
-    TestRequest,
-    ResendRequest,
-    Reject,
-    SequenceReset,
-    Logout,
-    Logon,
-    OrderCancelRequest,
-    TradeCaptureReportRequest,
-}
+// The dictionary: the walk along the fields of a body by its table, and the verdict.
 
 // What a rule says of a field.
 pub enum Says {
@@ -26,10 +13,9 @@ pub enum Verdict {
     NoBody,
 }
 
+mod missing;
 mod rules;
-mod table;
 mod walk;
 
-pub use walk::Named;
 pub use walk::type_of;
 pub use walk::verdict_on;

@@ -1,14 +1,15 @@
 // The ten rules at a field, each a function under its number.
-use super::MsgType;
 use super::Says;
-use super::table::Entry;
-use super::table::Rows;
-use super::table::missing;
+use super::missing::missing_member;
+use table::Entry;
+use table::MsgType;
+use table::kind_of;
 ghost use mathlib.Core.Path.{_≡_};
 ghost use Prim.Native.Nat.{_<_};
-ghost use Rattle.dictionary.specs.Dictionary.{administrative};
+ghost use Rattle.table.specs.Dictionary.{administrative};
 ghost use Rattle.dictionary.specs.Verdict.{rule4, rule6};
-ghost use Rattle.dictionary.specs.code.Held.{Index, index, bitOf, Right, Looked, insideOf, Incomplete, Closing, Rule1, Rule5, Rule7, Rule8, Rules9and10, OfMalformed, OfUnknown, OfKnown, Counted, Over, Noted, leftOf, begunOf};
+ghost use Rattle.table.specs.code.Held.{Index, index, bitOf, Right, Looked};
+ghost use Rattle.dictionary.specs.code.Held.{insideOf, Incomplete, Closing, Rule1, Rule5, Rule7, Rule8, Rules9and10, OfMalformed, OfUnknown, OfKnown, Counted, Over, Noted, leftOf, begunOf};
 
 // What the walk holds beside its marks: a tag outside the header was met; the open group by its count tag (0: none), its count, and the instances
 // begun.
@@ -63,7 +64,7 @@ fn incomplete(st: State, met: &[bool; 128]) -> Says
     if st.begun == 0 {
         return Says::Nothing;
     }
-    missing(met, Rows::Members(st.group))
+    missing_member(met, st.group)
 }
 
 // Rule 1, the two checks at the end of a group.
@@ -117,7 +118,7 @@ fn rule_5(m: MsgType, e: Entry, seen: bool) -> Says
     requires { ⌜ Right e ⌝ }
     ensures { λ r. ⌜ Rule5 m (e .tag) seen r ⌝ }
 {
-    if bit(e.marks, 10) {
+    if bit(e.marks, 29) {
         return Says::Reason {
             reason: 13,
             tag: e.tag,
@@ -157,7 +158,7 @@ fn rule_7(e: Entry, over: bool) -> Says
     requires { ⌜ Right e ⌝ }
     ensures { λ r. ⌜ Rule7 (e .tag) over r ⌝ }
 {
-    if bit(e.marks, 9) {
+    if bit(e.marks, 28) {
         if over {
             return Says::Reason {
                 reason: 14,
@@ -212,11 +213,11 @@ fn rule_8(m: MsgType, st: State, e: Entry, met: &[bool; 128], p: usize) -> Says
 }
 
 // Rules 9 and 10: the form, then the value.
-fn rules_9_and_10(e: Entry, v: &[u8]) -> Says
+fn rules_9_and_10(m: MsgType, e: Entry, v: &[u8]) -> Says
     requires { ⌜ Right e ⌝ }
-    ensures { λ r. ⌜ Rules9and10 (e .tag) (now (v .entry)) r ⌝ }
+    ensures { λ r. ⌜ Rules9and10 m (e .tag) (now (v .entry)) r ⌝ }
 {
-    let kind = e.kind;
+    let kind = kind_of(e, m);
     let found = kinds::judge(kind, v);
     if found == 0 {
         return Says::Nothing;
@@ -289,7 +290,7 @@ pub fn of_known(
     let Says::Nothing = r8 else {
         return r8;
     };
-    rules_9_and_10(e, v)
+    rules_9_and_10(m, e, v)
 }
 
 // The number that the value of a count field writes.
@@ -307,7 +308,7 @@ fn over_with(over: bool, e: Entry) -> bool
     requires { ⌜ Right e ⌝ }
     ensures { λ r. ⌜ Over over (e .tag) r ⌝ }
 {
-    if bit(e.marks, 9) {
+    if bit(e.marks, 28) {
         return over;
     }
     true
@@ -319,7 +320,7 @@ pub fn noted(st: State, e: Entry, v: &[u8]) -> State
     ensures { λ r. ⌜ Noted st (e .tag) (now (v .entry)) r ⌝ }
 {
     let over = over_with(st.over, e);
-    if bit(e.marks, 11) {
+    if bit(e.marks, 30) {
         return State {
             over,
             group: e.tag,

@@ -1,7 +1,8 @@
 // The walk along the fields of a body, and the verdict.
-use super::MsgType;
 use super::Says;
 use super::Verdict;
+use super::missing::missing_header;
+use super::missing::missing_own;
 use super::rules::State;
 use super::rules::begun;
 use super::rules::closing;
@@ -11,22 +12,23 @@ use super::rules::noted;
 use super::rules::of_known;
 use super::rules::of_malformed;
 use super::rules::of_unknown;
-use super::table::Rows;
-use super::table::entry_of;
-use super::table::missing;
-use super::table::place_of;
-use super::table::table;
 use fields::Item;
 use fields::Place;
 use fields::is_body;
 use fields::type_field;
 use kinds::same;
+use table::MsgType;
+use table::Named;
+use table::TAGS;
+use table::entry_of;
+use table::place_of;
+use table::table;
 ghost use mathlib.Core.Path.{_≡_};
 ghost use Prim.Native.Nat.{_≤_};
 ghost use lib.ListN.{length};
 ghost use Rattle.fields.specs.Field.{parts};
 ghost use mathlib.Core.List.{[], _∷_};
-ghost use Rattle.dictionary.specs.Dictionary.{typeOf, named};
+ghost use Rattle.table.specs.Dictionary.{typeOf, named};
 ghost use Rattle.dictionary.specs.Verdict.{verdictBy, walk, nothingYet, verdict};
 ghost use Rattle.dictionary.specs.code.Held.{Finished};
 
@@ -48,11 +50,11 @@ fn finish(m: MsgType, st: State, seen: &[bool; 128], met: &[bool; 128]) -> Verdi
     let Says::Nothing = end else {
         return finding(end);
     };
-    let header = missing(seen, Rows::Header);
+    let header = missing_header(seen);
     let Says::Nothing = header else {
         return finding(header);
     };
-    finding(missing(seen, Rows::Own(m)))
+    finding(missing_own(seen, m))
 }
 
 // The fields from the left; the first finding stands. One mark is set at each field outside groups (seen); the members met in the last instance of
@@ -81,7 +83,7 @@ fn walk(m: MsgType, body: &[u8]) -> Verdict
                 next,
             } => {
                 let p = place_of(tag);
-                if p == 44 {
+                if p == TAGS {
                     let said = of_unknown(m, st, &met, tag);
                     let Says::Nothing = said else {
                         return finding(said);
@@ -123,12 +125,6 @@ fn walk(m: MsgType, body: &[u8]) -> Verdict
             Item::NoBody => return Verdict::NoBody,
         }
     }
-}
-
-// One of the nine message types, or another.
-pub enum Named {
-    Of(MsgType),
-    Other,
 }
 
 // The type that a value of 35 names.

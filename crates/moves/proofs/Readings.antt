@@ -16,7 +16,7 @@ use Rattle.kinds.specs.Kind.{isNumber}
 use Rattle.kinds.specs.Judged.{numberOf}
 use Rattle.kinds.specs.declared.Number.{Number}
 use Rattle.kinds.specs.declared.Number.the-variants.{Is, Bad}
-use Rattle.dictionary.specs.Dictionary.{typeOf}
+use Rattle.table.specs.Dictionary.{typeOf}
 use Rattle.dictionary.specs.Verdict.{typeBy, msgType}
 use Rattle.dictionary.specs.Dictionary.{named, typeIs}
 use Rattle.dictionary.specs.declared.walk.Named.{Named}

@@ -7,9 +7,9 @@ use mathlib.Core.Option.{Option, none, some}
 use lib.Dec.{eqb}
 use borrow.Author.Tests.{eq-eqb, ne-eqb}
 use Rattle.frame.specs.Bytes.{Bytes, fix}
-use Rattle.dictionary.specs.declared.MsgType.{MsgType}
-use Rattle.dictionary.specs.declared.MsgType.the-variants.{Heartbeat, TestRequest, ResendRequest, Reject, SequenceReset, Logout, Logon, OrderCancelRequest, TradeCaptureReportRequest}
-use Rattle.dictionary.specs.Dictionary.{code35}
+use Rattle.table.specs.declared.MsgType.{MsgType}
+use Rattle.table.specs.declared.MsgType.the-variants.{Heartbeat, TestRequest, ResendRequest, Reject, SequenceReset, Logout, Logon, OrderCancelRequest, TradeCaptureReportRequest}
+use Rattle.table.specs.Dictionary.{code35}
 use Rattle.dictionary.specs.Verdict.{msgType}
 use Rattle.moves.specs.Seen.{isIt, codeOf}
 use Rattle.moves.specs.code.Plan.{typeByte}

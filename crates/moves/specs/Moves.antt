@@ -7,8 +7,8 @@ use mathlib.Core.Option.{Option, some}
 use mathlib.Core.Bool.{Bool, not, _&&_, _||_}
 use Rattle.frame.specs.Bytes.{Bytes, fix}
 use Rattle.fields.specs.Field.{firstField}
-use Rattle.dictionary.specs.declared.MsgType.{MsgType}
-use Rattle.dictionary.specs.declared.MsgType.the-variants as MsgType
+use Rattle.table.specs.declared.MsgType.{MsgType}
+use Rattle.table.specs.declared.MsgType.the-variants as MsgType
 use Rattle.dictionary.specs.Verdict.{verdict, msgType}
 use Rattle.writer.specs.Message.{Value, absent, bytes, _is_, written}
 use Rattle.writer.specs.Reply as Reply

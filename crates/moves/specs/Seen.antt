@@ -4,8 +4,8 @@ use mathlib.Core.Option.{Option, none, some}
 use mathlib.Core.Bool.{Bool, true, false, _&&_}
 use Rattle.frame.specs.Bytes.{Bytes, same, within, value}
 use Rattle.kinds.specs.Kind.{isNumber}
-use Rattle.dictionary.specs.declared.MsgType.{MsgType}
-use Rattle.dictionary.specs.Dictionary.{code35}
+use Rattle.table.specs.declared.MsgType.{MsgType}
+use Rattle.table.specs.Dictionary.{code35}
 use Rattle.dictionary.specs.declared.Verdict.{Verdict}
 use Rattle.dictionary.specs.declared.Verdict.the-variants.{Clean, Finding, NoBody}
 use Rattle.writer.specs.Message.{Value, absent, bytes}

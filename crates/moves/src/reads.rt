@@ -1,6 +1,4 @@
 // What a move reads of a body: the first fields of its tags.
-use dictionary::MsgType;
-use dictionary::Named;
 use dictionary::Verdict;
 use dictionary::type_of;
 use fields::Place;
@@ -9,6 +7,8 @@ use fields::type_field;
 use kinds::Number;
 use kinds::read_number;
 use kinds::same;
+use table::MsgType;
+use table::Named;
 ghost use mathlib.Core.Path.{_≡_};
 ghost use mathlib.Core.Bool.{true};
 ghost use Rattle.frame.specs.Bytes.{within};

@@ -14,8 +14,8 @@ use Rattle.frame.proofs.Numerals.{within-is, numeral-true, numeral-means}
 use Rattle.frame.proofs.Decimals.{decimal-numeral, decimal-worth}
 use Rattle.kinds.specs.Kind.{Kind, text, number_to_, Y/N, time, day, among, formed, allowed, isNumber, like, shapes}
 use Rattle.kinds.proofs.Values.{same-true}
-use Rattle.dictionary.specs.declared.MsgType.{MsgType}
-use Rattle.dictionary.specs.Dictionary.{rowsOf, listed, kindIn}
+use Rattle.table.specs.declared.MsgType.{MsgType}
+use Rattle.table.specs.Dictionary.{rowsOf, listed, kindIn}
 use Rattle.writer.specs.Call.{rejected}
 use Rattle.writer.specs.code.Held.{longest, most}
 

@@ -10,8 +10,8 @@ use lib.ListN.{length, take, drop, length-append}
 use borrow.Author.Tests.{lt-ltb, le-ltb}
 use Rattle.frame.specs.Bytes.{Bytes, decimal}
 use Rattle.frame.specs.Frame.{fixt, front, trailer, sumOf}
-use Rattle.dictionary.specs.declared.MsgType.{MsgType}
-use Rattle.dictionary.specs.Dictionary.{code35, administrative}
+use Rattle.table.specs.declared.MsgType.{MsgType}
+use Rattle.table.specs.Dictionary.{code35, administrative}
 use Rattle.writer.specs.Message.{Value, bytes, Field, _is_, field, row, framed, valued, order, message, written}
 use Rattle.writer.specs.Tags.{tags}
 use Rattle.writer.specs.Call.{valueIn, refused8, admin, Outcome, refusing, fitted, writeAs, write}

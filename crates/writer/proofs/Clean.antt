@@ -9,9 +9,9 @@ use lib.Dec.{eqb}
 use borrow.Author.Tests.{eqb-true, eq-eqb, not-true}
 use Rattle.frame.specs.Bytes.{Bytes, any, all, has, within}
 use Rattle.frame.proofs.Tests.{both, neither, or-last}
-use Rattle.dictionary.specs.declared.MsgType.{MsgType}
+use Rattle.table.specs.declared.MsgType.{MsgType}
 use Rattle.dictionary.specs.declared.Verdict.the-variants.{Clean}
-use Rattle.dictionary.specs.Dictionary.{Row, header, fields, administrative, listed, groupsOf, member, rowsOf, frameTag, inDictionary}
+use Rattle.table.specs.Dictionary.{Row, header, fields, administrative, listed, groupsOf, member, rowsOf, frameTag, inDictionary}
 use Rattle.dictionary.specs.Verdict.{nothingYet, walk}
 use Rattle.dictionary.proofs.Taken.{at, Taken, walk-field, walk-over}
 use Rattle.writer.specs.Message.{Value, _is_, shown, order, valued}

@@ -13,8 +13,8 @@ use borrow.Author.Tests.{ltb-true, ltb-false}
 use Rattle.frame.specs.Bytes.{Bytes, has, value, decimal, Byted}
 use Rattle.fields.specs.Field.{firstField}
 use Rattle.frame.proofs.Decimals.{decimal-worth}
-use Rattle.dictionary.specs.declared.MsgType.{MsgType}
-use Rattle.dictionary.specs.Dictionary.{code35, administrative}
+use Rattle.table.specs.declared.MsgType.{MsgType}
+use Rattle.table.specs.Dictionary.{code35, administrative}
 use Rattle.writer.specs.Message.{Value, absent, number, bytes, shown, row, message, written}
 use Rattle.writer.specs.Tags.{tags, numeric}
 use Rattle.writer.specs.Call.{placeIn, part, valueIn, refused8, admin, Outcome, refusing, writing, fitted, writeAs, write, numbers}

@@ -10,8 +10,8 @@ use borrow.Author.Tests.{le-leb, lt-leb}
 use Rattle.frame.specs.Bytes.{Bytes, decimal}
 use Rattle.kinds.specs.Kind.{Kind}
 use Rattle.kinds.specs.Judged.{meaning}
-use Rattle.dictionary.specs.declared.MsgType.{MsgType}
-use Rattle.dictionary.specs.Dictionary.{rowsOf, listed, kindIn}
+use Rattle.table.specs.declared.MsgType.{MsgType}
+use Rattle.table.specs.Dictionary.{rowsOf, listed, kindIn}
 use Rattle.writer.specs.Message.{Value, absent, number, bytes, shown, tagged}
 use Rattle.writer.specs.Tags.{isNumeric}
 use Rattle.writer.specs.Call.{part, unwritable}

@@ -14,10 +14,10 @@ use Rattle.frame.proofs.Tests.{both, or-last, allBelow, at-below, any-append, m
 use Rattle.kinds.specs.Kind.{Kind, kindOf}
 use Rattle.kinds.specs.Judged.{meaning}
 use Rattle.kinds.specs.declared.Kind.the-variants.{Text}
-use Rattle.dictionary.specs.declared.MsgType.{MsgType}
-use Rattle.dictionary.specs.Dictionary.{№453, №580, header, fields, code35, groupsOf, rowsOf, listed, kindIn, administrative}
-use Rattle.dictionary.specs.code.Held.{agree}
-use Rattle.dictionary.proofs.Lists.{agree-true}
+use Rattle.table.specs.declared.MsgType.{MsgType}
+use Rattle.table.specs.Dictionary.{№453, №580, header, fields, code35, groupsOf, rowsOf, listed, kindIn, administrative}
+use Rattle.table.specs.code.Held.{agree}
+use Rattle.table.proofs.Lists.{agree-true}
 use Rattle.writer.specs.Message.{Value, absent, number, bytes, Field, _is_, own, order, field, row, valued}
 use Rattle.writer.specs.Tags.{tags, isNumeric, numeric}
 use Rattle.writer.specs.Call.{placeIn, part, valueAt, valueIn, required, unfit, refused8}

@@ -13,8 +13,8 @@ use Rattle.frame.proofs.Decimals.{decimal-worth}
 use Rattle.kinds.specs.Kind.{Kind, text, number_to_, Y/N, time, day, among, isNumber, formed, allowed}
 use Rattle.kinds.specs.Judged.{judged}
 use Rattle.kinds.proofs.Values.{same-true}
-use Rattle.dictionary.specs.declared.MsgType.{MsgType}
-use Rattle.dictionary.specs.Dictionary.{rowsOf, listed, kindIn}
+use Rattle.table.specs.declared.MsgType.{MsgType}
+use Rattle.table.specs.Dictionary.{rowsOf, listed, kindIn}
 use Rattle.writer.specs.Tags.{isNumeric}
 use Rattle.writer.specs.Call.{rejected}
 use Rattle.writer.specs.code.Held.{unwritten, most}

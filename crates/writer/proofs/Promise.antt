@@ -9,7 +9,7 @@ use lib.ListN.{length, take}
 use borrow.Author.Tests.{le-leb}
 use Rattle.frame.specs.Bytes.{Bytes, Byted}
 use Rattle.frame.proofs.Tests.{both-true}
-use Rattle.dictionary.specs.declared.MsgType.{MsgType}
+use Rattle.table.specs.declared.MsgType.{MsgType}
 use Rattle.writer.specs.Message.{Value}
 use Rattle.writer.specs.Call.{Outcome, Writes, numbers}
 use Rattle.writer.specs.Replied.{sendable}

@@ -12,9 +12,9 @@ use Rattle.frame.specs.Bytes.{Bytes, all, has, Byted}
 use Rattle.frame.specs.Frame.{fixt, Good}
 use Rattle.fields.specs.Field.{firstField}
 use Rattle.frame.proofs.Tests.{both, neither, or-last}
-use Rattle.dictionary.specs.declared.MsgType.{MsgType}
+use Rattle.table.specs.declared.MsgType.{MsgType}
 use Rattle.dictionary.specs.declared.Verdict.the-variants.{Clean}
-use Rattle.dictionary.specs.Dictionary.{code35, administrative, rowsOf, listed}
+use Rattle.table.specs.Dictionary.{code35, administrative, rowsOf, listed}
 use Rattle.dictionary.specs.Verdict.{verdict, walk, nothingYet}
 use Rattle.writer.specs.Message.{Value, bytes, shown, row, order, valued, message, written}
 use Rattle.writer.specs.Tags.{tags}

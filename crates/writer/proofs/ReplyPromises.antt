@@ -5,8 +5,8 @@ use mathlib.Core.List.{List, [], _∷_}
 use mathlib.Core.Bool.{Bool, true, false, cond}
 use lib.Dec.{eqb}
 use Rattle.frame.specs.Bytes.{Bytes, fix, Byted}
-use Rattle.dictionary.specs.declared.MsgType.the-variants.{Heartbeat, TestRequest, ResendRequest, Reject, SequenceReset, Logout, Logon}
-use Rattle.dictionary.specs.Dictionary.{code35, administrative}
+use Rattle.table.specs.declared.MsgType.the-variants.{Heartbeat, TestRequest, ResendRequest, Reject, SequenceReset, Logout, Logon}
+use Rattle.table.specs.Dictionary.{code35, administrative}
 use Rattle.writer.specs.Message.{absent, number, bytes, Field, _is_, shown, given}
 use Rattle.writer.specs.Reply.{optional, unlessZero, values, ofHeartbeat, ofTestRequest, ofLogon, ofResendRequest, ofReject, ofGapFill, ofLogout}
 use Rattle.writer.specs.Promise.{ReadsBack, TextOf, Sendable}

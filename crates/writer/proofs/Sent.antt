@@ -10,9 +10,9 @@ use borrow.Author.Tests.{ne-eqb}
 use Rattle.frame.specs.Bytes.{Bytes, fix, has, decimal}
 use Rattle.frame.proofs.Numerals.{is-within}
 use Rattle.kinds.specs.Kind.{text, number_to_, Y/N, time, kindOf, formed, allowed}
-use Rattle.dictionary.specs.declared.MsgType.{MsgType}
-use Rattle.dictionary.specs.declared.MsgType.the-variants.{Heartbeat, TestRequest, ResendRequest, Reject, SequenceReset, Logout, Logon}
-use Rattle.dictionary.specs.Dictionary.{№453, №580, header, fields, code35, groupsOf, rowsOf, listed, kindIn, administrative}
+use Rattle.table.specs.declared.MsgType.{MsgType}
+use Rattle.table.specs.declared.MsgType.the-variants.{Heartbeat, TestRequest, ResendRequest, Reject, SequenceReset, Logout, Logon}
+use Rattle.table.specs.Dictionary.{№453, №580, header, fields, code35, groupsOf, rowsOf, listed, kindIn, administrative}
 use Rattle.writer.specs.Message.{Value, absent, shown}
 use Rattle.writer.specs.Tags.{tags}
 use Rattle.writer.specs.Call.{rejected, required, unwritable, refused8}

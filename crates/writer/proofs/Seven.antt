@@ -4,14 +4,14 @@ use mathlib.Core.Path.{_≡_, refl, sym, ap, _∙_}
 use mathlib.Core.List.{List, [], _∷_, _++_}
 use mathlib.Core.Bool.{Bool, true, false, cond, not, _&&_, _||_, false≢true}
 use mathlib.Core.Option.{some}
-use Rattle.dictionary.specs.declared.MsgType.{MsgType}
-use Rattle.dictionary.specs.declared.MsgType.the-variants.{Heartbeat, TestRequest, ResendRequest, Reject, SequenceReset, Logout, Logon, OrderCancelRequest, TradeCaptureReportRequest}
+use Rattle.table.specs.declared.MsgType.{MsgType}
+use Rattle.table.specs.declared.MsgType.the-variants.{Heartbeat, TestRequest, ResendRequest, Reject, SequenceReset, Logout, Logon, OrderCancelRequest, TradeCaptureReportRequest}
 use lib.Dec.{eqb}
 use lib.ListN.{length}
 use native.Mathlib.Omega.{arith}
 use borrow.Author.Tests.{eqb-true}
 use Rattle.frame.specs.Bytes.{Bytes, any, all, has, same, within, decimal}
-use Rattle.dictionary.specs.Dictionary.{header, fields, №453, №580, code35, typeOf, administrative, listed, groupsOf, member, rowsOf, frameTag, inDictionary}
+use Rattle.table.specs.Dictionary.{header, fields, №453, №580, code35, typeOf, administrative, listed, groupsOf, member, rowsOf, frameTag, inDictionary}
 use Rattle.frame.proofs.Tests.{both}
 use Rattle.kinds.proofs.Values.{same-true}
 use Rattle.dictionary.specs.Verdict.{msgType}

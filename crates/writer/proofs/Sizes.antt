@@ -11,8 +11,8 @@ use borrow.Author.Tests.{eqb-true, eq-eqb, leb-true}
 use Rattle.frame.specs.Bytes.{Bytes, fix, any, all, has, decimal}
 use Rattle.frame.proofs.Tests.{both, neither, or-last}
 use Rattle.kinds.specs.Kind.{kindOf}
-use Rattle.dictionary.specs.declared.MsgType.{MsgType}
-use Rattle.dictionary.specs.Dictionary.{№453, №580, header, fields, code35, administrative, groupsOf, rowsOf, listed, kindIn}
+use Rattle.table.specs.declared.MsgType.{MsgType}
+use Rattle.table.specs.Dictionary.{№453, №580, header, fields, code35, administrative, groupsOf, rowsOf, listed, kindIn}
 use Rattle.writer.specs.Message.{Value, _is_, shown, tagged, row, valued, order, message}
 use Rattle.writer.specs.Tags.{tags}
 use Rattle.writer.specs.Call.{unwritable, unfit}

@@ -11,11 +11,11 @@ use borrow.Author.Tests.{ne-eqb}
 use Rattle.frame.specs.Bytes.{Bytes, fix, same}
 use Rattle.frame.proofs.Tests.{both, allBelow, at-below}
 use Rattle.kinds.proofs.Values.{same-long}
-use Rattle.dictionary.specs.declared.MsgType.{MsgType}
-use Rattle.dictionary.specs.declared.MsgType.the-variants.{OrderCancelRequest, TradeCaptureReportRequest}
-use Rattle.dictionary.specs.Dictionary.{code35, theNine, typeAmong, typeOf, rowsOf, listed, administrative}
-use Rattle.dictionary.specs.code.Held.{agree}
-use Rattle.dictionary.proofs.Lists.{agree-true}
+use Rattle.table.specs.declared.MsgType.{MsgType}
+use Rattle.table.specs.declared.MsgType.the-variants.{OrderCancelRequest, TradeCaptureReportRequest}
+use Rattle.table.specs.Dictionary.{code35, walked, typeAmong, typeOf, rowsOf, listed, administrative}
+use Rattle.table.specs.code.Held.{agree}
+use Rattle.table.proofs.Lists.{agree-true}
 use Rattle.dictionary.proofs.Types.{one-byte, type-coded}
 use Rattle.writer.specs.Message.{own}
 use Rattle.writer.specs.Call.{required, ifAdministrative, admin}
@@ -55,13 +55,13 @@ pub record Named (m : MsgType) (v : Bytes) : Type 0 where
 
 pub named-by : (v : Bytes) (m : MsgType) → some m ≡ admin v → Named m v
 unfolding admin typeOf
-named-by v m e = go (typeAmong theNine v) refl e
+named-by v m e = go (typeAmong walked v) refl e
   where
-    inner : (n : MsgType) (b : Bool) → administrative n ≡ b → typeAmong theNine v ≡ some n → some m ≡ cond b (some n) none → Named m v
+    inner : (n : MsgType) (b : Bool) → administrative n ≡ b → typeAmong walked v ≡ some n → some m ≡ cond b (some n) none → Named m v
     inner n true a k e = let q : m ≡ n = cc in record { administers = ap administrative q ∙ a; coded = type-coded v m (k ∙ ap some (sym q)) }
     inner n false a k e = let z : _≡_ {A = ℕ} 0 1 = cc in absurd (omega arith)
 
-    go : (o : Option MsgType) → typeAmong theNine v ≡ o → some m ≡ ifAdministrative o → Named m v
+    go : (o : Option MsgType) → typeAmong walked v ≡ o → some m ≡ ifAdministrative o → Named m v
     go none k e = let z : _≡_ {A = ℕ} 0 1 = cc in absurd (omega arith)
     go (some n) k e = inner n (administrative n) refl k e
 

@@ -8,8 +8,8 @@ use lib.Dec.{eqb, leb, ltb}
 use lib.ListN.{length, take, drop, getD}
 use Rattle.frame.specs.Bytes.{Bytes, byte, any, has}
 use Rattle.kinds.specs.Kind.{formed, allowed}
-use Rattle.dictionary.specs.declared.MsgType.{MsgType}
-use Rattle.dictionary.specs.Dictionary.{rowsOf, listed, kindIn, typeOf, administrative}
+use Rattle.table.specs.declared.MsgType.{MsgType}
+use Rattle.table.specs.Dictionary.{rowsOf, listed, kindIn, typeOf, administrative}
 use Rattle.writer.specs.Message.{Value, absent, number, bytes, Field, _is_, shown, valued, written}
 use Rattle.writer.specs.Tags.{tags, numeric}
 use Rattle.writer.specs.declared.Values.{Values}

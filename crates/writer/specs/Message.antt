@@ -7,8 +7,8 @@ use lib.Dec.{eqb}
 use lib.ListN.{length}
 use Rattle.frame.specs.Bytes.{Bytes, fix, same, decimal}
 use Rattle.frame.specs.Frame.{fixt, front, trailer, sumOf}
-use Rattle.dictionary.specs.declared.MsgType.{MsgType}
-use Rattle.dictionary.specs.Dictionary.{code35, fields}
+use Rattle.table.specs.declared.MsgType.{MsgType}
+use Rattle.table.specs.Dictionary.{code35, fields}
 
 infix 68 _is_
 -- "numbers as numbers, others as bytes"; a value may be absent

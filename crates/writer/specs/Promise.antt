@@ -11,10 +11,10 @@ use Rattle.frame.specs.Frame.{fixt, Good}
 use Rattle.frame.specs.Stream.{Frames, joined}
 use Rattle.fields.specs.Field.{firstField}
 use Rattle.kinds.specs.Kind.{time, formed, allowed}
-use Rattle.dictionary.specs.declared.MsgType.{MsgType}
-use Rattle.dictionary.specs.declared.MsgType.the-variants.{Heartbeat, TestRequest, ResendRequest, Reject, SequenceReset, Logout, Logon}
+use Rattle.table.specs.declared.MsgType.{MsgType}
+use Rattle.table.specs.declared.MsgType.the-variants.{Heartbeat, TestRequest, ResendRequest, Reject, SequenceReset, Logout, Logon}
 use Rattle.dictionary.specs.declared.Verdict.the-variants.{Clean}
-use Rattle.dictionary.specs.Dictionary.{code35, administrative}
+use Rattle.table.specs.Dictionary.{code35, administrative}
 use Rattle.dictionary.specs.Verdict.{verdict}
 use Rattle.writer.specs.Message.{Value, shown, row, message, written}
 use Rattle.writer.specs.Tags.{tags}

@@ -9,9 +9,9 @@ use lib.ListN.{length, getD}
 use Rattle.frame.specs.Bytes.{Bytes, has}
 use Rattle.kinds.specs.Kind.{Kind, text, number_to_, Y/N, time, day, among, formed, allowed, shapes}
 use Rattle.kinds.specs.Judged.{meaning}
-use Rattle.dictionary.specs.declared.MsgType.{MsgType}
-use Rattle.dictionary.specs.declared.MsgType.the-variants.{Heartbeat, ResendRequest, Reject, SequenceReset, Logout, Logon}
-use Rattle.dictionary.specs.Dictionary.{Row, header, fields, rowsOf, listed, kindIn}
+use Rattle.table.specs.declared.MsgType.{MsgType}
+use Rattle.table.specs.declared.MsgType.the-variants.{Heartbeat, ResendRequest, Reject, SequenceReset, Logout, Logon}
+use Rattle.table.specs.Dictionary.{Row, header, fields, rowsOf, listed, kindIn}
 use Rattle.writer.specs.Message.{Value, absent, bytes, _is_, field, row, valued, message}
 use Rattle.writer.specs.Tags.{tags, isNumeric}
 use Rattle.writer.specs.Call.{part, required, unfit, refused8}

@@ -79,7 +79,7 @@ returns-7 c =
           (passes (c .before .before .before .before .before .before .before .before .before .rule-6 .ensures) (c .before .before .before .before .before .before .before .enum-told7 .given .1)
           (passes (c .before .before .before .before .before .before .rule-7 .ensures .is (w .seen) (S .over)) (c .before .before .before .before .enum-told9 .given .1)
           (passes (c .before .before .before .rule-8 .ensures .is (w .place) _ (S .stood)) (c .before .enum-told11 .given .1)
-          (record { is = c .rules-9-and-10 .ensures .is _ (rule6-silent _ _ (sym (c .before .before .before .before .before .before .before .enum-told7 .given .1) ∙ c .before .before .before .before .before .before .before .before .before .rule-6 .ensures)) })))))));
+          (record { is = c .rules-9-and-10 .ensures .is (rule6-silent _ _ (sym (c .before .before .before .before .before .before .before .enum-told7 .given .1) ∙ c .before .before .before .before .before .before .before .before .before .rule-6 .ensures)) })))))));
     }
 
 pub of-known-spec : {M : Type 1} → statement M

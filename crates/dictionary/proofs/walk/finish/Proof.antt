@@ -8,10 +8,10 @@ returns : tie.Need-returns
 returns c = finish-closing (c .before .before .before .closing .ensures) (c .before .enum-told2 .given .1) (c .finding .ensures)
 
 returns-2 : tie.Need-returns-2
-returns-2 c = let e = c .before .before .before in finish-header (e .before .before .before .closing .ensures) (e .before .enum-told .given .1) (e .missing .ensures) (c .before .enum-told4 .given .1) (c .finding2 .ensures)
+returns-2 c = let e = c .before .before .before in finish-header (e .before .before .before .closing .ensures) (e .before .enum-told .given .1) (e .missing-header .ensures) (c .before .enum-told4 .given .1) (c .finding2 .ensures)
 
 returns-3 : tie.Need-returns-3
-returns-3 c = let e = c .before .before .before .before in finish-own (e .before .before .before .closing .ensures) (e .before .enum-told .given .1) (e .missing .ensures) (c .before .before .enum-told3 .given .1) (c .before .missing2 .ensures) (c .finding3 .ensures)
+returns-3 c = let e = c .before .before .before .before in finish-own (e .before .before .before .closing .ensures) (e .before .enum-told .given .1) (e .missing-header .ensures) (c .before .before .enum-told3 .given .1) (c .before .missing-own .ensures) (c .finding3 .ensures)
 
 pub finish-spec : {M : Type 1} → statement M
 finish-spec =

@@ -1,7 +1,7 @@
 -- The types of one byte, AD, and others.
 use borrow.Author.Needs.{needs}
 use Rattle.frame.specs.Bytes.{Bytes}
-use Rattle.dictionary.specs.Dictionary.{typeOf, named}
+use Rattle.table.specs.Dictionary.{typeOf, named}
 use Rattle.dictionary.proofs.Types.{one-byte, two-bytes, other-bytes}
 use mathlib.Core.Path.{ap, _∙_}
 use Rattle.dictionary.proofs.walk.type_of.Statement.{statement}

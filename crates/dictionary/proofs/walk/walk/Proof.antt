@@ -5,7 +5,7 @@ use Prim.Native.Nat.{_+_, _-_}
 use mathlib.Core.Path.{refl, sym, ap, _∙_}
 use lib.ListN.{length}
 use Rattle.dictionary.specs.Verdict.{walk}
-use Rattle.dictionary.proofs.Places.{looked, entry-is}
+use Rattle.table.proofs.Places.{looked, entry-is}
 use Rattle.dictionary.proofs.Walking.{At, begins, ends-with, malformed-ends, field-lies, field-step, malformed-step, end-row, never-none}
 use Rattle.dictionary.proofs.Turns.{skips, notes, begins-instance, joins-instance}
 use Rattle.dictionary.proofs.walk.walk.Statement.{statement}

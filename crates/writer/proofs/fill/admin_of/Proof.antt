@@ -2,8 +2,8 @@
 use borrow.Author.Needs.{needs}
 use denote.Ref.{now}
 use mathlib.Core.Path.{refl}
-use Rattle.dictionary.specs.declared.MsgType.the-variants.{Heartbeat, TestRequest, ResendRequest, Reject, SequenceReset, Logout, Logon}
-use Rattle.dictionary.specs.Dictionary.{code35, typeOf, administrative}
+use Rattle.table.specs.declared.MsgType.the-variants.{Heartbeat, TestRequest, ResendRequest, Reject, SequenceReset, Logout, Logon}
+use Rattle.table.specs.Dictionary.{code35, typeOf, administrative}
 use Rattle.writer.specs.Call.{admin}
 use Rattle.writer.proofs.Types.{typed, type-other, type-long}
 use Rattle.writer.proofs.fill.admin_of.Statement.{statement}

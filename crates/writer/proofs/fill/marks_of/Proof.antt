@@ -2,9 +2,9 @@
 use borrow.Author.Needs.{needs}
 use mathlib.Core.Path.{refl, sym, ap, _∙_, subst}
 use mathlib.Core.Bool.{false≢true}
-use Rattle.dictionary.specs.declared.MsgType.{MsgType}
-use Rattle.dictionary.specs.declared.MsgType.the-variants.{Heartbeat, TestRequest, ResendRequest, Reject, SequenceReset, Logout, Logon}
-use Rattle.dictionary.specs.Dictionary.{№453, №580, header, fields, code35, groupsOf, rowsOf, administrative}
+use Rattle.table.specs.declared.MsgType.{MsgType}
+use Rattle.table.specs.declared.MsgType.the-variants.{Heartbeat, TestRequest, ResendRequest, Reject, SequenceReset, Logout, Logon}
+use Rattle.table.specs.Dictionary.{№453, №580, header, fields, code35, groupsOf, rowsOf, administrative}
 use Rattle.writer.specs.Tags.{tags}
 use Rattle.writer.specs.Call.{required}
 use Rattle.writer.specs.code.Held.{bitOf, Marked}

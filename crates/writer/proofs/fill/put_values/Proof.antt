@@ -7,8 +7,8 @@ use mathlib.Core.Path.{_≡_, refl, sym, ap, _∙_}
 use mathlib.Core.Bool.{true, false}
 use lib.ListN.{length, take}
 use Rattle.frame.specs.Bytes.{any}
-use Rattle.dictionary.specs.declared.MsgType.{MsgType}
-use Rattle.dictionary.specs.Dictionary.{administrative}
+use Rattle.table.specs.declared.MsgType.{MsgType}
+use Rattle.table.specs.Dictionary.{administrative}
 use Rattle.writer.specs.Message.{row, valued}
 use Rattle.writer.specs.Tags.{tags}
 use Rattle.writer.specs.Call.{valueIn, unfit, refused8}

@@ -1,7 +1,7 @@
 -- `slots`: the table has the tags in their order, each with its kind, by computation.
 use mathlib.Core.Path.{refl}
 use Rattle.kinds.specs.Kind.{kindOf}
-use Rattle.dictionary.specs.Dictionary.{header, fields}
+use Rattle.table.specs.Dictionary.{header, fields}
 use Rattle.writer.specs.Tags.{tags}
 use Rattle.writer.specs.code.Held.{sevenRows}
 use Rattle.writer.proofs.fill.slots.Statement.{statement}

@@ -4,7 +4,7 @@ use native.Mathlib.Omega.{arith}
 use denote.Ref.{now}
 use mathlib.Core.List.{[], _∷_}
 use Rattle.frame.specs.Bytes.{fix}
-use Rattle.dictionary.specs.Dictionary.{fields, code35}
+use Rattle.table.specs.Dictionary.{fields, code35}
 use Rattle.writer.specs.Message.{number, bytes, _is_, order, own}
 use Rattle.writer.specs.code.Ranges.{ids}
 use Rattle.writer.proofs.Writes.{chain, nothing, more}

@@ -1,6 +1,6 @@
 -- `heartbeat`: what `echo` puts for its code.
 use borrow.Author.Needs.{needs}
-use Rattle.dictionary.specs.Dictionary.{fields, code35}
+use Rattle.table.specs.Dictionary.{fields, code35}
 use Rattle.writer.specs.Message.{order, own, written}
 use Rattle.writer.specs.Reply.{heartbeat}
 use Rattle.writer.proofs.replies.heartbeat.Statement.{statement}

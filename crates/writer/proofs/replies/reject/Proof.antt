@@ -4,7 +4,7 @@ use borrow.Author.Tests.{not-true, not-false}
 use mathlib.Core.Path.{sym, _∙_}
 use native.Mathlib.Omega.{arith}
 use denote.Ref.{now}
-use Rattle.dictionary.specs.declared.MsgType.the-variants.{Reject}
+use Rattle.table.specs.declared.MsgType.the-variants.{Reject}
 use Rattle.writer.specs.Message.{message, written}
 use Rattle.writer.specs.Reply.{reject, ofReject, optional}
 use Rattle.writer.proofs.Calls.{reply-put}

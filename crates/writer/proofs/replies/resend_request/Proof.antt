@@ -3,7 +3,7 @@ use borrow.Author.Needs.{needs}
 use borrow.Author.Tests.{lt-leb, le-leb}
 use native.Mathlib.Omega.{arith}
 use denote.Ref.{now}
-use Rattle.dictionary.specs.declared.MsgType.the-variants.{ResendRequest}
+use Rattle.table.specs.declared.MsgType.the-variants.{ResendRequest}
 use Rattle.writer.specs.Message.{message, written}
 use Rattle.writer.specs.Reply.{resendRequest, ofResendRequest}
 use Rattle.writer.proofs.Calls.{reply-put}
