@@ -10,7 +10,7 @@ use lib.ListN.{length}
 use Rattle.frame.specs.Bytes.{Bytes, fix, decimal}
 use Rattle.frame.specs.Stream.{joined}
 use Rattle.fields.specs.Field.{firstField}
-use Rattle.dictionary.specs.Dictionary.{code35, fields}
+use Rattle.table.specs.Dictionary.{code35, fields}
 use Rattle.writer.specs.Message.{Value, absent, bytes, own, order, written}
 use Rattle.writer.specs.Reply as Reply
 use Rattle.writer.specs.Wrote.{Wrote}

@@ -1,5 +1,4 @@
 // The messages of a plan, put into the buffer one behind the other.
-use dictionary::Named;
 use dictionary::type_of;
 use fields::Place;
 use fields::first_field;
@@ -7,6 +6,7 @@ use fields::type_field;
 use moves::Letter;
 use moves::next_after;
 use moves::number_in;
+use table::Named;
 use writer::gap_fill;
 use writer::heartbeat;
 use writer::logon;

@@ -18,8 +18,8 @@ use Rattle.kinds.specs.declared.Number.{Number}
 use Rattle.kinds.specs.declared.Number.the-variants.{Is, Bad}
 use Rattle.table.specs.Dictionary.{typeOf}
 use Rattle.dictionary.specs.Verdict.{typeBy, msgType}
-use Rattle.dictionary.specs.Dictionary.{named, typeIs}
-use Rattle.dictionary.specs.declared.walk.Named.{Named}
+use Rattle.table.specs.Dictionary.{named, typeIs}
+use Rattle.table.specs.declared.Named.{Named}
 use Rattle.dictionary.specs.declared.Verdict.{Verdict}
 use Rattle.dictionary.specs.declared.Verdict.the-variants.{Clean, Finding, NoBody}
 use Rattle.dictionary.proofs.Types.{type-told}

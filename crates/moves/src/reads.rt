@@ -15,7 +15,7 @@ ghost use Rattle.frame.specs.Bytes.{within};
 ghost use Rattle.fields.specs.Field.{firstField};
 ghost use Rattle.fields.specs.First.{First};
 ghost use Rattle.dictionary.specs.Verdict.{msgType};
-ghost use Rattle.dictionary.specs.Dictionary.{typeIs};
+ghost use Rattle.table.specs.Dictionary.{typeIs};
 ghost use Rattle.moves.specs.Words.{speaks};
 ghost use Rattle.moves.specs.Seen.{isIt, isClean};
 ghost use Rattle.moves.specs.code.Reads.{NumberIn};
