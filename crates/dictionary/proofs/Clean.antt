@@ -10,7 +10,7 @@ use mathlib.Core.Option.{Option, none, some}
 use mathlib.Core.Logic.{_⊎_, inl, inr}
 use lib.Dec.{eqb}
 use lib.ListN.{length, drop}
-use Rattle.frame.specs.Bytes.{Bytes, all, has, starts, within}
+use Rattle.bytes.specs.Bytes.{Bytes, all, has, starts, within}
 use Rattle.fields.specs.Field.{Part, field, malformed, partOf, parts, firstOfParts, firstField, isBody}
 use Rattle.fields.proofs.Firsts.{tagged, starts-append, tag-part, part-split}
 use Rattle.dictionary.specs.Dictionary.{Row, №453, №580, theNine, header, fields, rowsOf, listed, administrative, inDictionary}
@@ -22,8 +22,8 @@ use Rattle.dictionary.specs.declared.Verdict.{Verdict}
 use Rattle.dictionary.specs.declared.Verdict.the-variants.{Clean, NoBody}
 use Rattle.dictionary.specs.Promise.{OfKind, required, Passed, PassedPart, AllPassed, CleanBody}
 use Rattle.dictionary.specs.code.Held.{tags}
-use Rattle.frame.proofs.Numerals.{within-is}
-use Rattle.frame.proofs.Tests.{both}
+use Rattle.bytes.proofs.Numerals.{within-is}
+use Rattle.bytes.proofs.Tests.{both}
 use Rattle.dictionary.proofs.Lists.{all-nine}
 use Rattle.dictionary.proofs.Saying.{unknown-tag}
 use Rattle.dictionary.proofs.Turns.{silent, silent-at, unknown-skipped}

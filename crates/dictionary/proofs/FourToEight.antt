@@ -6,7 +6,7 @@ use mathlib.Core.List.{List, _++_}
 use mathlib.Core.Bool.{Bool, true, false, not, _||_, false≢true, or-true}
 use lib.Dec.{eqb}
 use lib.ListN.{length, getD}
-use Rattle.frame.specs.Bytes.{Bytes, has}
+use Rattle.bytes.specs.Bytes.{Bytes, has}
 use Rattle.fields.specs.Field.{field}
 use Rattle.dictionary.specs.Dictionary.{Row, header, fields, listed, allMembers, groupsOf, member, rowsOf}
 use Rattle.dictionary.specs.Verdict.{Open, Place, outside, inside, firstMember, left, rule4, rule5, rule6, rule7, rule8}
@@ -15,7 +15,7 @@ use Rattle.dictionary.specs.declared.MsgType.{MsgType}
 use Rattle.dictionary.specs.declared.Says.the-variants.{Nothing, Reason}
 use Rattle.dictionary.specs.declared.rules.State.{State}
 use Rattle.dictionary.specs.declared.table.Entry.{Entry}
-use Rattle.frame.proofs.Tests.{both, any-append}
+use Rattle.bytes.proofs.Tests.{both, any-append}
 use Rattle.dictionary.proofs.Groups.{counted}
 
 -- rule 4

@@ -9,7 +9,7 @@ use mathlib.Core.Bool.{Bool, true, false, cond, not, _&&_}
 use lib.Dec.{eqb, ltb}
 use lib.ListN.{getD}
 use lib.Seq.{drop-cons}
-use Rattle.frame.specs.Bytes.{has, same}
+use Rattle.bytes.specs.Bytes.{has, same}
 use Rattle.kinds.proofs.Values.{same-true}
 use Rattle.dictionary.specs.Dictionary.{Row}
 use Rattle.dictionary.specs.Verdict.{missing}
@@ -19,7 +19,7 @@ use Rattle.dictionary.specs.declared.Says.the-variants.{Nothing, Reason}
 use Rattle.dictionary.specs.declared.table.Rows.{Rows}
 use Rattle.dictionary.specs.declared.table.Rows.the-variants.{Header, Own, Members}
 use Rattle.dictionary.proofs.Lists.{all-nine}
-use Rattle.frame.proofs.Tests.{all-at}
+use Rattle.bytes.proofs.Tests.{all-at}
 
 -- the first of some tags that was not met
 abbrev pub lacking : List ℕ → List ℕ → Says

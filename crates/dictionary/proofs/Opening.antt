@@ -7,7 +7,7 @@ use mathlib.Core.List.{List, [], _∷_, _++_}
 use mathlib.Core.Bool.{Bool, true, false, cond, not, _||_, false≢true}
 use mathlib.Core.Logic.{inl, inr}
 use lib.Dec.{eqb}
-use Rattle.frame.specs.Bytes.{Bytes, any, value}
+use Rattle.bytes.specs.Bytes.{Bytes, any, value}
 use Rattle.kinds.specs.Kind.{Kind, text, number_to_, Y/N, time, day, among, formed, isNumber}
 use Rattle.kinds.specs.Judged.{meaning, numberOf}
 use Rattle.kinds.specs.declared.Number.{Number}
@@ -19,7 +19,7 @@ use Rattle.dictionary.specs.declared.MsgType.{MsgType}
 use Rattle.dictionary.specs.declared.Says.the-variants.{Nothing, Reason}
 use Rattle.dictionary.specs.declared.rules.State.{State}
 use Rattle.dictionary.specs.declared.table.Entry.{Entry}
-use Rattle.frame.proofs.Tests.{any-append}
+use Rattle.bytes.proofs.Tests.{any-append}
 use Rattle.dictionary.proofs.FourToEight.{listed-rows}
 
 -- the header

@@ -8,7 +8,7 @@ use mathlib.Core.Bool.{Bool, true, false, cond, not, _&&_, _||_, false≢true}
 use mathlib.Core.Logic.{inl, inr}
 use lib.Dec.{eqb}
 use lib.ListN.{length, getD, drop, length-map}
-use Rattle.frame.specs.Bytes.{Bytes, any, all, has, same}
+use Rattle.bytes.specs.Bytes.{Bytes, any, all, has, same}
 use Rattle.kinds.specs.Kind.{Kind, text, number_to_, Y/N, time, day, among}
 use Rattle.kinds.proofs.Values.{same-true}
 use Rattle.dictionary.specs.Dictionary.{Group, №453, №580, groups, theNine, header, fields, listed, member, rowsOf, frameTag}
@@ -17,7 +17,7 @@ use Rattle.dictionary.specs.declared.MsgType.{MsgType}
 use Rattle.dictionary.specs.declared.table.Entry.{Entry}
 use Rattle.dictionary.specs.declared.table.Line.{Line}
 use Rattle.dictionary.proofs.Lists.{agree-true, all-nine}
-use Rattle.frame.proofs.Tests.{both, all-at, map-at, has-next}
+use Rattle.bytes.proofs.Tests.{both, all-at, map-at, has-next}
 
 pub tags-long : length tags ≡ 44
 unfolding tags

@@ -4,7 +4,7 @@ use mathlib.Core.Path.{_≡_}
 use mathlib.Core.Bool.{Bool, true}
 use mathlib.Core.List.{[], _∷_, _++_}
 use lib.ListN.{length, take, drop, getD}
-use Rattle.frame.specs.Bytes.{Bytes, byte, fix, sum, value, numeral, At}
+use Rattle.bytes.specs.Bytes.{Bytes, byte, fix, sum, value, numeral, At}
 
 -- What may differ from edition to edition: the start mark, and how many digits the body length may have.
 pub record Rule : Type 0 where

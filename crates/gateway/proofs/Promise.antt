@@ -11,13 +11,13 @@ use borrow.Author.Tests.{le-leb}
 use lib.Dec.{eqb}
 use lib.ListN.{length, getD, set, take, drop, replicate, length-append, length-replicate}
 use lib.Seq.{take-append-seam, drop-append-seam}
-use Rattle.frame.specs.Bytes.{Bytes, Byted, has, within}
+use Rattle.bytes.specs.Bytes.{Bytes, Byted, has, within}
 use Rattle.frame.specs.Frame.{fixt, front, Good}
-use Rattle.frame.specs.Line.{line, fitting, put, dropped}
+use Rattle.line.specs.Line.{line, fitting, put, dropped}
 use Rattle.frame.specs.Stream.{Frames, joined}
 use Rattle.frame.specs.Promise.{ExactlyOne}
-use Rattle.frame.proofs.Tests.{both}
-use Rattle.frame.proofs.Numerals.{within-is}
+use Rattle.bytes.proofs.Tests.{both}
+use Rattle.bytes.proofs.Numerals.{within-is}
 use Rattle.frame.proofs.Promise.{fixt-promise, fixt-numbers}
 use Rattle.frame.proofs.Readable.{good?}
 use Rattle.fields.proofs.Promise as Fields

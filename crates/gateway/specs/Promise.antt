@@ -7,7 +7,7 @@ use mathlib.Core.List.{List, [], _∷_}
 use mathlib.Core.Option.{some}
 use mathlib.Core.Bool.{true}
 use lib.ListN.{length, set, take, drop}
-use Rattle.frame.specs.Bytes.{Bytes, Byted, within}
+use Rattle.bytes.specs.Bytes.{Bytes, Byted, within}
 use Rattle.frame.specs.Frame.{fixt}
 use Rattle.frame.specs.Stream.{Frames, joined}
 use Rattle.frame.specs.Promise as Frame

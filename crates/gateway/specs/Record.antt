@@ -8,7 +8,7 @@ use mathlib.Core.Option.{Option, none, some}
 use lib.Dec.{eqb}
 use lib.ListN.{length, drop, getD, replicate}
 use lib.Seq.{sets}
-use Rattle.frame.specs.Bytes.{Bytes, all}
+use Rattle.bytes.specs.Bytes.{Bytes, all}
 use Rattle.session.specs.Session.{code}
 use Rattle.session.specs.declared.Record.{Record}
 use Rattle.session.specs.declared.Status.{Status}

@@ -8,9 +8,9 @@ use mathlib.Core.List.{List, [], _∷_, _++_}
 use mathlib.Core.Option.{Option, none, some}
 use lib.ListN.{length}
 use borrow.Author.Tests.{lt-ltb, le-ltb, lt-leb, le-leb, leb-false, ltb-false, not-true, not-false}
-use Rattle.frame.specs.Bytes.{Bytes, has, within, Byted}
-use Rattle.frame.proofs.Numerals.{within-is}
-use Rattle.frame.proofs.Tests.{both}
+use Rattle.bytes.specs.Bytes.{Bytes, has, within, Byted}
+use Rattle.bytes.proofs.Numerals.{within-is}
+use Rattle.bytes.proofs.Tests.{both}
 use Rattle.calendar.specs.Time.{limit}
 use Rattle.session.specs.Words.{first, _when_}
 use Rattle.session.specs.Session.{_==_, Session, inRange}

@@ -34,7 +34,7 @@ ghost use mathlib.Core.Path.{_≡_};
 ghost use mathlib.Core.List.{[], _++_};
 ghost use Prim.Native.Nat.{_≤_, _<_};
 ghost use lib.ListN.{length, take};
-ghost use Rattle.frame.specs.Bytes.{Bytes};
+ghost use Rattle.bytes.specs.Bytes.{Bytes};
 ghost use Rattle.frame.specs.Stream.{joined};
 ghost use Rattle.calendar.specs.Time.{utc, limit};
 ghost use Rattle.writer.specs.Wrote.{Wrote};

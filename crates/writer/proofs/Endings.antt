@@ -10,9 +10,9 @@ use lib.Dec.{leb, ltb}
 use lib.ListN.{length, take, drop, getD}
 use lib.Seq.{take-append-seam, drop-append-seam}
 use borrow.Author.Tests.{ltb-true, ltb-false}
-use Rattle.frame.specs.Bytes.{Bytes, has, value, decimal, Byted}
+use Rattle.bytes.specs.Bytes.{Bytes, has, value, decimal, Byted}
 use Rattle.fields.specs.Field.{firstField}
-use Rattle.frame.proofs.Decimals.{decimal-worth}
+use Rattle.bytes.proofs.Decimals.{decimal-worth}
 use Rattle.dictionary.specs.declared.MsgType.{MsgType}
 use Rattle.dictionary.specs.Dictionary.{code35, administrative}
 use Rattle.writer.specs.Message.{Value, absent, number, bytes, shown, row, message, written}

@@ -8,10 +8,10 @@ use mathlib.Core.Option.{Option, none, some}
 use lib.Dec.{eqb, ltb}
 use lib.ListN.{length}
 use borrow.Author.Tests.{eqb-true, eqb-false, eq-eqb, ne-eqb, ltb-true}
-use Rattle.frame.specs.Bytes.{Bytes, all, has, Byted}
+use Rattle.bytes.specs.Bytes.{Bytes, all, has, Byted}
 use Rattle.frame.specs.Frame.{fixt, Good}
 use Rattle.fields.specs.Field.{firstField}
-use Rattle.frame.proofs.Tests.{both, neither, or-last}
+use Rattle.bytes.proofs.Tests.{both, neither, or-last}
 use Rattle.dictionary.specs.declared.MsgType.{MsgType}
 use Rattle.dictionary.specs.declared.Verdict.the-variants.{Clean}
 use Rattle.dictionary.specs.Dictionary.{code35, administrative, rowsOf, listed}

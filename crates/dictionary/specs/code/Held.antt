@@ -6,7 +6,7 @@ use mathlib.Core.List.{List, [], _∷_, _++_, map}
 use mathlib.Core.Bool.{Bool, true, false, cond, not, _&&_, _||_}
 use lib.Dec.{eqb, ltb}
 use lib.ListN.{length, take, drop, getD}
-use Rattle.frame.specs.Bytes.{Bytes, any, all, has, same, value}
+use Rattle.bytes.specs.Bytes.{Bytes, any, all, has, same, value}
 use Rattle.fields.specs.Field.{Part, field, malformed}
 use Rattle.kinds.specs.Kind.{Kind, text, number_to_, Y/N, time, day, among, isNumber}
 use Rattle.kinds.specs.Judged.{meaning}

@@ -5,7 +5,7 @@ use Prim.Native.Nat.{_≤_, _-_}
 use mathlib.Core.Path.{_≡_, refl, _∙_}
 use Rattle.dictionary.proofs.Places.{place-here, place-next, place-none}
 use lib.ListN.{drop}
-use Rattle.frame.specs.Bytes.{has}
+use Rattle.bytes.specs.Bytes.{has}
 use Rattle.dictionary.specs.code.Held.{tags}
 use Rattle.dictionary.proofs.table.place_of.Statement.{statement}
 use Rattle.dictionary.proofs.table.place_of.Tie as tie
