@@ -20,6 +20,7 @@ use Rattle.bytes.proofs.Tests.{both}
 use Rattle.bytes.proofs.Numerals.{within-is}
 use Rattle.frame.proofs.Promise.{fixt-promise, fixt-numbers}
 use Rattle.frame.proofs.Readable.{good?}
+use Rattle.line.proofs.Promise as Line
 use Rattle.fields.proofs.Promise as Fields
 use Rattle.dictionary.proofs.Promise as Dictionary
 use Rattle.writer.specs.Call as Written
@@ -272,6 +273,8 @@ promise =
       unwritten = λ type values text buf r out buf′ B W h. unwritten type values text buf B r out buf′ W h;
       frames = fixt-promise;
       sizes = fixt-numbers;
+      line = Line.fixt-promise;
+      room = Line.fixt-numbers;
       fields = Fields.promise;
       verdicts = Dictionary.promise;
       writing = Writer.promise;
