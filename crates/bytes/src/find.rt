@@ -47,7 +47,7 @@ fn tail_free(s: &[u8], a: usize, i: usize, e: usize, x: u8) -> bool
 }
 
 // The first place from a on at which x stands before e, or e: sixty-four bytes at a time, and then sixteen, as long as x is not among them.
-pub fn find_byte(s: &[u8], a: usize, e: usize, x: u8) -> usize
+fn find_byte(s: &[u8], a: usize, e: usize, x: u8) -> usize
     requires { ⌜ (a ≤ e) × (e ≤ length (now s)) ⌝ }
     ensures { λ r. ⌜ FirstByte (now (s .entry)) a e x r ⌝ }
 {

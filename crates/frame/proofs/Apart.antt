@@ -7,10 +7,10 @@ use mathlib.Core.List.{List, _∷_, _++_}
 use lib.ListN.{length, take, drop, getD, length-append}
 use lib.Seq.{getD-append-add, getD-drop, getD-take}
 use Rattle.bytes.specs.Bytes.{Bytes, At, Digit}
+use Rattle.bytes.proofs.Lists.{at-byte, part-length, at-part}
 use Rattle.frame.specs.Frame.{Rule, Good, GoodAt, front, trailer, sumOf}
 use Rattle.frame.specs.Reading.{Leftmost}
 use Rattle.frame.specs.Mark.{MarkOk}
-use Rattle.bytes.proofs.Lists.{at-byte, part-length, at-part}
 use Rattle.frame.proofs.Good.{good-at-mark, good-at-length, good-more, good-less, good-here}
 
 module _ (R : Rule) where

@@ -9,11 +9,11 @@ use lib.ListN.{length, take, drop, getD, length-append, length-drop, take-append
 use lib.Seq.{getD-drop, getD-take, drop-drop}
 use Rattle.bytes.specs.Bytes.{Bytes, value, At}
 use Rattle.bytes.specs.code.Leaf.{Matched, Stands, Here}
+use Rattle.bytes.proofs.Lists.{at-byte, bytes-at, matched-at, part-length, at-part, at-more}
+use Rattle.bytes.proofs.Numerals.{Digits, numeral-means, row-digits}
 use Rattle.frame.specs.Frame.{Rule, Body, GoodAt, Live, trailer, sumOf}
 use Rattle.frame.specs.code.Walk.{SizeSeen, BodySeen, Open}
 use Rattle.frame.specs.Mark.{MarkOk}
-use Rattle.bytes.proofs.Lists.{at-byte, bytes-at, matched-at, part-length, at-part, at-more}
-use Rattle.bytes.proofs.Numerals.{Digits, numeral-means, row-digits}
 use Rattle.frame.proofs.Good.{good-length}
 use Rattle.frame.proofs.Complete.{type-tag, Comp, open-of, comp-fields}
 use Rattle.frame.proofs.AtMark.{agree, Begun, begun, begun-digits, begun-size}

@@ -10,11 +10,11 @@ use lib.ListN.{length, take, drop, getD, length-append, length-drop, take-append
 use lib.Seq.{getD-append-add, getD-drop, getD-take, take-all, ext-getD, length-take-le, drop-drop, drop-cons}
 use Rattle.bytes.specs.Bytes.{Bytes, value, valueFrom, Digit}
 use Rattle.bytes.specs.code.Leaf.{Number}
+use Rattle.bytes.proofs.Lists.{valueFrom-append}
+use Rattle.bytes.proofs.Numerals.{Digits, Numeral, digit-at, digits-of, digits-append, value-from, numeral-means, numeral-true, small-one, row-digits, digits-row}
 use Rattle.frame.specs.Frame.{Rule, Length, Live}
 use Rattle.frame.specs.code.Walk.{MarkSeen, SizeSeen, Open}
 use Rattle.frame.specs.Mark.{MarkOk}
-use Rattle.bytes.proofs.Lists.{valueFrom-append}
-use Rattle.bytes.proofs.Numerals.{Digits, Numeral, digit-at, digits-of, digits-append, value-from, numeral-means, numeral-true, small-one, row-digits, digits-row}
 use Rattle.frame.proofs.Good.{good-digits}
 use Rattle.frame.proofs.Complete.{Comp, open-of, comp-more, comp-size, comp-mark}
 use Rattle.frame.proofs.AtMark.{agree, Begun, begun, begun-mark}

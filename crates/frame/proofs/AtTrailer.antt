@@ -8,12 +8,12 @@ use lib.ListN.{length, take, drop, getD, length-append, length-drop, take-append
 use lib.Seq.{getD-append-add, getD-drop, take-at}
 use Rattle.bytes.specs.Bytes.{Bytes, sum, value, At}
 use Rattle.bytes.specs.code.Leaf.{wordAt, Matched}
-use Rattle.frame.specs.Frame.{Rule, Good, Live, front, trailer, sumOf}
-use Rattle.frame.specs.code.Walk.{BodySeen, Open, Ended}
-use Rattle.frame.specs.Mark.{MarkOk}
 use Rattle.bytes.proofs.Lists.{at-byte, bytes-at, matched-at}
 use Rattle.bytes.proofs.Words.{same-bytes, same-word}
 use Rattle.bytes.proofs.Numerals.{Digits, numeral-means, row-digits}
+use Rattle.frame.specs.Frame.{Rule, Good, Live, front, trailer, sumOf}
+use Rattle.frame.specs.code.Walk.{BodySeen, Open, Ended}
+use Rattle.frame.specs.Mark.{MarkOk}
 use Rattle.frame.proofs.Good.{same-start}
 use Rattle.frame.proofs.Make.{good-make}
 use Rattle.frame.proofs.Complete.{open-of, comp-tail}

@@ -8,8 +8,8 @@ use lib.ListN.{length, take, drop, getD, length-append}
 use lib.Seq.{take-at, drop-at}
 use Rattle.bytes.specs.Bytes.{Bytes, Digit}
 use Rattle.bytes.specs.code.Leaf.{Number}
-use Rattle.frame.specs.Frame.{Rule, Good, BodyOf, its-body, trailer, sumOf}
 use Rattle.bytes.proofs.Numerals.{digit-at, numeral-means}
+use Rattle.frame.specs.Frame.{Rule, Good, BodyOf, its-body, trailer, sumOf}
 use Rattle.frame.proofs.Make.{j-digit, j-soh}
 use Rattle.frame.proofs.Good.{regroup, good-length, good-split, good-digits}
 

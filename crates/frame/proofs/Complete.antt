@@ -10,11 +10,11 @@ use lib.ListN.{length, take, drop, getD, replicate, length-append, length-drop, 
 use lib.Dec.{lit≤}
 use lib.Seq.{getD-append-add, getD-drop, drop-append-le, take-all}
 use Rattle.bytes.specs.Bytes.{Bytes, fix, value, numeral, At}
+use Rattle.bytes.proofs.Lists.{at-byte, bytes-at}
+use Rattle.bytes.proofs.Numerals.{numeral-true, digits-row}
 use Rattle.frame.specs.Frame.{Rule, Length, Body, Good, GoodAt, front, trailer, sumOf}
 use Rattle.frame.specs.code.Walk.{Open}
 use Rattle.frame.specs.Mark.{MarkOk}
-use Rattle.bytes.proofs.Lists.{at-byte, bytes-at}
-use Rattle.bytes.proofs.Numerals.{numeral-true, digits-row}
 use Rattle.frame.proofs.Make.{good-make}
 
 -- the bytes with which a body begins

@@ -8,10 +8,10 @@ use mathlib.Core.List.{[], _∷_, _++_, append-assoc, append-nil, append-cancel-
 use lib.ListN.{length, take, drop, length-append, take-append-drop}
 use lib.Seq.{take-append-seam, drop-append-seam, take-length, take-at}
 use Rattle.bytes.specs.Bytes.{Bytes, value, At}
-use Rattle.frame.specs.Frame.{Rule, Good, GoodAt, Live, front, trailer, sumOf, longest}
-use Rattle.frame.specs.code.Walk.{Open}
 use Rattle.bytes.proofs.Lists.{part-length, at-part, at-whole, at-more, part-more}
 use Rattle.bytes.proofs.Numerals.{Digits, numeral-means, split-digits, row-digits, four-digits}
+use Rattle.frame.specs.Frame.{Rule, Good, GoodAt, Live, front, trailer, sumOf, longest}
+use Rattle.frame.specs.code.Walk.{Open}
 
 -- a mark, digits and `|` taken together
 pub regroup : (m ds t : Bytes) → m ++ (ds ++ (1 ∷ t)) ≡ m ++ (ds ++ (1 ∷ [])) ++ t

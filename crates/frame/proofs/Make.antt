@@ -8,10 +8,10 @@ use mathlib.Core.List.{List, [], _∷_, _++_, append-assoc}
 use lib.ListN.{length, getD, length-append, List·getD-append}
 use lib.Seq.{getD-append-add}
 use Rattle.bytes.specs.Bytes.{Bytes, value, At}
-use Rattle.frame.specs.Frame.{Rule, Length, Body, Good, front, trailer, sumOf}
-use Rattle.frame.specs.Mark.{MarkOk}
 use Rattle.bytes.proofs.Lists.{at-byte, bytes-at}
 use Rattle.bytes.proofs.Numerals.{Digits, digit-at, numeral-means, row-digits}
+use Rattle.frame.specs.Frame.{Rule, Length, Body, Good, front, trailer, sumOf}
+use Rattle.frame.specs.Mark.{MarkOk}
 
 module _ (m ds b tr : Bytes) where
   abbrev pub joined : Bytes

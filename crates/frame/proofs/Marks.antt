@@ -6,10 +6,10 @@ use lib.Dec.{T, leb, ltb, eqb}
 use lib.ListN.{length, getD}
 use borrow.Author.Tests.{ltb-true, leb-true, le-leb, eq-eqb}
 use Rattle.bytes.specs.Bytes.{Bytes, digit}
-use Rattle.frame.specs.Frame.{fixt, fix42}
-use Rattle.frame.specs.Mark.{MarkOk}
 use Rattle.bytes.proofs.Tests.{both-true, allBelow, at-below}
 use Rattle.bytes.proofs.Numerals.{is-digit}
+use Rattle.frame.specs.Frame.{fixt, fix42}
+use Rattle.frame.specs.Mark.{MarkOk}
 
 -- two tests of which one fails
 apart : (a b : Bool) → not (a && b) ≡ true → a ≡ true → b ≡ true → ⊥

@@ -7,11 +7,11 @@ use mathlib.Core.List.{List, [], _∷_, _++_, append-assoc, append-nil, append-c
 use lib.ListN.{length, take, drop, getD, length-append, take-append-drop}
 use lib.Seq.{take-at, take-all, take-suc, take-append-le, drop-append-le}
 use Rattle.bytes.specs.Bytes.{Bytes}
+use Rattle.bytes.proofs.Lists.{part-more}
 use Rattle.frame.specs.Frame.{Rule, Good, GoodAt, longest}
 use Rattle.frame.specs.Mark.{MarkOk}
 use Rattle.frame.specs.Stream.{Frames, rest, next, Drained, keep, Fed, end, piece, joined}
 use Rattle.frame.specs.Promise.{EndsIn, ComesOut}
-use Rattle.bytes.proofs.Lists.{part-more}
 use Rattle.frame.proofs.Good.{good-at-length, good-more, good-less, good-unique, good-here}
 use Rattle.frame.proofs.Apart.{apart, left-more}
 use Rattle.frame.proofs.Streams.{frames, frames-at, frames-are, are-frames, frames-around, clear-rest}

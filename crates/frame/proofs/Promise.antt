@@ -8,11 +8,11 @@ use mathlib.Core.List.{List, [], _∷_, _++_, append-assoc, append-nil, append-c
 use lib.Dec.{lit≤}
 use lib.ListN.{length, length-append, length-drop}
 use Rattle.bytes.specs.Bytes.{Bytes, fix, value}
+use Rattle.bytes.proofs.Numerals.{Digits, numeral-true, digits-row, split-digits}
 use Rattle.frame.specs.Frame.{Rule, fixt, fix42, Length, Good, GoodAt, longest}
 use Rattle.frame.specs.Reading.{refusal, Reads}
 use Rattle.frame.specs.Mark.{MarkOk}
 use Rattle.frame.specs.Promise.{SameFrame, NoOverlap, Promise, FixtNumbers}
-use Rattle.bytes.proofs.Numerals.{Digits, numeral-true, digits-row, split-digits}
 use Rattle.frame.proofs.Good.{good-longest, good-shortest, good-length, good-digits, good-split, good-unique, same-length}
 use Rattle.frame.proofs.Unique.{reads-one}
 use Rattle.frame.proofs.Marks.{fixt-ok, fix42-ok}

@@ -8,11 +8,11 @@ use mathlib.Core.List.{[], _∷_, _++_, append-nil, append-assoc}
 use lib.ListN.{length, take, drop, getD, length-append, take-append-drop, List·getD-append}
 use lib.Seq.{take-at, drop-at, length-take-le, getD-append-add, getD-drop, getD-take}
 use Rattle.bytes.specs.Bytes.{Bytes, fix, value, numeral, At}
+use Rattle.bytes.proofs.Lists.{part-length}
+use Rattle.bytes.proofs.Numerals.{digit-at, numeral-means}
 use Rattle.frame.specs.Frame.{Rule, Length, Body, Good, GoodAt, Live, front, trailer, sumOf, longest}
 use Rattle.frame.specs.Reading.{Answer, frame, refusal, Reads}
 use Rattle.frame.specs.Mark.{MarkOk}
-use Rattle.bytes.proofs.Lists.{part-length}
-use Rattle.bytes.proofs.Numerals.{digit-at, numeral-means}
 use Rattle.frame.proofs.Good.{regroup, good-split, good-digits, good-at-length, good-live, good-less}
 use Rattle.frame.proofs.Decide.{both?, neither, turn, lists, holds?, Least, least, some-below, Some, some-bytes, small?, at?}
 

@@ -10,8 +10,8 @@ ghost use mathlib.Core.Path.{_≡_};
 ghost use mathlib.Core.List.{_∷_};
 ghost use Prim.Native.Nat.{_≤_};
 ghost use lib.ListN.{length};
-ghost use Rattle.frame.specs.Frame.{ruleOf, trailer};
 ghost use Rattle.bytes.specs.code.Leaf.{wordAt};
+ghost use Rattle.frame.specs.Frame.{ruleOf, trailer};
 ghost use Rattle.frame.specs.Mark.{MarkOk};
 ghost use Rattle.frame.specs.code.Walk.{Seen, Stepped};
 

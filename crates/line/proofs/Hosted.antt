@@ -12,13 +12,13 @@ use Rattle.frame.specs.Frame.{Rule, longest}
 use Rattle.frame.specs.Reading.{Answer, frame, refusal, Leftmost, Unfinished, Reads}
 use Rattle.frame.specs.Mark.{MarkOk}
 use Rattle.frame.specs.Stream.{Drained, Fed, keep, hand, end, piece}
-use Rattle.line.specs.Line.{Line, pending, room, fitting, put, dropped, Worked, Taken, Hosted}
-use Rattle.line.specs.Line as L
-use Rattle.line.specs.Promise.{Within, Lent}
 use Rattle.frame.proofs.Good.{good-at-length}
 use Rattle.frame.proofs.Unique.{left-one, unfinished-one}
 use Rattle.frame.proofs.Readable.{reads-of}
 use Rattle.frame.proofs.Worked.{drained-at, drained-join, drained-short}
+use Rattle.line.specs.Line.{Line, pending, room, fitting, put, dropped, Worked, Taken, Hosted}
+use Rattle.line.specs.Line as L
+use Rattle.line.specs.Promise.{Within, Lent}
 
 -- ---- the two calls
 fitting-bounds : (l : Line) (x : Bytes) → (fitting l x ≤ length x) × (fitting l x ≤ room l)
