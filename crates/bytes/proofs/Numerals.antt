@@ -1,6 +1,7 @@
 -- Numbers in decimal digits, over the greatest number of digits: what a numeral is, part by part, what digits are worth, and what digits that were read make.
 use Prim.Native.Nat.{ℕ, zero, suc, _+_, _-_, _*_, _^_, _≤_, _<_}
-use native.Mathlib.Nat.{zero-add, add-zero, add-suc, suc-add}
+use native.Mathlib.Nat.{zero-add, add-zero, add-suc, suc-add, pow-le-pow-right}
+use native.Mathlib.Decide.{decLt}
 use native.Mathlib.Numerals.{add-one}
 use native.Mathlib.Omega.{arith}
 use mathlib.Core.Path.{_≡_, refl, sym, ap, ap₂, _∙_}
@@ -117,6 +118,25 @@ value-above n (d ∷ l) N =
     let h = value-from (0 * 10 + (d - 48)) l in
     omega arith
 
+-- digits behind a number of more than k digits make one of more than k digits and theirs
+value-keeps : (l : Bytes) (n k : ℕ) → 10 ^ k ≤ n → 10 ^ (k + length l) ≤ valueFrom n l
+value-keeps [] n k g = rw add-zero g
+value-keeps (d ∷ l) n k g = rw (add-suc, ← suc-add, ← add-one k) (value-keeps l (n * 10 + (d - 48)) (k + 1) (omega (arith, pow-more 10 k)))
+
+-- a number below 10 to the n without a leading zero has at most n digits
+pub few-enough : (most n : ℕ) (l : Bytes) → Numeral most l → value l < 10 ^ n → length l ≤ n
+few-enough most n [] N h = omega arith
+few-enough most n (d ∷ l) N h = go (decLt (length l) n)
+  where
+    go : Dec (length l < n) → suc (length l) ≤ n
+    go (yes k) = omega arith
+    go (no k) =
+        let D = digit-is d (both (digit d) (all digit l) (N .whole) .0) in
+        let z : d ≡ 48 → ⊥ = N .no-zero in
+        let p : 10 ^ n ≤ 10 ^ length l = pow-le-pow-right (omega arith) {j = length l} (omega arith) in
+        let w = rw (zero-add (length l)) at (value-keeps l (0 * 10 + (d - 48)) 0 (omega arith)) in
+        absurd (omega arith)
+
 -- ---- a row of digits, digit by digit
 abbrev pub Digits : Bytes → Type 0
 Digits [] = Unit {0}
@@ -151,24 +171,3 @@ split-digits [] (d ∷ es) a b _ h e = let k : 1 ≡ d = head-eq-of-cons-eq e in
 split-digits (d ∷ ds) [] a b h _ e = let k : d ≡ 1 = head-eq-of-cons-eq e in absurd (omega arith)
 split-digits (d ∷ ds) (d′ ∷ es) a b h k e =
     ap₂ (λ (x : ℕ) (l : Bytes). x ∷ l) (head-eq-of-cons-eq e) (split-digits ds es a b (h .1) (k .1) (tail-eq-of-cons-eq e))
-
--- a number below 10,000 without a leading zero has at most four digits
-pub four-digits : (most : ℕ) (ds : Bytes) → Numeral most ds → value ds < 10000 → length ds ≤ 4
-four-digits most [] w k = omega arith
-four-digits most (a ∷ []) w k = omega arith
-four-digits most (a ∷ b ∷ []) w k = omega arith
-four-digits most (a ∷ b ∷ c ∷ []) w k = omega arith
-four-digits most (a ∷ b ∷ c ∷ d ∷ []) w k = omega arith
-four-digits most (a ∷ b ∷ c ∷ d ∷ e ∷ ds) w k =
-    let h = row-digits (a ∷ b ∷ c ∷ d ∷ e ∷ ds) (w .whole) in
-    let z = w .no-zero in
-    absurd (omega (arith, h .0, value-from (((((0 * 10 + (a - 48)) * 10 + (b - 48)) * 10 + (c - 48)) * 10 + (d - 48)) * 10 + (e - 48)) ds))
-
--- a number below 5 without a leading zero has one digit, and is not 0
-pub small-one : (most : ℕ) (ds : Bytes) → Numeral most ds → value ds < 5 → (length ds ≡ 1) × (0 < value ds)
-small-one most [] w k = absurd (omega (arith, w .some-digit))
-small-one most (d ∷ []) w k = let h = row-digits (d ∷ []) (w .whole) in let z = w .no-zero in (refl, omega arith)
-small-one most (d ∷ e ∷ ds) w k =
-    let h = row-digits (d ∷ e ∷ ds) (w .whole) in
-    let z = w .no-zero in
-    absurd (omega (arith, value-from ((0 * 10 + (d - 48)) * 10 + (e - 48)) ds))

@@ -11,7 +11,7 @@ use lib.Seq.{getD-append-add, getD-drop, getD-take, take-all, ext-getD, length-t
 use Rattle.bytes.specs.Bytes.{Bytes, value, valueFrom, Digit}
 use Rattle.bytes.specs.code.Leaf.{Number}
 use Rattle.bytes.proofs.Lists.{valueFrom-append}
-use Rattle.bytes.proofs.Numerals.{Digits, Numeral, digit-at, digits-of, digits-append, value-from, numeral-means, numeral-true, small-one, row-digits, digits-row}
+use Rattle.bytes.proofs.Numerals.{Digits, Numeral, digit-at, digits-of, digits-append, value-from, numeral-means, numeral-true, few-enough, value-above, row-digits, digits-row}
 use Rattle.frame.specs.Frame.{Rule, Length, Live}
 use Rattle.frame.specs.code.Walk.{MarkSeen, SizeSeen, Open}
 use Rattle.frame.specs.Mark.{MarkOk}
@@ -162,7 +162,8 @@ module _ (R : Rule) (s : Bytes) (p a : ℕ) (S : MarkSeen R s p a) (v c : ℕ) (
         go : Dec (v < 5) → Comp R ok (R .mark ++ ds)
         go (yes y) =
             let w = ds-written k z in
-            let o = small-one (R .most) ds w (omega (arith, ds-value)) in
+            let o = few-enough (R .most) 1 ds w (omega (arith, ds-value)) in
+            let o′ = value-above (R .most) ds w in
             let vl : value (ds ++ (48 ∷ [])) ≡ value ds * 10 + 0 = valueFrom-append 0 ds (48 ∷ []) in
             let e : length (ds ++ (48 ∷ [])) ≡ length ds + 1 = length-append ds (48 ∷ []) in
             comp-more R ok (R .mark ++ ds) (48 ∷ [])
