@@ -10,7 +10,7 @@ use lib.Seq.{take-append-seam, drop-append-seam, take-length, take-at}
 use Rattle.bytes.specs.Bytes.{Bytes, value, At}
 use Rattle.bytes.proofs.Lists.{part-length, at-part, at-whole, at-more, part-more}
 use Rattle.bytes.proofs.Numerals.{Digits, numeral-means, split-digits, row-digits, few-enough}
-use Rattle.frame.specs.Frame.{Rule, Good, GoodAt, Live, front, trailer, sumOf, longest}
+use Rattle.frame.specs.Frame.{Rule, longestDigits, Good, GoodAt, Live, front, trailer, sumOf, longest}
 use Rattle.frame.specs.code.Walk.{Open}
 
 -- a mark, digits and `|` taken together
@@ -37,7 +37,7 @@ module _ (R : Rule) where
   -- "The longest frame is 2,073 bytes"
   pub good-longest : (g : Bytes) (G : Good R g) → length g ≤ longest R
   good-longest g G =
-      let few = few-enough (R .most) 4 (G .digits) (numeral-means (R .most) (G .digits) (G .len .written)) (omega (arith, G .len .high)) in
+      let few = few-enough (R .most) (length longestDigits) (G .digits) (numeral-means (R .most) (G .digits) (G .len .written)) (omega (arith, G .len .high)) in
       omega (arith, good-length g G, G .len .high)
 
   pub good-shortest : (g : Bytes) (G : Good R g) → length (R .mark) + 14 ≤ length g

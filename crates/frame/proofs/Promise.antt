@@ -7,9 +7,9 @@ use mathlib.Core.Logic.{_⊎_, inl, inr}
 use mathlib.Core.List.{List, [], _∷_, _++_, append-assoc, append-nil, append-cancel-left}
 use lib.Dec.{lit≤}
 use lib.ListN.{length, length-append, length-drop}
-use Rattle.bytes.specs.Bytes.{Bytes, fix, value}
+use Rattle.bytes.specs.Bytes.{Bytes, value}
 use Rattle.bytes.proofs.Numerals.{Digits, numeral-true, digits-row, split-digits}
-use Rattle.frame.specs.Frame.{Rule, fixt, fix42, Length, Good, GoodAt, longest}
+use Rattle.frame.specs.Frame.{Rule, fixt, fix42, longestDigits, Length, Good, GoodAt, longest}
 use Rattle.frame.specs.Reading.{refusal, Reads}
 use Rattle.frame.specs.Mark.{MarkOk}
 use Rattle.frame.specs.Promise.{SameFrame, NoOverlap, Promise, FixtNumbers}
@@ -49,14 +49,14 @@ module _ (R : Rule) (ok : MarkOk (R .mark)) where
       empty (x ∷ l) e = absurd (omega arith)
 
   -- ---- the longest frame: a body of 2,048 bytes, its length written in four digits
-  four : Digits (fix "2048")
+  four : Digits longestDigits
   four = ((lit≤ tt, lit≤ tt), ((lit≤ tt, lit≤ tt), ((lit≤ tt, lit≤ tt), ((lit≤ tt, lit≤ tt), tt))))
 
-  longest-length : 4 ≤ R .most → Length R (fix "2048")
+  longest-length : 4 ≤ R .most → Length R longestDigits
   longest-length h =
       record {
-        written = numeral-true (R .most) (fix "2048")
-            (record { some-digit = omega arith; few = h; whole = digits-row (fix "2048") four; no-zero = λ e. omega arith });
+        written = numeral-true (R .most) longestDigits
+            (record { some-digit = omega arith; few = h; whole = digits-row longestDigits four; no-zero = λ e. omega arith });
         low = lit≤ tt;
         high = lit≤ tt;
       }
@@ -65,7 +65,7 @@ module _ (R : Rule) (ok : MarkOk (R .mark)) where
   longest-good h = (g, w .good, good-length R g (w .good) ∙ ap (λ (x : Bytes). length (R .mark) + (length x + (value x + 8))) (sym digits))
     where
       ds : Bytes
-      ds = fix "2048"
+      ds = longestDigits
 
       w : Comp R ok (R .mark ++ (ds ++ (1 ∷ [])))
       w = comp-fields R ok ds [] (longest-length h) (lit≤ tt) (λ i k _. absurd (omega arith)) (λ q a. omega (arith, a .0, ok .long)) (λ i. omega arith)

@@ -10,7 +10,7 @@ use lib.Seq.{take-at, drop-at, length-take-le, getD-append-add, getD-drop, getD-
 use Rattle.bytes.specs.Bytes.{Bytes, fix, value, numeral, At}
 use Rattle.bytes.proofs.Lists.{part-length}
 use Rattle.bytes.proofs.Numerals.{digit-at, numeral-means}
-use Rattle.frame.specs.Frame.{Rule, Length, Body, Good, GoodAt, Live, front, trailer, sumOf, longest}
+use Rattle.frame.specs.Frame.{Rule, longestBody, Length, Body, Good, GoodAt, Live, front, trailer, sumOf, longest}
 use Rattle.frame.specs.Reading.{Answer, frame, refusal, Reads}
 use Rattle.frame.specs.Mark.{MarkOk}
 use Rattle.frame.proofs.Good.{up-to-bar, good-split, good-digits, good-at-length, good-live, good-less}
@@ -21,7 +21,7 @@ module _ (R : Rule) where
   length? : (ds : Bytes) → Dec (Length R ds)
   length? ds =
       turn (λ w. record { written = w .0; low = w .1 .0; high = w .1 .1 }) (λ L. (L .written, (L .low, L .high)))
-      (both? (holds? (numeral (R .most) ds)) (both? (decLe 5 (value ds)) (decLe (value ds) 2048)))
+      (both? (holds? (numeral (R .most) ds)) (both? (decLe 5 (value ds)) (decLe (value ds) longestBody)))
 
   body? : (n : ℕ) (b : Bytes) → Dec (Body n b)
   body? n b =
