@@ -40,7 +40,7 @@ value-more s a n h =
 pub pow-more : (b c : ℕ) → b ^ (c + 1) ≡ b ^ c * b
 pow-more b c = rw add-one (pow-suc b c)
 
--- at most twelve digits are worth less than 10 to the twelfth, fewer than twelve less than 10 to the eleventh: what a further digit needs
+-- at most k digits are worth less than 10 to the k
 pub few-digits : (k c v : ℕ) → c ≤ k → v < 10 ^ c → v < 10 ^ k
 few-digits k c v l h =
     let p : 10 ^ c ≤ 10 ^ k = pow-le-pow-right (omega arith) {j = k} l in

@@ -6,7 +6,7 @@ use native.Mathlib.Omega.{arith}
 use mathlib.Core.Path.{_≡_, sym, ap, ap₂, _∙_}
 use lib.ListN.{length, take, drop}
 use Rattle.bytes.specs.Bytes.{Bytes, value}
-use Rattle.bytes.specs.code.Leaf.{Widened, Number, Digits}
+use Rattle.bytes.specs.code.Leaf.{Widened, digitLimit, Number, Digits}
 use Rattle.bytes.specs.declared.numbers.Num.{Num}
 
 -- `wide`
@@ -27,12 +27,12 @@ number-one {s} {p} {most} {c = c} {c′ = c′} A B =
         go (no l) = omega arith
 
 pub digits-one : {s : Bytes} {p most : ℕ} {r r′ : Num} → Digits s p most r → Digits s p most r′ → r ≡ r′
-digits-one {s} {p} {most} {r} {r′} A B = same (go (decLt (length s) p) (decLt 12 most))
+digits-one {s} {p} {most} {r} {r′} A B = same (go (decLt (length s) p) (decLt digitLimit most))
   where
     same : (r .value ≡ r′ .value) × (r .count ≡ r′ .count) → r ≡ r′
     same e = ap₂ (λ (v c : ℕ). record { value = v; count = c }) (e .0) (e .1)
 
-    go : Dec (length s < p) → Dec (12 < most) → (r .value ≡ r′ .value) × (r .count ≡ r′ .count)
+    go : Dec (length s < p) → Dec (digitLimit < most) → (r .value ≡ r′ .value) × (r .count ≡ r′ .count)
     go (yes l) d = (A .behind l .0 ∙ sym (B .behind l .0), A .behind l .1 ∙ sym (B .behind l .1))
     go (no l) (yes h) = (A .above h .0 ∙ sym (B .above h .0), A .above h .1 ∙ sym (B .above h .1))
     go (no l) (no h) = number-one (A .inside (omega arith) (omega arith)) (B .inside (omega arith) (omega arith))

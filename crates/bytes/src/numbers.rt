@@ -3,7 +3,7 @@ ghost use mathlib.Core.Path.{_≡_};
 ghost use Prim.Native.Nat.{_%_, _≤_};
 ghost use lib.ListN.{length};
 ghost use Rattle.bytes.specs.Bytes.{sum};
-ghost use Rattle.bytes.specs.code.Leaf.{Number, Digits};
+ghost use Rattle.bytes.specs.code.Leaf.{digitLimit, Number, Digits};
 
 // Decimal digits that stand in a row: how many, and what they are worth.
 pub struct Num {
@@ -13,7 +13,7 @@ pub struct Num {
 
 // The decimal digits of s from at on, at most `most` of them.
 pub fn number(s: &[u8], at: usize, most: usize) -> Num
-    requires { ⌜ (at ≤ length (now s)) × (most ≤ 12) ⌝ }
+    requires { ⌜ (at ≤ length (now s)) × (most ≤ digitLimit) ⌝ }
     ensures { λ r. ⌜ Number (now (s .entry)) at most (r .value) (r .count) ⌝ }
 {
     let mut v: usize = 0;

@@ -1,5 +1,5 @@
 -- What the leaves of the scan answer. Only the code's walk needs these: nothing here states document 01.
-use Prim.Native.Nat.{ℕ, _+_, _-_, _*_, _≤_, _<_}
+use Prim.Native.Nat.{ℕ, _+_, _-_, _*_, _^_, _≤_, _<_}
 use mathlib.Core.Path.{_≡_}
 use mathlib.Core.Bool.{Bool, true, false}
 use lib.ListN.{length, take, drop, getD}
@@ -34,20 +34,24 @@ pub record Matched (s : Bytes) (p : ℕ) (lit : Bytes) (r : ℕ) : Type 0 where
   pub same : (i : ℕ) → i < r → getD s (p + i) 0 ≡ getD lit i 0
   pub stop : r < length lit → p + r < length s → getD s (p + r) 0 ≡ getD lit r 0 → ⊥
 
+-- as many digits as are ever read in a row
+abbrev pub digitLimit : ℕ
+digitLimit = 12
+
 -- c digits stand in s from p on, at most `most`, and no further one follows unless c is `most`; v is what they are worth
 pub record Number (s : Bytes) (p most v c : ℕ) : Type 0 where
   pub within : p + c ≤ length s
   pub few : c ≤ most
   pub digits : (i : ℕ) → i < c → Digit (getD s (p + i) 0)
   pub worth : v ≡ value (take c (drop p s))
-  pub small : v < 1_000_000_000_000
+  pub small : v < 10 ^ digitLimit
   pub stop : c < most → p + c < length s → Digit (getD s (p + c) 0) → ⊥
 
--- the same for every place and limit: a place behind the end and a limit above 12 have none
+-- the same for every place and limit: none are read behind the end, and none where more than that are asked for
 pub record Digits (s : Bytes) (p most : ℕ) (r : Num) : Type 0 where
-  pub inside : p ≤ length s → most ≤ 12 → Number s p most (r .value) (r .count)
+  pub inside : p ≤ length s → most ≤ digitLimit → Number s p most (r .value) (r .count)
   pub behind : length s < p → (r .value ≡ 0) × (r .count ≡ 0)
-  pub above : 12 < most → (r .value ≡ 0) × (r .count ≡ 0)
+  pub above : digitLimit < most → (r .value ≡ 0) × (r .count ≡ 0)
 
 -- the first place from a on, before e, at which the byte x stands; or e
 pub record FirstByte (s : Bytes) (a e x r : ℕ) : Type 0 where

@@ -7,6 +7,7 @@ use Prim.Native.Nat.{ℕ, _+_, _-_, _≤_, _<_, _^_}
 use mathlib.Core.Path.{_≡_}
 use lib.ListN.{length, take, drop, getD}
 use Rattle.bytes.specs.Bytes.{value, Digit}
+use Rattle.bytes.specs.code.Leaf.{digitLimit}
 use Rattle.bytes.proofs.Lists.{value-more, pow-more, few-digits}
 use Rattle.bytes.proofs.numbers.number.Statement.{statement}
 use Rattle.bytes.proofs.numbers.number.Tie as tie
@@ -19,19 +20,19 @@ abbrev μ-loop : tie.MeasureT-loop
 μ-loop s at most v₀ c₀ v c = most - c
 
 returns : tie.Need-returns Inv-loop μ-loop
-returns c = let l = c .before .before .loop in let h = few-digits 12 (l .c) (l .v) (omega arith) (l .inv .1 .1 .1 .1) in search needs
+returns c = let l = c .before .before .loop in let h = few-digits digitLimit (l .c) (l .v) (omega arith) (l .inv .1 .1 .1 .1) in search needs
 
 returns-2 : tie.Need-returns-2 Inv-loop μ-loop
-returns-2 c = let l = c .before .before .before .before .loop in let h = few-digits 12 (l .c) (l .v) (omega arith) (l .inv .1 .1 .1 .1) in search needs
+returns-2 c = let l = c .before .before .before .before .loop in let h = few-digits digitLimit (l .c) (l .v) (omega arith) (l .inv .1 .1 .1 .1) in search needs
 
 returns-3 : tie.Need-returns-3 Inv-loop μ-loop
-returns-3 c = let l = c .before .before .before .before .before .loop in let h = few-digits 12 (l .c) (l .v) (omega arith) (l .inv .1 .1 .1 .1) in search needs
+returns-3 c = let l = c .before .before .before .before .before .loop in let h = few-digits digitLimit (l .c) (l .v) (omega arith) (l .inv .1 .1 .1 .1) in search needs
 
 mul-v : tie.Need-mul-v Inv-loop μ-loop
-mul-v c = let l = c .before .before .before .before .before .loop in omega (arith, few-digits 11 (l .c) (l .v) (omega arith) (l .inv .1 .1 .1 .1))
+mul-v c = let l = c .before .before .before .before .before .loop in omega (arith, few-digits (digitLimit - 1) (l .c) (l .v) (omega arith) (l .inv .1 .1 .1 .1))
 
 add-v : tie.Need-add-v Inv-loop μ-loop
-add-v c = let l = c .before .before .before .before .before .loop in omega (arith, few-digits 11 (l .c) (l .v) (omega arith) (l .inv .1 .1 .1 .1))
+add-v c = let l = c .before .before .before .before .before .loop in omega (arith, few-digits (digitLimit - 1) (l .c) (l .v) (omega arith) (l .inv .1 .1 .1 .1))
 
 loop-again : tie.Need-loop-again Inv-loop μ-loop
 loop-again c =
@@ -51,7 +52,7 @@ loop-again c =
     )
 
 returns-4 : tie.Need-returns-4 Inv-loop μ-loop
-returns-4 c = let l = c .before .loop in let h = few-digits 12 (l .c) (l .v) (omega arith) (l .inv .1 .1 .1 .1) in search needs
+returns-4 c = let l = c .before .loop in let h = few-digits digitLimit (l .c) (l .v) (omega arith) (l .inv .1 .1 .1 .1) in search needs
 
 pub number-spec : {M : Type 1} → statement M
 number-spec =
