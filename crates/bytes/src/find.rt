@@ -70,8 +70,8 @@ fn find_byte(s: &[u8], a: usize, e: usize, x: u8) -> usize
     byte_from(s, i, e, x)
 }
 
-// The next place from p on at which a mark with the fifth byte x may begin: p itself in the usual case, which is therefore looked at first. The last
-// four places are left to the mark's own comparison.
+// The next place from p on at which a row of bytes with the fifth byte x may begin: p itself in the usual case, which is therefore looked at first. The
+// last four places are left to the row's own comparison.
 pub fn next_start(s: &[u8], p: usize, x: u8) -> usize
     requires { ⌜ p ≤ length (now s) ⌝ }
     ensures { λ r. ⌜ NextStart (now (s .entry)) p x r ⌝ }
@@ -106,8 +106,9 @@ fn stands_around(s: &[u8], a: usize, e: usize, j: usize, lit: &[u8]) -> bool
     stands(s, q, lit)
 }
 
-// The first place from a on at which lit stands whole before e, or e. A mark's fifth byte, the `X` of FIX, is rare in a body, so that is what is
-// looked for. Each byte is passed by find_byte once, and each place of that byte costs at most one comparison with lit: linear whatever the bytes are.
+// The first place from a on at which lit stands whole before e, or e. Its fifth byte is what is looked for: in a start mark that is the `X` of FIX,
+// which is rare in a body. Each byte is passed by find_byte once, and each place of that byte costs at most one comparison with lit: linear whatever
+// the bytes are.
 pub fn holds(s: &[u8], a: usize, e: usize, lit: &[u8]) -> usize
     requires { ⌜ ((a ≤ e) × (e ≤ length (now s))) × ((8 ≤ length (now lit)) × (length (now lit) ≤ 16)) ⌝ }
     ensures { λ r. ⌜ Searched (now (s .entry)) a e (now (lit .entry)) r ⌝ }

@@ -24,7 +24,7 @@ pub record Lent (R : Rule) (l : Line) : Type 0 where
   pub wide : longest R ≤ length (l .buffer)
 
 pub record OnTheLine (R : Rule) : Type 0 where
-  -- the host's loop over the lent buffer is that reading in pieces: from an empty line, of which all of the above speaks, or from any pending rest;
+  -- the host's loop over the lent buffer is that reading in pieces: from an empty line, of which frame's promise speaks, or from any pending rest;
   pub in-pieces : {l l′ : Line} {xs : List Bytes} {fss : List (List Bytes)} → Within l → Hosted R l xs fss l′ → Fed R (pending l) xs fss (pending l′)
   -- it ends, with exactly one row of frames for each piece and one line left,
   pub ends : (l : Line) (xs : List Bytes) → Lent R l → ExactlyOne (λ (o : List (List Bytes) × Line). Hosted R l xs (o .0) (o .1))

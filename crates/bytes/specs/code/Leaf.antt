@@ -1,4 +1,4 @@
--- What the leaves of the scan answer. Only the code's walk needs these: nothing here states document 01.
+-- What the functions on bytes answer. Only the code needs these: nothing here states document 01.
 use Prim.Native.Nat.{ℕ, _+_, _-_, _*_, _^_, _≤_, _<_}
 use mathlib.Core.Path.{_≡_}
 use mathlib.Core.Bool.{Bool, true, false}
@@ -68,7 +68,7 @@ Calm s i n x r = r ≡ true → (k : ℕ) → k < n → getD s (i + k) 0 ≡ x �
 abbrev pub Free : Bytes → ℕ → ℕ → ℕ → Bool → Type 0
 Free s i e x r = r ≡ true → (q : ℕ) → q < e → i ≤ q → getD s q 0 ≡ x → ⊥
 
--- the next place from p on at which a mark with the fifth byte x may begin: at none before it, since four bytes behind stands another byte
+-- the next place from p on at which a row of bytes with the fifth byte x may begin: at none before it, since four bytes behind stands another byte
 pub record NextStart (s : Bytes) (p x r : ℕ) : Type 0 where
   pub low : p ≤ r
   pub high : r ≤ length s
