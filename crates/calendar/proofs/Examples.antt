@@ -2,7 +2,7 @@
 use Prim.Native.Nat.{ℕ}
 use Prim.Native.String.{String}
 use mathlib.Core.Path.{_≡_, refl}
-use Rattle.frame.specs.Bytes.{fix}
+use Rattle.bytes.specs.Bytes.{fix}
 use Rattle.calendar.specs.Time.{yearDays, inYear, dateOf, utc, microseconds}
 
 infix 20 _writes_

@@ -7,7 +7,7 @@ use mathlib.Core.Bool.{Bool, true, false, cond, _&&_}
 use lib.Dec.{eqb, leb}
 use lib.ListN.{getD}
 use borrow.Author.Tests.{eqb-true, leb-true}
-use Rattle.frame.proofs.Tests.{both, allBelow, at-below}
+use Rattle.bytes.proofs.Tests.{both, allBelow, at-below}
 use Rattle.kinds.specs.Kind.{leap, days}
 use Rattle.calendar.specs.Time.{counted, yearDays, inYear}
 use Rattle.calendar.specs.code.Walk.{evened}

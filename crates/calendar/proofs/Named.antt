@@ -9,10 +9,10 @@ use lib.Dec.{eqb, leb}
 use lib.ListN.{length, take, drop, take-append-drop}
 use lib.Seq.{drop-drop}
 use borrow.Author.Tests.{eqb-true}
-use Rattle.frame.specs.Bytes.{Bytes, fix, all, digit, within, value}
-use Rattle.frame.proofs.Numerals.{within-is}
-use Rattle.frame.proofs.Tests.{both}
-use Rattle.frame.proofs.Numerals.{value-below}
+use Rattle.bytes.specs.Bytes.{Bytes, fix, all, digit, within, value}
+use Rattle.bytes.proofs.Numerals.{within-is}
+use Rattle.bytes.proofs.Tests.{both}
+use Rattle.bytes.proofs.Numerals.{value-below}
 use Rattle.kinds.specs.Kind.{time, like, allowed, goodDay, goodClock, days, number-at}
 use Rattle.kinds.proofs.Shapes.{like-append, like-letters}
 use Rattle.calendar.specs.declared.days.Date.{Date}

@@ -8,10 +8,10 @@ use mathlib.Core.Bool.{Bool, true, false}
 use lib.Dec.{leb}
 use lib.ListN.{length, getD}
 use borrow.Author.Tests.{le-leb, leb-true, ne-eqb}
-use Rattle.frame.specs.Bytes.{Bytes, fix, all, has, within, digit, value, valueFrom}
-use Rattle.frame.proofs.Lists.{valueFrom-append}
-use Rattle.frame.proofs.Tests.{both}
-use Rattle.frame.proofs.Numerals.{digit-is}
+use Rattle.bytes.specs.Bytes.{Bytes, fix, all, has, within, digit, value, valueFrom}
+use Rattle.bytes.proofs.Lists.{valueFrom-append}
+use Rattle.bytes.proofs.Tests.{both}
+use Rattle.bytes.proofs.Numerals.{digit-is}
 use Rattle.kinds.specs.Kind.{time, formed}
 use Rattle.calendar.specs.declared.days.Date.{Date}
 use Rattle.calendar.specs.Time.{dateOf, padded, text, utc, utcOrLast, limit}

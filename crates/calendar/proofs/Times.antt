@@ -5,7 +5,7 @@ use mathlib.Core.Path.{_≡_, refl, sym, ap, _∙_}
 use mathlib.Core.Bool.{true, false}
 use lib.ListN.{length, getD}
 use borrow.Author.Tests.{le-leb}
-use Rattle.frame.specs.Bytes.{Bytes, byte, all, has, within}
+use Rattle.bytes.specs.Bytes.{Bytes, byte, all, has, within}
 use Rattle.kinds.specs.Kind.{time, formed, allowed, goodDay, goodClock, days, number-at}
 use Rattle.calendar.specs.declared.days.Date.{Date}
 use Rattle.calendar.specs.Time.{dateOf, text, utc, limit, daysSince, microseconds}

@@ -5,7 +5,7 @@ use Prim.Native.Char.{code}
 use mathlib.Core.List.{[], _∷_, _++_}
 use mathlib.Core.Bool.{cond}
 use lib.Dec.{ltb}
-use Rattle.frame.specs.Bytes.{Bytes, fix}
+use Rattle.bytes.specs.Bytes.{Bytes, fix}
 use Rattle.kinds.specs.Kind.{days, number-at}
 use Rattle.calendar.specs.declared.days.Date.{Date}
 

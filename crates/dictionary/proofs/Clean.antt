@@ -10,7 +10,7 @@ use mathlib.Core.Option.{Option, none, some}
 use mathlib.Core.Logic.{_⊎_, inl, inr}
 use lib.Dec.{eqb}
 use lib.ListN.{length, drop}
-use Rattle.frame.specs.Bytes.{Bytes, all, has, starts, within}
+use Rattle.bytes.specs.Bytes.{Bytes, all, has, starts, within}
 use Rattle.fields.specs.Field.{Part, field, malformed, partOf, parts, firstOfParts, firstField, isBody}
 use Rattle.fields.proofs.Firsts.{tagged, starts-append, tag-part, part-split}
 use Rattle.table.specs.Dictionary.{Row, №453, №580, walked, header, fields, rowsOf, listed, administrative, inDictionary}

@@ -8,9 +8,9 @@ use mathlib.Core.Option.{Option, none, some}
 use lib.Dec.{eqb, leb}
 use lib.ListN.{length}
 use borrow.Author.Tests.{leb-true, eqb-true}
-use Rattle.frame.specs.Bytes.{Bytes, byte, any, all, has, value}
-use Rattle.frame.proofs.Tests.{both}
-use Rattle.frame.proofs.Numerals.{numeral-means, value-below}
+use Rattle.bytes.specs.Bytes.{Bytes, byte, any, all, has, value}
+use Rattle.bytes.proofs.Tests.{both}
+use Rattle.bytes.proofs.Numerals.{numeral-means, value-below}
 use Rattle.fields.specs.Field.{Part, field, malformed, partOf, isTag, before, behind, parts, isBody}
 use Rattle.kinds.specs.Kind.{formed, allowed}
 use Rattle.table.specs.declared.MsgType.{MsgType}

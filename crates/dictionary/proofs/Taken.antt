@@ -9,10 +9,10 @@ use mathlib.Core.Option.{some}
 use lib.Dec.{eqb}
 use lib.ListN.{length}
 use borrow.Author.Tests.{eq-eqb}
-use Rattle.frame.specs.Bytes.{Bytes, any, has, within, decimal}
-use Rattle.frame.proofs.Numerals.{within-is}
-use Rattle.frame.proofs.Tests.{or-last}
-use Rattle.frame.proofs.Decimals.{decimal-numeral, decimal-worth}
+use Rattle.bytes.specs.Bytes.{Bytes, any, has, within, decimal}
+use Rattle.bytes.proofs.Numerals.{within-is}
+use Rattle.bytes.proofs.Tests.{or-last}
+use Rattle.bytes.proofs.Decimals.{decimal-numeral, decimal-worth}
 use Rattle.fields.specs.Field.{partOf, field, parts, isBody}
 use Rattle.fields.proofs.Items.{field-part}
 use Rattle.table.specs.Dictionary.{Row, header, fields, administrative, listed, groupsOf, member, rowsOf, frameTag, inDictionary}

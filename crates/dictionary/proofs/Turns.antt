@@ -6,7 +6,7 @@ use mathlib.Core.Path.{_≡_, refl, ap, sym, _∙_}
 use mathlib.Core.List.{List, [], _∷_, _++_}
 use mathlib.Core.Bool.{Bool, true, false, cond, not, _&&_, _||_, and-false}
 use lib.ListN.{length, getD, drop, set, replicate, length-set, length-replicate}
-use Rattle.frame.specs.Bytes.{Bytes, has}
+use Rattle.bytes.specs.Bytes.{Bytes, has}
 use Rattle.fields.specs.Field.{field, parts}
 use Rattle.fields.proofs.Rows.{Step}
 use Rattle.table.specs.Dictionary.{header, fields, listed, groupsOf, member, inDictionary, administrative}

@@ -7,9 +7,9 @@ use mathlib.Core.Bool.{Bool, true, false, cond, not}
 use mathlib.Core.Option.{Option, none, some}
 use native.Mathlib.Omega.{arith}
 use lib.ListN.{length, take, drop, getD}
-use Rattle.frame.specs.Bytes.{Bytes, fix, same}
-use Rattle.frame.proofs.Tests.{both}
-use Rattle.frame.proofs.Numerals.{within-is}
+use Rattle.bytes.specs.Bytes.{Bytes, fix, same}
+use Rattle.bytes.proofs.Tests.{both}
+use Rattle.bytes.proofs.Numerals.{within-is}
 use Rattle.fields.specs.Field.{parts, isBody}
 use Rattle.fields.specs.First.{First, valueAt}
 use Rattle.fields.specs.declared.Place.{Place}

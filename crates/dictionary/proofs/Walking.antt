@@ -8,7 +8,7 @@ use mathlib.Core.Bool.{Bool, true, false, cond, not, _&&_, _||_}
 use lib.Dec.{eqb}
 use lib.ListN.{length, getD, take, drop, set, replicate, length-replicate, getD-replicate}
 use lib.Seq.{getD-set-same, getD-set-other}
-use Rattle.frame.specs.Bytes.{Bytes, has}
+use Rattle.bytes.specs.Bytes.{Bytes, has}
 use Rattle.fields.specs.Field.{Part, field, malformed, parts}
 use Rattle.fields.specs.Item.{Span, Lies, Cut}
 use Rattle.fields.specs.declared.Item.{Item}

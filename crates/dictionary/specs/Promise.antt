@@ -6,7 +6,7 @@ use mathlib.Core.Bool.{Bool, true, false, cond, _&&_}
 use mathlib.Core.Option.{none, some}
 use lib.Dec.{eqb}
 use lib.ListN.{length}
-use Rattle.frame.specs.Bytes.{Bytes, any, has}
+use Rattle.bytes.specs.Bytes.{Bytes, any, has}
 use Rattle.fields.specs.Field.{Part, field, malformed, partOf, parts, firstField, isBody}
 use Rattle.kinds.specs.Kind.{formed, allowed}
 use Rattle.table.specs.Dictionary.{Row, header, fields, rowsOf, listed, kindIn, administrative, inDictionary}

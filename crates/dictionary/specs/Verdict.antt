@@ -5,7 +5,7 @@ use mathlib.Core.Bool.{Bool, true, false, cond, not, _&&_, _||_}
 use mathlib.Core.Option.{Option, none, some}
 use lib.Dec.{eqb}
 use lib.ListN.{length}
-use Rattle.frame.specs.Bytes.{Bytes, any, has, value}
+use Rattle.bytes.specs.Bytes.{Bytes, any, has, value}
 use Rattle.fields.specs.Field.{parts, firstField, Part, field, malformed, partOf, isBody}
 use Rattle.kinds.specs.Kind.{formed, allowed}
 use Rattle.table.specs.Dictionary.{Row, Group, header, fields, groupsOf, member, rowsOf, listed, kindIn, typeOf, administrative, frameTag, inDictionary}

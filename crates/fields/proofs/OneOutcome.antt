@@ -2,7 +2,7 @@
 -- and leaves. (The contracts of `is_body`, `field_at`, `behind` and `Reader::open` are equations.)
 use Prim.Native.Nat.{ℕ}
 use mathlib.Core.Path.{_≡_, sym, ap, _∙_}
-use Rattle.frame.specs.Bytes.{Bytes}
+use Rattle.bytes.specs.Bytes.{Bytes}
 use Rattle.fields.specs.declared.Heads.{Heads}
 use Rattle.fields.specs.declared.Item.{Item}
 use Rattle.fields.specs.declared.Place.{Place}

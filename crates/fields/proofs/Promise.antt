@@ -3,8 +3,8 @@ use Prim.Native.Nat.{ℕ}
 use mathlib.Core.Path.{_≡_, refl}
 use mathlib.Core.Bool.{true, false}
 use lib.Dec.{leb}
-use Rattle.frame.specs.Bytes.{Bytes, within}
-use Rattle.frame.proofs.Tests.{both}
+use Rattle.bytes.specs.Bytes.{Bytes, within}
+use Rattle.bytes.proofs.Tests.{both}
 use borrow.Author.Tests.{leb-true}
 use Rattle.fields.specs.Field.{parts}
 use Rattle.fields.specs.First.{firstPlace}

@@ -6,7 +6,7 @@ use mathlib.Core.Bool.{true, false, cond}
 use mathlib.Core.Option.{none, some}
 use lib.ListN.{length, take}
 use denote.Ref.{RefT, now}
-use Rattle.frame.specs.Bytes.{Bytes, within}
+use Rattle.bytes.specs.Bytes.{Bytes, within}
 use Rattle.fields.specs.Field.{parts, firstField, isBody}
 use Rattle.fields.specs.Item.{fieldAt, numbers}
 use Rattle.fields.specs.First.{firstPlace, valueAt, Inside}

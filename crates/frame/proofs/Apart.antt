@@ -6,11 +6,11 @@ use mathlib.Core.Path.{_≡_, sym, ap, _∙_, subst}
 use mathlib.Core.List.{List, _∷_, _++_}
 use lib.ListN.{length, take, drop, getD, length-append}
 use lib.Seq.{getD-append-add, getD-drop, getD-take}
-use Rattle.frame.specs.Bytes.{Bytes, At, Digit}
+use Rattle.bytes.specs.Bytes.{Bytes, At, Digit}
+use Rattle.bytes.proofs.Lists.{at-byte, part-length, at-part}
 use Rattle.frame.specs.Frame.{Rule, Good, GoodAt, front, trailer, sumOf}
 use Rattle.frame.specs.Reading.{Leftmost}
 use Rattle.frame.specs.Mark.{MarkOk}
-use Rattle.frame.proofs.Lists.{at-byte, part-length, at-part}
 use Rattle.frame.proofs.Good.{good-at-mark, good-at-length, good-more, good-less, good-here}
 
 module _ (R : Rule) where

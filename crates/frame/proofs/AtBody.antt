@@ -7,13 +7,13 @@ use mathlib.Core.Path.{_≡_, refl, sym, ap, _∙_, subst}
 use mathlib.Core.List.{List, [], _∷_, _++_, append-assoc}
 use lib.ListN.{length, take, drop, getD, length-append, length-drop, take-append-drop, List·getD-eq-default}
 use lib.Seq.{getD-drop, getD-take, drop-drop}
-use Rattle.frame.specs.Bytes.{Bytes, value, At}
-use Rattle.frame.specs.code.Leaf.{Matched, Stands, Here}
-use Rattle.frame.specs.Frame.{Rule, Body, GoodAt, Live, trailer, sumOf}
+use Rattle.bytes.specs.Bytes.{Bytes, value, At}
+use Rattle.bytes.specs.code.Leaf.{Matched, Stands, Here}
+use Rattle.bytes.proofs.Lists.{at-byte, bytes-at, matched-at, part-length, at-part, at-more}
+use Rattle.bytes.proofs.Numerals.{Digits, numeral-means, row-digits}
+use Rattle.frame.specs.Frame.{Rule, longestBody, Body, GoodAt, Live, trailer, sumOf}
 use Rattle.frame.specs.code.Walk.{SizeSeen, BodySeen, Open}
 use Rattle.frame.specs.Mark.{MarkOk}
-use Rattle.frame.proofs.Lists.{at-byte, bytes-at, matched-at, part-length, at-part, at-more}
-use Rattle.frame.proofs.Numerals.{Digits, numeral-means, row-digits}
 use Rattle.frame.proofs.Good.{good-length}
 use Rattle.frame.proofs.Complete.{type-tag, Comp, open-of, comp-fields}
 use Rattle.frame.proofs.AtMark.{agree, Begun, begun, begun-digits, begun-size}
@@ -31,7 +31,7 @@ module _ (R : Rule) (s : Bytes) (p a n : ℕ) (S : SizeSeen R s p a n) where
   abbrev decimal : Digits (S .digits)
   decimal = row-digits (S .digits) ((numeral-means (R .most) (S .digits) (S .len .written)) .whole)
 
-  pub size-range : (5 ≤ n) × (n ≤ 2048)
+  pub size-range : (5 ≤ n) × (n ≤ longestBody)
   size-range = omega (arith, S .worth, S .len .low, S .len .high)
 
   pub body-place : a ≡ p + (length (R .mark) + (length ds + 1))

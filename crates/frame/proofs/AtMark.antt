@@ -5,13 +5,13 @@ use mathlib.Core.Path.{_≡_, refl, sym, ap, ap₂, _∙_, subst}
 use mathlib.Core.List.{List, [], _∷_, _++_, append-assoc, append-cancel-left, tail-eq-of-cons-eq}
 use lib.ListN.{length, take, drop, getD, length-drop, take-append-drop, List·getD-append}
 use lib.Seq.{getD-drop, getD-take, drop-append-le, ext-getD, length-take-le, drop-drop}
-use Rattle.frame.specs.Bytes.{Bytes, At}
-use Rattle.frame.specs.code.Leaf.{Matched}
+use Rattle.bytes.specs.Bytes.{Bytes, At}
+use Rattle.bytes.specs.code.Leaf.{Matched}
+use Rattle.bytes.proofs.Lists.{matched-at, bytes-at}
+use Rattle.bytes.proofs.Numerals.{Digits, split-digits}
 use Rattle.frame.specs.Frame.{Rule, Good, Live, front, trailer, sumOf}
 use Rattle.frame.specs.code.Walk.{MarkSeen, Open}
 use Rattle.frame.specs.Mark.{MarkOk}
-use Rattle.frame.proofs.Lists.{matched-at, bytes-at}
-use Rattle.frame.proofs.Numerals.{Digits, split-digits}
 use Rattle.frame.proofs.Good.{good-split, good-digits}
 use Rattle.frame.proofs.Complete.{Comp, open-of, comp-more, comp-mark}
 

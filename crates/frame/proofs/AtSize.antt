@@ -8,13 +8,13 @@ use mathlib.Core.Path.{_≡_, refl, sym, ap, ap₂, _∙_, subst}
 use mathlib.Core.List.{List, [], _∷_, _++_, append-assoc, append-nil}
 use lib.ListN.{length, take, drop, getD, length-append, length-drop, take-append-drop, List·getD-append}
 use lib.Seq.{getD-append-add, getD-drop, getD-take, take-all, ext-getD, length-take-le, drop-drop, drop-cons}
-use Rattle.frame.specs.Bytes.{Bytes, value, valueFrom, Digit}
-use Rattle.frame.specs.code.Leaf.{Number}
-use Rattle.frame.specs.Frame.{Rule, Length, Live}
+use Rattle.bytes.specs.Bytes.{Bytes, value, valueFrom, Digit}
+use Rattle.bytes.specs.code.Leaf.{Number}
+use Rattle.bytes.proofs.Lists.{valueFrom-append}
+use Rattle.bytes.proofs.Numerals.{Digits, Numeral, digit-at, digits-of, digits-append, value-from, numeral-means, numeral-true, few-enough, value-above, row-digits, digits-row}
+use Rattle.frame.specs.Frame.{Rule, longestBody, Length, Live}
 use Rattle.frame.specs.code.Walk.{MarkSeen, SizeSeen, Open}
 use Rattle.frame.specs.Mark.{MarkOk}
-use Rattle.frame.proofs.Lists.{valueFrom-append}
-use Rattle.frame.proofs.Numerals.{Digits, Numeral, digit-at, digits-of, digits-append, value-from, numeral-means, numeral-true, small-one, row-digits, digits-row}
 use Rattle.frame.proofs.Good.{good-digits}
 use Rattle.frame.proofs.Complete.{Comp, open-of, comp-more, comp-size, comp-mark}
 use Rattle.frame.proofs.AtMark.{agree, Begun, begun, begun-mark}
@@ -44,11 +44,11 @@ module _ (R : Rule) (s : Bytes) (p a : ℕ) (S : MarkSeen R s p a) (v c : ℕ) (
   ds-written k z =
       record { whole = digits-row ds ds-digits; some-digit = omega (arith, ds-length); few = omega (arith, ds-length, N .few); no-zero = λ y. z (sym (ds-first k) ∙ y) }
 
-  ds-size : 0 < c → (getD s a 0 ≡ 48 → ⊥) → 5 ≤ v → v ≤ 2048 → Length R ds
+  ds-size : 0 < c → (getD s a 0 ≡ 48 → ⊥) → 5 ≤ v → v ≤ longestBody → Length R ds
   ds-size k z lo hi =
       record { written = numeral-true (R .most) ds (ds-written k z); low = omega (arith, ds-value); high = omega (arith, ds-value) }
 
-  pub size-next : 0 < c → (getD s a 0 ≡ 48 → ⊥) → 5 ≤ v → v ≤ 2048 → a + c < length s → getD s (a + c) 0 ≡ 1 → SizeSeen R s p (a + c + 1) v
+  pub size-next : 0 < c → (getD s a 0 ≡ 48 → ⊥) → 5 ≤ v → v ≤ longestBody → a + c < length s → getD s (a + c) 0 ≡ 1 → SizeSeen R s p (a + c + 1) v
   unfolding ds
   size-next k z lo hi l x =
       let e₁ : drop (a + c) s ≡ 1 ∷ drop (a + c + 1) s =
@@ -122,7 +122,7 @@ module _ (R : Rule) (s : Bytes) (p a : ℕ) (S : MarkSeen R s p a) (v c : ℕ) (
     size-wrong-zero l z =
         es-written .no-zero (sym (es-eq 0 (es-written .some-digit) (omega arith)) ∙ ap (λ (i : ℕ). getD s i 0) (add-zero a) ∙ z)
 
-    pub size-wrong-high : 2048 < v → ⊥
+    pub size-wrong-high : longestBody < v → ⊥
     size-wrong-high k = omega (arith, es-value, es-len .high)
 
     pub size-wrong-next : a + c < length s → (getD s (a + c) 0 ≡ 1 → ⊥) → ⊥
@@ -155,14 +155,15 @@ module _ (R : Rule) (s : Bytes) (p a : ℕ) (S : MarkSeen R s p a) (v c : ℕ) (
         open-of R ok s p (S .from)
         (subst (λ (l : Bytes). Comp R ok l) (sym (rest-ds ∙ ap (λ (i : ℕ). R .mark ++ take i (drop a s)) z ∙ append-nil (R .mark))) (comp-mark R ok k))
 
-    pub size-short : 0 < c → (getD s a 0 ≡ 48 → ⊥) → v ≤ 2048 → 2 ≤ R .most → Open R s p
+    pub size-short : 0 < c → (getD s a 0 ≡ 48 → ⊥) → v ≤ longestBody → 2 ≤ R .most → Open R s p
     size-short k z hi two = open-of R ok s p (S .from) (subst (λ (l : Bytes). Comp R ok l) (sym rest-ds) (go (decLt v 5)))
       where
         -- a length below 5 has one digit, and a further 0 makes it one from 10 to 40
         go : Dec (v < 5) → Comp R ok (R .mark ++ ds)
         go (yes y) =
             let w = ds-written k z in
-            let o = small-one (R .most) ds w (omega (arith, ds-value)) in
+            let o = few-enough (R .most) 1 ds w (omega (arith, ds-value)) in
+            let o′ = value-above (R .most) ds w in
             let vl : value (ds ++ (48 ∷ [])) ≡ value ds * 10 + 0 = valueFrom-append 0 ds (48 ∷ []) in
             let e : length (ds ++ (48 ∷ [])) ≡ length ds + 1 = length-append ds (48 ∷ []) in
             comp-more R ok (R .mark ++ ds) (48 ∷ [])

@@ -6,14 +6,14 @@ use mathlib.Core.Path.{_≡_, refl, sym, ap, _∙_, subst}
 use mathlib.Core.List.{List, [], _∷_, _++_, append-assoc, append-cancel-left}
 use lib.ListN.{length, take, drop, getD, length-append, length-drop, take-append-drop, List·getD-append}
 use lib.Seq.{getD-append-add, getD-drop, take-at}
-use Rattle.frame.specs.Bytes.{Bytes, sum, value, At}
-use Rattle.frame.specs.code.Leaf.{wordAt, Matched}
+use Rattle.bytes.specs.Bytes.{Bytes, sum, value, At}
+use Rattle.bytes.specs.code.Leaf.{wordAt, Matched}
+use Rattle.bytes.proofs.Lists.{at-byte, bytes-at, matched-at}
+use Rattle.bytes.proofs.Words.{same-bytes, same-word}
+use Rattle.bytes.proofs.Numerals.{Digits, numeral-means, row-digits}
 use Rattle.frame.specs.Frame.{Rule, Good, Live, front, trailer, sumOf}
 use Rattle.frame.specs.code.Walk.{BodySeen, Open, Ended}
 use Rattle.frame.specs.Mark.{MarkOk}
-use Rattle.frame.proofs.Lists.{at-byte, bytes-at, matched-at}
-use Rattle.frame.proofs.Words.{same-bytes, same-word}
-use Rattle.frame.proofs.Numerals.{Digits, numeral-means, row-digits}
 use Rattle.frame.proofs.Good.{same-start}
 use Rattle.frame.proofs.Make.{good-make}
 use Rattle.frame.proofs.Complete.{open-of, comp-tail}

@@ -6,13 +6,12 @@ use mathlib.Core.Path.{_≡_, sym, ap, _∙_, subst}
 use mathlib.Core.List.{[], _∷_, _++_, append-nil}
 use lib.ListN.{length, take, drop, getD, length-append}
 use lib.Seq.{take-at, drop-at}
-use Rattle.frame.specs.Bytes.{Bytes, Digit}
-use Rattle.frame.specs.code.Leaf.{Number}
+use Rattle.bytes.specs.Bytes.{Bytes, Digit}
+use Rattle.bytes.specs.code.Leaf.{Number}
+use Rattle.bytes.proofs.Numerals.{digit-at, numeral-means}
 use Rattle.frame.specs.Frame.{Rule, Good, BodyOf, its-body, trailer, sumOf}
-use Rattle.frame.proofs.Lists.{regroup}
-use Rattle.frame.proofs.Numerals.{digit-at, numeral-means}
 use Rattle.frame.proofs.Make.{j-digit, j-soh}
-use Rattle.frame.proofs.Good.{good-length, good-split, good-digits}
+use Rattle.frame.proofs.Good.{up-to-bar, good-length, good-split, good-digits}
 
 module _ (R : Rule) (f : Bytes) (G : Good R f) (v c : ℕ) (N : Number f (length (R .mark)) (R .most) v c) where
   tr : Bytes
@@ -52,7 +51,7 @@ module _ (R : Rule) (f : Bytes) (G : Good R f) (v c : ℕ) (N : Number f (length
   body-is =
       let a : ℕ = length (R .mark) + (c + 1) in
       let h = R .mark ++ (G .digits ++ (1 ∷ [])) in
-      let e : f ≡ h ++ (G .body ++ tr) = f-is ∙ regroup (R .mark) (G .digits) (G .body ++ tr) in
+      let e : f ≡ h ++ (G .body ++ tr) = f-is ∙ up-to-bar (R .mark) (G .digits) (G .body ++ tr) in
       let l : length h ≡ a = omega (arith, length-append (R .mark) (G .digits ++ (1 ∷ [])), length-append (G .digits) (1 ∷ []), count-is) in
       let k : length (G .body) ≡ length f - 7 - a = omega (arith, good-length R f G, count-is, G .inner .sized) in
       subst (λ (x : Bytes). BodyOf R f x)

@@ -8,7 +8,7 @@ use mathlib.Core.Bool.{Bool, true, false}
 use mathlib.Core.List.{[], _∷_, head-eq-of-cons-eq, tail-eq-of-cons-eq}
 use lib.Dec.{T}
 use lib.ListN.{length, take, drop, getD, List·getD-eq-default}
-use Rattle.frame.specs.Bytes.{Bytes, At}
+use Rattle.bytes.specs.Bytes.{Bytes, At}
 
 pub both? : {A B : Type 0} → Dec A → Dec B → Dec (A × B)
 both? (yes a) (yes b) = yes (a, b)

@@ -11,14 +11,14 @@ use lib.Dec.{lit≤, ltb}
 use lib.ListN.{length, take, drop, getD, length-append, List·getD-append, List·getD-eq-default}
 use lib.Seq.{take-at, drop-at, take-length, getD-take, getD-append-add}
 use borrow.Author.Tests.{ltb-true}
-use Rattle.frame.specs.Bytes.{Bytes, fix, sum, numeral}
+use Rattle.bytes.specs.Bytes.{Bytes, fix, sum, numeral}
+use Rattle.bytes.proofs.Lists.{at-byte}
+use Rattle.bytes.proofs.Numerals.{numeral-means}
+use Rattle.bytes.proofs.Tests.{allBelow, at-below}
 use Rattle.frame.specs.Frame.{Rule, fixt, Good, GoodAt, front, trailer, sumOf}
 use Rattle.frame.specs.Reading.{frame, refusal, Reads}
-use Rattle.frame.proofs.Lists.{at-byte}
-use Rattle.frame.proofs.Numerals.{numeral-means}
 use Rattle.frame.proofs.Good.{good-at-length, good-at-mark}
 use Rattle.frame.proofs.Make.{good-make}
-use Rattle.frame.proofs.Tests.{allBelow, at-below}
 use Rattle.frame.proofs.Marks.{fixt-ok}
 use Rattle.frame.proofs.Apart.{left-none}
 

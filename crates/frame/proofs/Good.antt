@@ -7,11 +7,15 @@ use mathlib.Core.Path.{_≡_, refl, sym, ap, _∙_, subst}
 use mathlib.Core.List.{[], _∷_, _++_, append-assoc, append-nil, append-cancel-left, tail-eq-of-cons-eq}
 use lib.ListN.{length, take, drop, length-append, take-append-drop}
 use lib.Seq.{take-append-seam, drop-append-seam, take-length, take-at}
-use Rattle.frame.specs.Bytes.{Bytes, value, At}
-use Rattle.frame.specs.Frame.{Rule, Good, GoodAt, Live, front, trailer, sumOf, longest}
+use Rattle.bytes.specs.Bytes.{Bytes, value, At}
+use Rattle.bytes.proofs.Lists.{part-length, at-part, at-whole, at-more, part-more}
+use Rattle.bytes.proofs.Numerals.{Digits, numeral-means, split-digits, row-digits, few-enough}
+use Rattle.frame.specs.Frame.{Rule, longestDigits, Good, GoodAt, Live, front, trailer, sumOf, longest}
 use Rattle.frame.specs.code.Walk.{Open}
-use Rattle.frame.proofs.Lists.{part-length, at-part, at-whole, at-more, part-more}
-use Rattle.frame.proofs.Numerals.{Digits, numeral-means, split-digits, row-digits, four-digits}
+
+-- a mark, digits and `|` taken together
+pub up-to-bar : (m ds t : Bytes) → m ++ (ds ++ (1 ∷ t)) ≡ m ++ (ds ++ (1 ∷ [])) ++ t
+up-to-bar m ds t = simp append-assoc
 
 -- two ways to write one list that begin with parts of one length begin with the same part
 pub same-start : (x y c d : Bytes) → length x ≡ length y → x ++ c ≡ y ++ d → x ≡ y
@@ -33,7 +37,7 @@ module _ (R : Rule) where
   -- "The longest frame is 2,073 bytes"
   pub good-longest : (g : Bytes) (G : Good R g) → length g ≤ longest R
   good-longest g G =
-      let few = four-digits (R .most) (G .digits) (numeral-means (R .most) (G .digits) (G .len .written)) (omega (arith, G .len .high)) in
+      let few = few-enough (R .most) (length longestDigits) (G .digits) (numeral-means (R .most) (G .digits) (G .len .written)) (omega (arith, G .len .high)) in
       omega (arith, good-length g G, G .len .high)
 
   pub good-shortest : (g : Bytes) (G : Good R g) → length (R .mark) + 14 ≤ length g

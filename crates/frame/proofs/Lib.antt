@@ -1,7 +1,3 @@
-pub mod Tests
-pub mod Lists
-pub mod Words
-pub mod Numerals
 pub mod Good
 pub mod Unique
 pub mod Make
@@ -13,7 +9,6 @@ pub mod AtBody
 pub mod AtSize
 pub mod Past
 pub mod Search
-pub mod Lines
 pub mod Bodies
 pub mod Apart
 pub mod Decide
@@ -21,8 +16,6 @@ pub mod Readable
 pub mod Streams
 pub mod Worked
 pub mod Pieces
-pub mod Hosted
 pub mod Promise
 pub mod OneOutcome
 pub mod Desk
-pub mod Decimals

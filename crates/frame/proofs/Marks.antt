@@ -5,11 +5,11 @@ use mathlib.Core.Bool.{Bool, true, not, _&&_}
 use lib.Dec.{T, leb, ltb, eqb}
 use lib.ListN.{length, getD}
 use borrow.Author.Tests.{ltb-true, leb-true, le-leb, eq-eqb}
-use Rattle.frame.specs.Bytes.{Bytes, digit}
+use Rattle.bytes.specs.Bytes.{Bytes, digit}
+use Rattle.bytes.proofs.Tests.{both-true, allBelow, at-below}
+use Rattle.bytes.proofs.Numerals.{is-digit}
 use Rattle.frame.specs.Frame.{fixt, fix42}
 use Rattle.frame.specs.Mark.{MarkOk}
-use Rattle.frame.proofs.Tests.{both-true, allBelow, at-below}
-use Rattle.frame.proofs.Numerals.{is-digit}
 
 -- two tests of which one fails
 apart : (a b : Bool) → not (a && b) ≡ true → a ≡ true → b ≡ true → ⊥

@@ -7,13 +7,13 @@ use mathlib.Core.Path.{_≡_, refl, sym, ap, _∙_, subst}
 use mathlib.Core.List.{List, [], _∷_, _++_}
 use lib.ListN.{length, take, drop, getD, length-append, length-drop, List·getD-append}
 use lib.Seq.{getD-drop}
-use Rattle.frame.specs.Bytes.{Bytes, value, At}
-use Rattle.frame.specs.code.Leaf.{Here, Searched}
+use Rattle.bytes.specs.Bytes.{Bytes, value, At}
+use Rattle.bytes.specs.code.Leaf.{Here, Searched}
+use Rattle.bytes.proofs.Lists.{at-part, at-more}
+use Rattle.bytes.proofs.Numerals.{Digits, digit-at, numeral-means, row-digits}
 use Rattle.frame.specs.Frame.{Rule, Good, Live, front, trailer, sumOf}
 use Rattle.frame.specs.code.Walk.{MarkSeen, SizeSeen, BodySeen, Past}
 use Rattle.frame.specs.Mark.{MarkOk}
-use Rattle.frame.proofs.Lists.{at-part, at-more}
-use Rattle.frame.proofs.Numerals.{Digits, digit-at, numeral-means, row-digits}
 use Rattle.frame.proofs.Make.{j-digit, j-soh, good-make}
 use Rattle.frame.proofs.AtMark.{live-byte, mark-unlike}
 use Rattle.frame.proofs.AtBody.{body-place}

@@ -6,12 +6,12 @@ use mathlib.Core.Path.{_≡_, refl, sym, ap, ap₂, _∙_, subst}
 use mathlib.Core.List.{List, [], _∷_, _++_, append-assoc, append-nil, append-cancel-left}
 use lib.ListN.{length, take, drop, getD, length-append, take-append-drop}
 use lib.Seq.{take-at, take-all, take-suc, take-append-le, drop-append-le}
-use Rattle.frame.specs.Bytes.{Bytes}
+use Rattle.bytes.specs.Bytes.{Bytes}
+use Rattle.bytes.proofs.Lists.{part-more}
 use Rattle.frame.specs.Frame.{Rule, Good, GoodAt, longest}
 use Rattle.frame.specs.Mark.{MarkOk}
 use Rattle.frame.specs.Stream.{Frames, rest, next, Drained, keep, Fed, end, piece, joined}
 use Rattle.frame.specs.Promise.{EndsIn, ComesOut}
-use Rattle.frame.proofs.Lists.{part-more}
 use Rattle.frame.proofs.Good.{good-at-length, good-more, good-less, good-unique, good-here}
 use Rattle.frame.proofs.Apart.{apart, left-more}
 use Rattle.frame.proofs.Streams.{frames, frames-at, frames-are, are-frames, frames-around, clear-rest}

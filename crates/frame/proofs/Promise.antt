@@ -7,13 +7,12 @@ use mathlib.Core.Logic.{_⊎_, inl, inr}
 use mathlib.Core.List.{List, [], _∷_, _++_, append-assoc, append-nil, append-cancel-left}
 use lib.Dec.{lit≤}
 use lib.ListN.{length, length-append, length-drop}
-use Rattle.frame.specs.Bytes.{Bytes, fix, value}
-use Rattle.frame.specs.Frame.{Rule, fixt, fix42, Length, Good, GoodAt, longest}
+use Rattle.bytes.specs.Bytes.{Bytes, value}
+use Rattle.bytes.proofs.Numerals.{Digits, numeral-true, digits-row, split-digits}
+use Rattle.frame.specs.Frame.{Rule, fixt, fix42, longestDigits, Length, Good, GoodAt, longest}
 use Rattle.frame.specs.Reading.{refusal, Reads}
 use Rattle.frame.specs.Mark.{MarkOk}
-use Rattle.frame.specs.Line.{Line, line, pending, dropped, Hosted}
-use Rattle.frame.specs.Promise.{SameFrame, NoOverlap, Within, Promise, FixtNumbers}
-use Rattle.frame.proofs.Numerals.{Digits, numeral-true, digits-row, split-digits}
+use Rattle.frame.specs.Promise.{SameFrame, NoOverlap, Promise, FixtNumbers}
 use Rattle.frame.proofs.Good.{good-longest, good-shortest, good-length, good-digits, good-split, good-unique, same-length}
 use Rattle.frame.proofs.Unique.{reads-one}
 use Rattle.frame.proofs.Marks.{fixt-ok, fix42-ok}
@@ -23,7 +22,6 @@ use Rattle.frame.proofs.Readable.{reads-of}
 use Rattle.frame.proofs.Streams.{frames-at, frames-one, frames-of, are-frames, frames-join}
 use Rattle.frame.proofs.Worked.{rest-short}
 use Rattle.frame.proofs.Pieces.{frames-so-far, frames-cut, fed-of, fed-one, fed-short, comes-out, some-piece}
-use Rattle.frame.proofs.Hosted.{pending-fits, dropped-fits, hosted-fed, hosted-kept, hosted-lent, hosted-of, hosted-one}
 
 module _ (R : Rule) (ok : MarkOk (R .mark)) where
   -- ---- two good frames
@@ -51,14 +49,14 @@ module _ (R : Rule) (ok : MarkOk (R .mark)) where
       empty (x ∷ l) e = absurd (omega arith)
 
   -- ---- the longest frame: a body of 2,048 bytes, its length written in four digits
-  four : Digits (fix "2048")
+  four : Digits longestDigits
   four = ((lit≤ tt, lit≤ tt), ((lit≤ tt, lit≤ tt), ((lit≤ tt, lit≤ tt), ((lit≤ tt, lit≤ tt), tt))))
 
-  longest-length : 4 ≤ R .most → Length R (fix "2048")
+  longest-length : 4 ≤ R .most → Length R longestDigits
   longest-length h =
       record {
-        written = numeral-true (R .most) (fix "2048")
-            (record { some-digit = omega arith; few = h; whole = digits-row (fix "2048") four; no-zero = λ e. omega arith });
+        written = numeral-true (R .most) longestDigits
+            (record { some-digit = omega arith; few = h; whole = digits-row longestDigits four; no-zero = λ e. omega arith });
         low = lit≤ tt;
         high = lit≤ tt;
       }
@@ -67,7 +65,7 @@ module _ (R : Rule) (ok : MarkOk (R .mark)) where
   longest-good h = (g, w .good, good-length R g (w .good) ∙ ap (λ (x : Bytes). length (R .mark) + (length x + (value x + 8))) (sym digits))
     where
       ds : Bytes
-      ds = fix "2048"
+      ds = longestDigits
 
       w : Comp R ok (R .mark ++ (ds ++ (1 ∷ [])))
       w = comp-fields R ok ds [] (longest-length h) (lit≤ tt) (λ i k _. absurd (omega arith)) (λ q a. omega (arith, a .0, ok .long)) (λ i. omega arith)
@@ -86,15 +84,6 @@ module _ (R : Rule) (ok : MarkOk (R .mark)) where
   -- ---- the pending rest
   refused-short : (s : Bytes) (d : ℕ) → Reads R s (refusal 1 d) → length s - d ≤ longest R - 1
   refused-short s d A = omega (arith, rest-short R ok s (A .1), length-drop d s)
-
-  held-short : (l : Line) (d : ℕ) → Reads R (pending l) (refusal 1 d) → dropped l d .held ≤ longest R - 1
-  unfolding dropped
-  held-short l d A = refused-short (pending l) d A
-
-  hosted-short : {buffer : Bytes} {l : Line} {xs : List Bytes} {fss : List (List Bytes)} → Hosted R (line buffer 0) xs fss l → l .held ≤ longest R - 1
-  hosted-short {buffer} {l} H =
-      let w : Within (line buffer 0) = omega arith in
-      omega (arith, fed-short R ok (hosted-fed R ok w H), pending-fits l ((hosted-kept R ok w H) .fits))
 
   -- ---- the promise
   pub promise : Promise R
@@ -117,19 +106,8 @@ module _ (R : Rule) (ok : MarkOk (R .mark)) where
               comes-out = λ F. comes-out R ok F;
               some-piece = λ xs a g b G. some-piece xs a g b (omega (arith, good-shortest R g G));
             };
-        on-the-line =
-            record {
-              in-pieces = λ w H. hosted-fed R ok w H;
-              ends = λ l xs r.
-                  let w = hosted-of R ok l xs r in
-                  record { it = (w .0, w .1 .0); is = w .1 .1; same = λ o u F G. let e = hosted-one R refl F G in ap₂ (λ x y. (x, y)) (e .0) (e .1) };
-              goes-on = λ r H. hosted-lent R ok r H;
-              some-room = λ l d r A. omega (arith, held-short l d A, dropped-fits l d (r .within), r .wide);
-              much-room = λ l d w A. omega (arith, held-short l d A, dropped-fits l d w);
-            };
         longest-frame = record { none-longer = good-longest R; attained = longest-good };
-        pending-rest =
-            record { refused = refused-short; kept = λ F. omega (arith, fed-short R ok F); held = held-short; hosted = λ H. hosted-short H };
+        pending-rest = record { refused = refused-short; kept = λ F. omega (arith, fed-short R ok F) };
       }
 
 pub fixt-promise : Promise fixt
@@ -145,5 +123,4 @@ fixt-numbers =
       none-longer = fixt-promise .longest-frame .none-longer;
       attained = fixt-promise .longest-frame .attained (lit≤ tt);
       refused = fixt-promise .pending-rest .refused;
-      room-left = λ l d w e A. omega (arith, fixt-promise .on-the-line .much-room l d w A);
     }

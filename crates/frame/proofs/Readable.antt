@@ -7,13 +7,13 @@ use mathlib.Core.Logic.{_⊎_, inl, inr}
 use mathlib.Core.List.{[], _∷_, _++_, append-nil, append-assoc}
 use lib.ListN.{length, take, drop, getD, length-append, take-append-drop, List·getD-append}
 use lib.Seq.{take-at, drop-at, length-take-le, getD-append-add, getD-drop, getD-take}
-use Rattle.frame.specs.Bytes.{Bytes, fix, value, numeral, At}
-use Rattle.frame.specs.Frame.{Rule, Length, Body, Good, GoodAt, Live, front, trailer, sumOf, longest}
+use Rattle.bytes.specs.Bytes.{Bytes, fix, value, numeral, At}
+use Rattle.bytes.proofs.Lists.{part-length}
+use Rattle.bytes.proofs.Numerals.{digit-at, numeral-means}
+use Rattle.frame.specs.Frame.{Rule, longestBody, Length, Body, Good, GoodAt, Live, front, trailer, sumOf, longest}
 use Rattle.frame.specs.Reading.{Answer, frame, refusal, Reads}
 use Rattle.frame.specs.Mark.{MarkOk}
-use Rattle.frame.proofs.Lists.{part-length, regroup}
-use Rattle.frame.proofs.Numerals.{digit-at, numeral-means}
-use Rattle.frame.proofs.Good.{good-split, good-digits, good-at-length, good-live, good-less}
+use Rattle.frame.proofs.Good.{up-to-bar, good-split, good-digits, good-at-length, good-live, good-less}
 use Rattle.frame.proofs.Decide.{both?, neither, turn, lists, holds?, Least, least, some-below, Some, some-bytes, small?, at?}
 
 module _ (R : Rule) where
@@ -21,7 +21,7 @@ module _ (R : Rule) where
   length? : (ds : Bytes) → Dec (Length R ds)
   length? ds =
       turn (λ w. record { written = w .0; low = w .1 .0; high = w .1 .1 }) (λ L. (L .written, (L .low, L .high)))
-      (both? (holds? (numeral (R .most) ds)) (both? (decLe 5 (value ds)) (decLe (value ds) 2048)))
+      (both? (holds? (numeral (R .most) ds)) (both? (decLe 5 (value ds)) (decLe (value ds) longestBody)))
 
   body? : (n : ℕ) (b : Bytes) → Dec (Body n b)
   body? n b =
@@ -63,7 +63,7 @@ module _ (R : Rule) where
       let a : ℕ = length (R .mark) + (length (G .digits) + 1) in
       let h = R .mark ++ (G .digits ++ (1 ∷ [])) in
       let tr = trailer (sumOf R (G .digits) (G .body)) ++ [] in
-      let e : g ≡ h ++ (G .body ++ tr) = sym (append-nil g) ∙ good-split R g [] G ∙ regroup (R .mark) (G .digits) (G .body ++ tr) in
+      let e : g ≡ h ++ (G .body ++ tr) = sym (append-nil g) ∙ good-split R g [] G ∙ up-to-bar (R .mark) (G .digits) (G .body ++ tr) in
       let l : length h ≡ a = omega (arith, length-append (R .mark) (G .digits ++ (1 ∷ [])), length-append (G .digits) (1 ∷ [])) in
       ap₂ (λ (n : ℕ) (x : Bytes). take n x) (ap value (digits-in g G)) (ap (λ (x : Bytes). drop a x) e ∙ drop-at h _ a l)
       ∙ take-at (G .body) _ (value (G .digits)) (G .inner .sized)

@@ -5,12 +5,12 @@ use mathlib.Core.Path.{_≡_, refl, sym, ap, ap₂, _∙_, subst}
 use mathlib.Core.List.{List, [], _∷_, _++_}
 use lib.ListN.{length, take, drop, length-drop}
 use lib.Seq.{drop-append-le, drop-append-seam, take-append-seam, drop-drop}
-use Rattle.frame.specs.Bytes.{Bytes}
+use Rattle.bytes.specs.Bytes.{Bytes}
+use Rattle.bytes.proofs.Lists.{part-more}
 use Rattle.frame.specs.Frame.{Rule, Good, GoodAt}
 use Rattle.frame.specs.Reading.{Answer, frame, refusal, Leftmost, Unfinished, Reads}
 use Rattle.frame.specs.Mark.{MarkOk}
 use Rattle.frame.specs.Stream.{Frames, rest, next}
-use Rattle.frame.proofs.Lists.{part-more}
 use Rattle.frame.proofs.Good.{good-at-length}
 use Rattle.frame.proofs.Unique.{left-one}
 use Rattle.frame.proofs.Apart.{left-more, left-none}

@@ -6,7 +6,7 @@ use mathlib.Core.Path.{_≡_, refl, sym, ap, ap₂, _∙_, subst}
 use mathlib.Core.Logic.{_⊎_, inl, inr}
 use lib.ListN.{length, take, drop}
 use lib.Seq.{take-length}
-use Rattle.frame.specs.Bytes.{Bytes}
+use Rattle.bytes.specs.Bytes.{Bytes}
 use Rattle.frame.specs.Frame.{Rule, Good, GoodAt, Live}
 use Rattle.frame.specs.Reading.{Answer, frame, refusal, Leftmost, Unfinished, Reads, ReadsAs, answered, Handed}
 use Rattle.frame.specs.declared.Reading.the-variants.{Frame, NoFrame}

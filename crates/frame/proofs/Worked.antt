@@ -8,12 +8,12 @@ use mathlib.Core.Logic.{_⊎_, inl, inr}
 use mathlib.Core.List.{List, [], _∷_, _++_, append-assoc, append-nil}
 use lib.ListN.{length, take, drop, length-append, length-drop}
 use lib.Seq.{drop-append-le, drop-drop}
-use Rattle.frame.specs.Bytes.{Bytes}
+use Rattle.bytes.specs.Bytes.{Bytes}
+use Rattle.bytes.proofs.Lists.{part-more}
 use Rattle.frame.specs.Frame.{Rule, Good, GoodAt, Live, longest}
 use Rattle.frame.specs.Reading.{Answer, frame, refusal, Leftmost, Unfinished, Reads}
 use Rattle.frame.specs.Mark.{MarkOk}
 use Rattle.frame.specs.Stream.{Frames, rest, next, Drained, keep, hand}
-use Rattle.frame.proofs.Lists.{part-more}
 use Rattle.frame.proofs.Good.{good-at-length, good-less}
 use Rattle.frame.proofs.Unique.{left-one, unfinished-one, stop-bound}
 use Rattle.frame.proofs.Apart.{left-more}

@@ -4,7 +4,7 @@ use mathlib.Core.Path.{_≡_}
 use mathlib.Core.Bool.{Bool, true}
 use mathlib.Core.List.{[], _∷_, _++_}
 use lib.ListN.{length, take, drop, getD}
-use Rattle.frame.specs.Bytes.{Bytes, byte, fix, sum, value, numeral, At}
+use Rattle.bytes.specs.Bytes.{Bytes, byte, fix, sum, value, numeral, At}
 
 -- What may differ from edition to edition: the start mark, and how many digits the body length may have.
 pub record Rule : Type 0 where
@@ -22,11 +22,18 @@ fixt = ruleOf (fix "8=FIXT.1.1|9=")
 unfoldable pub fix42 : Rule
 fix42 = ruleOf (fix "8=FIX.4.2|9=")
 
+-- "2,048": the longest body, and its length in digits
+abbrev pub longestBody : ℕ
+longestBody = 2048
+
+abbrev pub longestDigits : Bytes
+longestDigits = fix "2048"
+
 -- "the body length, 1 to 4 digits, no leading zero, value 5 to 2,048"
 pub record Length (R : Rule) (digits : Bytes) : Type 0 where
   pub written : numeral (R .most) digits ≡ true
   pub low : 5 ≤ value digits
-  pub high : value digits ≤ 2048
+  pub high : value digits ≤ longestBody
 
 -- "a body of that many bytes that begins `35=` and ends with `|`". (A list may hold any number; a body holds bytes.)
 pub record Body (n : ℕ) (body : Bytes) : Type 0 where
@@ -63,7 +70,7 @@ pub record Good (R : Rule) (g : Bytes) : Type 0 where
 -- "The longest frame is 2,073 bytes": the mark, the digits of 2,048, `|`, 2,048 bytes, the trailer. (A greater digit limit makes no longer frame: no
 -- zero leads, so a length up to 2,048 has no more than these digits.)
 abbrev pub longest : Rule → ℕ
-longest R = length (R .mark) + (length (fix "2048") + (length (fix "|") + (2048 + length (trailer 0))))
+longest R = length (R .mark) + (length longestDigits + (length (fix "|") + (longestBody + length (trailer 0))))
 
 -- A good frame of n bytes stands in s at p.
 pub record GoodAt (R : Rule) (s : Bytes) (p n : ℕ) : Type 0 where

@@ -3,7 +3,7 @@
 use Prim.Native.Nat.{ℕ, _+_, _-_, _≤_, _<_}
 use mathlib.Core.Path.{_≡_}
 use lib.ListN.{length, getD}
-use Rattle.frame.specs.Bytes.{Bytes, Digit}
+use Rattle.bytes.specs.Bytes.{Bytes, Digit}
 
 pub record MarkOk (m : Bytes) : Type 0 where
   -- it is made of bytes

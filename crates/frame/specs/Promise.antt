@@ -1,5 +1,5 @@
--- What the frame layer promises, in document 01's words, over a rule R: one reading, the frames of a stream, demand 3, every cutting, the host's line,
--- the longest frame and the pending rest.
+-- What the frame layer promises, in document 01's words, over a rule R: one reading, the frames of a stream, demand 3, every cutting, the longest frame
+-- and the pending rest.
 --
 -- Shown in proofs/Promise.antt for every rule whose mark is as specs/Mark.antt asks, and so for `8=FIXT.1.1|9=` and `8=FIX.4.2|9=`. Of the digit limit
 -- R .most nothing is asked: all of this holds for every limit. One field has a premise on it: a frame of the longest length has a body length of four
@@ -9,11 +9,10 @@ use mathlib.Core.Path.{_≡_}
 use mathlib.Core.Logic.{_⊎_}
 use mathlib.Core.List.{List, [], _∷_, _++_}
 use lib.ListN.{length, take, getD}
-use Rattle.frame.specs.Bytes.{Bytes}
+use Rattle.bytes.specs.Bytes.{Bytes}
 use Rattle.frame.specs.Frame.{Rule, fixt, Good, GoodAt, longest}
 use Rattle.frame.specs.Reading.{Answer, refusal, Reads}
 use Rattle.frame.specs.Stream.{Frames, Fed, joined}
-use Rattle.frame.specs.Line.{Line, line, pending, room, dropped, Hosted}
 
 -- There is one, and any two are the same.
 pub record ExactlyOne {A : Type 0} (Such : A → Type 0) : Type 0 where
@@ -70,28 +69,6 @@ pub record InPieces (R : Rule) : Type 0 where
   -- and there is such a piece
   pub some-piece : (xs : List Bytes) (a g b : Bytes) → Good R g → joined xs ≡ a ++ (g ++ b) → (k : ℕ) × EndsIn xs k a g b
 
--- THE HOST'S LINE
--- the pending bytes lie in the lent buffer
-abbrev pub Within : Line → Type 0
-Within l = l .held ≤ length (l .buffer)
-
--- and it has room for the longest frame
-pub record Lent (R : Rule) (l : Line) : Type 0 where
-  pub within : Within l
-  pub wide : longest R ≤ length (l .buffer)
-
-pub record OnTheLine (R : Rule) : Type 0 where
-  -- the host's loop over the lent buffer is that reading in pieces: from an empty line, of which all of the above speaks, or from any pending rest;
-  pub in-pieces : {l l′ : Line} {xs : List Bytes} {fss : List (List Bytes)} → Within l → Hosted R l xs fss l′ → Fed R (pending l) xs fss (pending l′)
-  -- it ends, with exactly one row of frames for each piece and one line left,
-  pub ends : (l : Line) (xs : List Bytes) → Lent R l → ExactlyOne (λ (o : List (List Bytes) × Line). Hosted R l xs (o .0) (o .1))
-  -- which is lent as before, so that it can go on,
-  pub goes-on : {l l′ : Line} {xs : List Bytes} {fss : List (List Bytes)} → Lent R l → Hosted R l xs fss l′ → Lent R l′
-  -- and there is always room once reading has answered refusal 1:
-  pub some-room : (l : Line) (d : ℕ) → Lent R l → Reads R (pending l) (refusal 1 d) → 0 < room (dropped l d)
-  -- all but 2,072 bytes of the buffer
-  pub much-room : (l : Line) (d : ℕ) → Within l → Reads R (pending l) (refusal 1 d) → length (l .buffer) - (longest R - 1) ≤ room (dropped l d)
-
 -- THE LONGEST FRAME
 pub record LongestFrame (R : Rule) : Type 0 where
   -- "The longest frame is 2,073 bytes": no good frame is longer,
@@ -103,11 +80,8 @@ pub record LongestFrame (R : Rule) : Type 0 where
 pub record PendingRest (R : Rule) : Type 0 where
   -- "Under refusal 1 at most 2,072 bytes stay pending": under every refusal 1,
   pub refused : (s : Bytes) (d : ℕ) → Reads R s (refusal 1 d) → length s - d ≤ longest R - 1
-  -- behind every piece,
+  -- and behind every piece
   pub kept : {xs : List Bytes} {fss : List (List Bytes)} {r : Bytes} → Fed R [] xs fss r → length r ≤ longest R - 1
-  -- and in every line buffer: when refusal 1's bytes are dropped, and behind every piece
-  pub held : (l : Line) (d : ℕ) → Reads R (pending l) (refusal 1 d) → dropped l d .held ≤ longest R - 1
-  pub hosted : {buffer : Bytes} {l : Line} {xs : List Bytes} {fss : List (List Bytes)} → Hosted R (line buffer 0) xs fss l → l .held ≤ longest R - 1
 
 -- THE WHOLE PROMISE
 pub record Promise (R : Rule) : Type 0 where
@@ -116,7 +90,6 @@ pub record Promise (R : Rule) : Type 0 where
   pub frames-apart : FramesApart R
   pub whole-stream : WholeStream R
   pub in-pieces : InPieces R
-  pub on-the-line : OnTheLine R
   pub longest-frame : LongestFrame R
   pub pending-rest : PendingRest R
 
@@ -127,5 +100,3 @@ pub record FixtNumbers : Type 0 where
   pub attained : (g : Bytes) × Good fixt g × (length g ≡ 2073)
   -- "Under refusal 1 at most 2,072 bytes stay pending."
   pub refused : (s : Bytes) (d : ℕ) → Reads fixt s (refusal 1 d) → length s - d ≤ 2072
-  -- so that a lent buffer of 4,096 bytes then has room for 2,024 bytes of the next piece
-  pub room-left : (l : Line) (d : ℕ) → Within l → length (l .buffer) ≡ 4096 → Reads fixt (pending l) (refusal 1 d) → 2024 ≤ room (dropped l d)

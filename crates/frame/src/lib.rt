@@ -1,15 +1,8 @@
-// The good frame: one reading of a byte string, whether bytes are one good frame, and its body; a stream in pieces is in `line`.
-mod leaf;
-mod line;
+// The good frame: one reading of a byte string, whether bytes are one good frame, and its body.
 mod parts;
 
-pub use leaf::Num;
-pub use leaf::checksum;
-pub use leaf::digits;
-use leaf::next_start;
-use leaf::number;
-pub use line::drop_front;
-pub use line::put_piece;
+use bytes::next_start;
+use bytes::number;
 use parts::Part;
 use parts::Step;
 use parts::look;

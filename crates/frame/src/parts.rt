@@ -1,17 +1,17 @@
 // The parts of a candidate: the mark, the body length, the body, the trailer, each looked at by a function of its own.
-use crate::leaf::checksum;
-use crate::leaf::holds;
-use crate::leaf::matched;
-use crate::leaf::number;
-use crate::leaf::stands;
-use crate::leaf::wide;
-use crate::leaf::word;
+use bytes::checksum;
+use bytes::holds;
+use bytes::matched;
+use bytes::number;
+use bytes::stands;
+use bytes::wide;
+use bytes::word;
 ghost use mathlib.Core.Path.{_≡_};
 ghost use mathlib.Core.List.{_∷_};
 ghost use Prim.Native.Nat.{_≤_};
 ghost use lib.ListN.{length};
+ghost use Rattle.bytes.specs.code.Leaf.{wordAt};
 ghost use Rattle.frame.specs.Frame.{ruleOf, trailer};
-ghost use Rattle.frame.specs.code.Leaf.{wordAt};
 ghost use Rattle.frame.specs.Mark.{MarkOk};
 ghost use Rattle.frame.specs.code.Walk.{Seen, Stepped};
 

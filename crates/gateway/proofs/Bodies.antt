@@ -4,7 +4,7 @@ use mathlib.Core.Path.{_≡_, refl, ap, _∙_}
 use mathlib.Core.List.{[], _∷_, _++_}
 use native.Mathlib.Omega.{arith}
 use lib.ListN.{length, length-append}
-use Rattle.frame.specs.Bytes.{Bytes, fix}
+use Rattle.bytes.specs.Bytes.{Bytes, fix}
 use Rattle.frame.specs.Frame.{fixt, front, Good, BodyOf}
 use Rattle.frame.specs.Frame as Frame
 use Rattle.frame.proofs.Good.{good-length, same-digits, good-body}

@@ -8,7 +8,7 @@ use native.Mathlib.Omega.{arith}
 use lib.Dec.{eqb}
 use lib.ListN.{length, set, getD, replicate, length-append, length-map}
 use lib.Seq.{set-at}
-use Rattle.frame.specs.Bytes.{Bytes}
+use Rattle.bytes.specs.Bytes.{Bytes}
 use Rattle.writer.specs.Call.{write}
 use Rattle.writer.specs.declared.Values.{Values}
 use Rattle.writer.specs.declared.Written.{Written}

@@ -4,9 +4,9 @@ use Prim.Native.Nat.{ℕ}
 use mathlib.Core.Path.{_≡_, refl, sym, ap, _∙_}
 use mathlib.Core.List.{List, [], _∷_}
 use native.Mathlib.Omega.{arith}
-use Rattle.frame.specs.Bytes.{Bytes}
+use Rattle.bytes.specs.Bytes.{Bytes}
 use Rattle.frame.specs.Frame.{fixt}
-use Rattle.frame.specs.Line.{Line}
+use Rattle.line.specs.Line.{Line}
 use Rattle.frame.proofs.Unique.{reads-one}
 use Rattle.gateway.specs.Border.{readNumber, readWords, ReadOut, PutOut, DropOut, BodyOut, its-body, no-frame, FieldOut, FirstOut, VerdictOut}
 use Rattle.gateway.specs.Calls.{Left, LeftByReconnect, LeftByNew, LeftByWrite, WriteOut, NewOut, ReconnectOut, StepOut, TickOut, LogoutOut, TestRequestOut}

@@ -11,15 +11,16 @@ use borrow.Author.Tests.{le-leb}
 use lib.Dec.{eqb}
 use lib.ListN.{length, getD, set, take, drop, replicate, length-append, length-replicate}
 use lib.Seq.{take-append-seam, drop-append-seam}
-use Rattle.frame.specs.Bytes.{Bytes, Byted, has, within}
+use Rattle.bytes.specs.Bytes.{Bytes, Byted, has, within}
 use Rattle.frame.specs.Frame.{fixt, front, Good}
-use Rattle.frame.specs.Line.{line, fitting, put, dropped}
+use Rattle.line.specs.Line.{line, fitting, put, dropped}
 use Rattle.frame.specs.Stream.{Frames, joined}
 use Rattle.frame.specs.Promise.{ExactlyOne}
-use Rattle.frame.proofs.Tests.{both}
-use Rattle.frame.proofs.Numerals.{within-is}
+use Rattle.bytes.proofs.Tests.{both}
+use Rattle.bytes.proofs.Numerals.{within-is}
 use Rattle.frame.proofs.Promise.{fixt-promise, fixt-numbers}
 use Rattle.frame.proofs.Readable.{good?}
+use Rattle.line.proofs.Promise as Line
 use Rattle.fields.proofs.Promise as Fields
 use Rattle.dictionary.proofs.Promise as Dictionary
 use Rattle.writer.specs.Call as Written
@@ -274,6 +275,8 @@ promise =
       unwritten = λ type values text buf r out buf′ B W h. unwritten type values text buf B r out buf′ W h;
       frames = fixt-promise;
       sizes = fixt-numbers;
+      line = Line.fixt-promise;
+      room = Line.fixt-numbers;
       fields = Fields.promise;
       verdicts = Dictionary.promise;
       writing = Writer.promise;

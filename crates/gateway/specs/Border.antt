@@ -5,10 +5,10 @@ use mathlib.Core.List.{List, [], _∷_}
 use mathlib.Core.Bool.{cond}
 use mathlib.Core.Option.{Option, none, some}
 use lib.ListN.{length}
-use Rattle.frame.specs.Bytes.{Bytes}
+use Rattle.bytes.specs.Bytes.{Bytes}
 use Rattle.frame.specs.Frame.{fixt, front, Good}
 use Rattle.frame.specs.Reading.{Answer, frame, refusal, Reads}
-use Rattle.frame.specs.Line.{line, put, dropped}
+use Rattle.line.specs.Line.{line, put, dropped}
 use Rattle.fields.specs.Field.{isBody}
 use Rattle.fields.specs.Item.{fieldAt}
 use Rattle.fields.specs.Item as Item

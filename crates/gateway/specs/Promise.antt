@@ -7,11 +7,12 @@ use mathlib.Core.List.{List, [], _∷_}
 use mathlib.Core.Option.{some}
 use mathlib.Core.Bool.{true}
 use lib.ListN.{length, set, take, drop}
-use Rattle.frame.specs.Bytes.{Bytes, Byted, within}
+use Rattle.bytes.specs.Bytes.{Bytes, Byted, within}
 use Rattle.frame.specs.Frame.{fixt}
 use Rattle.frame.specs.Stream.{Frames, joined}
 use Rattle.frame.specs.Promise as Frame
 use Rattle.frame.specs.Promise.{ExactlyOne}
+use Rattle.line.specs.Promise as Line
 use Rattle.fields.specs.Promise as Fields
 use Rattle.dictionary.specs.Promise as Dictionary
 use Rattle.writer.specs.Promise as Writer
@@ -93,6 +94,9 @@ pub record Promise : Type 0 where
   -- "Any bytes, one good frame, any bytes ..", "However the stream is cut ..", the longest frame, the pending rest
   pub frames : Frame.Promise fixt
   pub sizes : Frame.FixtNumbers
+  -- the host's loop over a lent buffer is that reading, it ends, and there is always room
+  pub line : Line.Promise fixt
+  pub room : Line.FixtNumbers
   -- the parts of a body, its first fields, the reader over it
   pub fields : Fields.Promise
   -- what a clean verdict says of a body, and which findings there are

@@ -137,7 +137,7 @@ pub extern "C" fn fixgw_verdict(body: &[u8], out: &mut [u64; 3]) -> u32
 pub extern "C" fn fixgw_put(buf: &mut [u8], held: usize, piece: &[u8]) -> usize
     ensures { λ r. ⌜ PutOut (now (buf .entry)) held (now (piece .entry)) r (now (buf .exit)) ⌝ }
 {
-    frame::put_piece(buf, held, piece)
+    line::put_piece(buf, held, piece)
 }
 
 // Drops n bytes from the front of the held ones, and answers how many are held then.
@@ -145,7 +145,7 @@ pub extern "C" fn fixgw_put(buf: &mut [u8], held: usize, piece: &[u8]) -> usize
 pub extern "C" fn fixgw_drop(buf: &mut [u8], held: usize, n: usize) -> usize
     ensures { λ r. ⌜ DropOut (now (buf .entry)) held n r (now (buf .exit)) ⌝ }
 {
-    frame::drop_front(buf, held, n)
+    line::drop_front(buf, held, n)
 }
 
 // One administrative message from its values, at the front of a buffer; refusal 8 or 9, with the buffer as it was.

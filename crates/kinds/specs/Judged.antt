@@ -3,7 +3,7 @@ use Prim.Native.Nat.{ℕ}
 use mathlib.Core.List.{List, [], _∷_}
 use mathlib.Core.Bool.{cond}
 use mathlib.Core.Option.{Option, none, some}
-use Rattle.frame.specs.Bytes.{Bytes, fix, value}
+use Rattle.bytes.specs.Bytes.{Bytes, fix, value}
 use Rattle.kinds.specs.Kind as Words
 use Rattle.kinds.specs.Kind.{text, number_to_, Y/N, time, day, among, formed, allowed, isNumber}
 use Rattle.kinds.specs.declared.Kind.{Kind}

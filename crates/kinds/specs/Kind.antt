@@ -8,7 +8,7 @@ use mathlib.Core.List.{List, [], _∷_}
 use mathlib.Core.Bool.{Bool, true, false, cond, not, _&&_, _||_}
 use lib.Dec.{eqb, leb}
 use lib.ListN.{length, take, drop, getD}
-use Rattle.frame.specs.Bytes.{Bytes, fix, any, has, same, within, digit, value, numeral}
+use Rattle.bytes.specs.Bytes.{Bytes, fix, any, has, same, within, digit, value, numeral}
 
 pub data Kind : Type 0 where
   text : ℕ → Kind  -- a string of 1 to n bytes

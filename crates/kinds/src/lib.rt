@@ -1,13 +1,13 @@
 // The kinds of values: form and value of one field's bytes.
 mod dates;
 
+use bytes::digits;
 pub use dates::is_leap;
 use dates::judge_day;
 use dates::judge_time;
-use frame::digits;
 ghost use mathlib.Core.Path.{_≡_};
 ghost use mathlib.Core.List.{[], _∷_};
-ghost use Rattle.frame.specs.Bytes.{same};
+ghost use Rattle.bytes.specs.Bytes.{same};
 ghost use Rattle.kinds.specs.Kind.{text, number_to_, Y/N, among};
 ghost use Rattle.kinds.specs.Judged.{choices, meaning, judged, numberOf};
 

@@ -20,7 +20,7 @@ ghost use mathlib.Core.Option.{some};
 ghost use Prim.Native.Nat.{_+_, _≤_, _<_};
 ghost use lib.ListN.{length};
 ghost use mathlib.Core.Bool.{cond};
-ghost use Rattle.frame.specs.Bytes.{Bytes, fix};
+ghost use Rattle.bytes.specs.Bytes.{Bytes, fix};
 ghost use Rattle.frame.specs.Stream.{joined};
 ghost use Rattle.fields.specs.Field.{firstField};
 ghost use Rattle.writer.specs.Reply.{optional, heartbeat};

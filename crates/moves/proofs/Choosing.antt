@@ -8,7 +8,7 @@ use mathlib.Core.List.{[], _∷_, _++_}
 use mathlib.Core.Option.{Option, none, some}
 use lib.Dec.{eqb, leb}
 use borrow.Author.Tests.{lt-ltb, le-ltb, eq-eqb, ne-eqb, not-true, not-false, leb-true}
-use Rattle.frame.specs.Bytes.{Bytes, fix, value}
+use Rattle.bytes.specs.Bytes.{Bytes, fix, value}
 use Rattle.fields.specs.Field.{firstField}
 use Rattle.kinds.specs.Kind.{isNumber}
 use Rattle.dictionary.specs.declared.Verdict.{Verdict}

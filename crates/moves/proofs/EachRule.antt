@@ -8,7 +8,7 @@ use mathlib.Core.List.{[], _∷_, _++_}
 use mathlib.Core.Option.{Option, none, some}
 use lib.Dec.{eqb, ltb, leb}
 use borrow.Author.Tests.{ltb-true, ltb-false, leb-true, leb-false, eqb-true, eqb-false, not-true, not-false}
-use Rattle.frame.specs.Bytes.{Bytes, fix}
+use Rattle.bytes.specs.Bytes.{Bytes, fix}
 use Rattle.fields.specs.Field.{firstField}
 use Rattle.kinds.proofs.Values.{same-true, same-refl}
 use Rattle.dictionary.specs.declared.Verdict.the-variants.{Clean}

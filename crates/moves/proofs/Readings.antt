@@ -7,7 +7,7 @@ use mathlib.Core.Bool.{Bool, true, false, cond, false≢true}
 use mathlib.Core.Option.{Option, some}
 use lib.ListN.{take, drop}
 use borrow.Author.Tests.{lt-leb, le-leb}
-use Rattle.frame.specs.Bytes.{Bytes, same, within, value}
+use Rattle.bytes.specs.Bytes.{Bytes, same, within, value}
 use Rattle.fields.specs.Field.{firstField}
 use Rattle.fields.specs.First.{First, valueAt}
 use Rattle.fields.specs.declared.Place.{Place}

@@ -2,7 +2,7 @@
 use Prim.Native.Nat.{ℕ}
 use mathlib.Core.Option.{Option, none, some}
 use mathlib.Core.Bool.{Bool, true, false, _&&_}
-use Rattle.frame.specs.Bytes.{Bytes, same, within, value}
+use Rattle.bytes.specs.Bytes.{Bytes, same, within, value}
 use Rattle.kinds.specs.Kind.{isNumber}
 use Rattle.table.specs.declared.MsgType.{MsgType}
 use Rattle.table.specs.Dictionary.{code35}

@@ -11,7 +11,7 @@ use table::MsgType;
 use table::Named;
 ghost use mathlib.Core.Path.{_≡_};
 ghost use mathlib.Core.Bool.{true};
-ghost use Rattle.frame.specs.Bytes.{within};
+ghost use Rattle.bytes.specs.Bytes.{within};
 ghost use Rattle.fields.specs.Field.{firstField};
 ghost use Rattle.fields.specs.First.{First};
 ghost use Rattle.dictionary.specs.Verdict.{msgType};

@@ -8,7 +8,7 @@ use mathlib.Core.Bool.{Bool, true, false, cond, not, _&&_, _||_, false≢true}
 use mathlib.Core.Logic.{inl, inr}
 use lib.Dec.{eqb}
 use lib.ListN.{length, getD, drop, length-map}
-use Rattle.frame.specs.Bytes.{Bytes, any, all, has, same}
+use Rattle.bytes.specs.Bytes.{Bytes, any, all, has, same}
 use Rattle.kinds.specs.Kind.{Kind, text, number_to_, Y/N, time, day, among}
 use Rattle.kinds.specs.Judged.{meaning}
 use Rattle.kinds.proofs.Values.{same-true}

@@ -5,7 +5,7 @@ use mathlib.Core.List.{List, [], _∷_, _++_}
 use mathlib.Core.Bool.{Bool, true, false, cond, not, _||_}
 use mathlib.Core.Option.{Option, none, some}
 use lib.Dec.{eqb}
-use Rattle.frame.specs.Bytes.{Bytes, byte, fix, any, has, same}
+use Rattle.bytes.specs.Bytes.{Bytes, byte, fix, any, has, same}
 use Rattle.fields.specs.Field.{cut}
 use Rattle.kinds.specs.Kind.{Kind, text, number_to_, among, kindOf}
 use Rattle.table.specs.declared.MsgType.{MsgType}

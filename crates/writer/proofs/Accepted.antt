@@ -8,10 +8,10 @@ use mathlib.Core.Bool.{Bool, true, false, cond, not, _||_, false≢true}
 use lib.Dec.{eqb, leb}
 use lib.ListN.{length}
 use borrow.Author.Tests.{not-false}
-use Rattle.frame.specs.Bytes.{Bytes, fix, any, has, same, within, digit, numeral, decimal}
-use Rattle.frame.proofs.Tests.{both, neither}
-use Rattle.frame.proofs.Numerals.{within-is, numeral-true, numeral-means}
-use Rattle.frame.proofs.Decimals.{decimal-numeral, decimal-worth}
+use Rattle.bytes.specs.Bytes.{Bytes, fix, any, has, same, within, digit, numeral, decimal}
+use Rattle.bytes.proofs.Tests.{both, neither}
+use Rattle.bytes.proofs.Numerals.{within-is, numeral-true, numeral-means}
+use Rattle.bytes.proofs.Decimals.{decimal-numeral, decimal-worth}
 use Rattle.kinds.specs.Kind.{Kind, text, number_to_, Y/N, time, day, among, formed, allowed, isNumber, like, shapes}
 use Rattle.kinds.proofs.Values.{same-true}
 use Rattle.table.specs.declared.MsgType.{MsgType}

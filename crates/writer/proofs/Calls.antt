@@ -8,7 +8,7 @@ use mathlib.Core.Bool.{Bool, true, false, cond}
 use mathlib.Core.Option.{Option}
 use lib.ListN.{length, take, drop, length-append}
 use borrow.Author.Tests.{lt-ltb, le-ltb}
-use Rattle.frame.specs.Bytes.{Bytes, decimal}
+use Rattle.bytes.specs.Bytes.{Bytes, decimal}
 use Rattle.frame.specs.Frame.{fixt, front, trailer, sumOf}
 use Rattle.table.specs.declared.MsgType.{MsgType}
 use Rattle.table.specs.Dictionary.{code35, administrative}

@@ -1,6 +1,6 @@
 -- The worked messages and calls of specs/Cases.antt, by computation.
 use mathlib.Core.Path.{refl}
-use Rattle.frame.specs.Bytes.{numeral, decimal}
+use Rattle.bytes.specs.Bytes.{numeral, decimal}
 use Rattle.frame.specs.Frame.{fixt}
 use Rattle.kinds.specs.Kind.{kindOf, isNumber, formed, allowed, goodDay, goodClock}
 use Rattle.table.specs.Dictionary.{№453, №580, header, code35, fields, typeOf, administrative, groupsOf, rowsOf}

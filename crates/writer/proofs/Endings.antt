@@ -10,7 +10,7 @@ use lib.Dec.{leb, ltb}
 use lib.ListN.{length, take, drop, getD}
 use lib.Seq.{take-append-seam, drop-append-seam}
 use borrow.Author.Tests.{ltb-true, ltb-false}
-use Rattle.frame.specs.Bytes.{Bytes, has, value, decimal, Byted}
+use Rattle.bytes.specs.Bytes.{Bytes, has, value, decimal, Byted}
 use Rattle.fields.specs.Field.{firstField}
 use Rattle.frame.proofs.Decimals.{decimal-worth}
 use Rattle.table.specs.declared.MsgType.{MsgType}

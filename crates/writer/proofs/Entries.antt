@@ -7,7 +7,7 @@ use mathlib.Core.Option.{Option, none, some}
 use lib.Dec.{leb}
 use lib.ListN.{length, take, drop}
 use borrow.Author.Tests.{le-leb, lt-leb}
-use Rattle.frame.specs.Bytes.{Bytes, decimal}
+use Rattle.bytes.specs.Bytes.{Bytes, decimal}
 use Rattle.kinds.specs.Kind.{Kind}
 use Rattle.kinds.specs.Judged.{meaning}
 use Rattle.table.specs.declared.MsgType.{MsgType}

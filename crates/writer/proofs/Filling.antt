@@ -9,8 +9,8 @@ use lib.Dec.{eqb, leb, ltb}
 use lib.ListN.{length, take, getD, List·getD-map}
 use lib.Seq.{take-suc, take-all}
 use borrow.Author.Tests.{eqb-true, leb-true, ltb-true}
-use Rattle.frame.specs.Bytes.{Bytes, any, has}
-use Rattle.frame.proofs.Tests.{both, or-last, allBelow, at-below, any-append, map-at}
+use Rattle.bytes.specs.Bytes.{Bytes, any, has}
+use Rattle.bytes.proofs.Tests.{both, or-last, allBelow, at-below, any-append, map-at}
 use Rattle.kinds.specs.Kind.{Kind, kindOf}
 use Rattle.kinds.specs.Judged.{meaning}
 use Rattle.kinds.specs.declared.Kind.the-variants.{Text}

@@ -6,10 +6,10 @@ use mathlib.Core.Bool.{Bool, true, false, cond, not, _||_, false≢true}
 use lib.Dec.{eqb}
 use lib.ListN.{length}
 use borrow.Author.Tests.{eq-eqb, ne-eqb, not-false}
-use Rattle.frame.specs.Bytes.{Bytes, fix, has, same, value, numeral, decimal}
-use Rattle.frame.proofs.Tests.{neither}
-use Rattle.frame.proofs.Numerals.{numeral-means, value-below}
-use Rattle.frame.proofs.Decimals.{decimal-worth}
+use Rattle.bytes.specs.Bytes.{Bytes, fix, has, same, value, numeral, decimal}
+use Rattle.bytes.proofs.Tests.{neither}
+use Rattle.bytes.proofs.Numerals.{numeral-means, value-below}
+use Rattle.bytes.proofs.Decimals.{decimal-worth}
 use Rattle.kinds.specs.Kind.{Kind, text, number_to_, Y/N, time, day, among, isNumber, formed, allowed}
 use Rattle.kinds.specs.Judged.{judged}
 use Rattle.kinds.proofs.Values.{same-true}

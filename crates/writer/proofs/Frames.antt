@@ -6,14 +6,14 @@ use mathlib.Core.List.{List, [], _∷_, _++_, append-assoc}
 use mathlib.Core.Option.{Option, none, some}
 use lib.Dec.{lit<}
 use lib.ListN.{length, getD, length-append}
-use Rattle.frame.specs.Bytes.{Bytes, fix, value, decimal, At, Byted}
+use Rattle.bytes.specs.Bytes.{Bytes, fix, value, decimal, At, Byted}
 use Rattle.frame.specs.Frame.{fixt, Length, Body, Good, front, trailer, sumOf}
-use Rattle.frame.proofs.Lists.{at-byte}
-use Rattle.frame.proofs.Numerals.{Digits}
+use Rattle.bytes.proofs.Lists.{at-byte}
+use Rattle.bytes.proofs.Numerals.{Digits}
 use Rattle.frame.proofs.Make.{good-make}
 use Rattle.frame.proofs.Marks.{fixt-ok}
-use Rattle.frame.proofs.Numerals.{numeral-true}
-use Rattle.frame.proofs.Decimals.{decimal-numeral, decimal-worth}
+use Rattle.bytes.proofs.Numerals.{numeral-true}
+use Rattle.bytes.proofs.Decimals.{decimal-numeral, decimal-worth}
 use Rattle.writer.specs.Message.{Field, _is_, shown, tagged, row, framed}
 use Rattle.writer.proofs.Rows.{Plain, Fit, FitOne, decimal-digits, plain-part, part-field}
 

@@ -1,7 +1,7 @@
 -- Good frames, one behind the other, are read as just these frames.
 use native.Mathlib.Omega.{arith}
 use mathlib.Core.List.{List, [], _∷_}
-use Rattle.frame.specs.Bytes.{Bytes}
+use Rattle.bytes.specs.Bytes.{Bytes}
 use Rattle.frame.specs.Frame.{fixt}
 use Rattle.frame.specs.Stream.{Frames, rest, joined}
 use Rattle.frame.proofs.Marks.{fixt-ok}

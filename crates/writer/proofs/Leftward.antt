@@ -7,7 +7,7 @@ use mathlib.Core.Path.{_≡_, refl, sym, ap, _∙_, subst}
 use mathlib.Core.List.{[], _∷_, _++_, append-cancel-left}
 use lib.ListN.{length, take, drop, getD, set, length-append, drop-of-length-le}
 use lib.Seq.{sets, set-comm, take-suc, take-all, drop-cons, length-take-le}
-use Rattle.frame.specs.Bytes.{Bytes, decimal}
+use Rattle.bytes.specs.Bytes.{Bytes, decimal}
 use Rattle.frame.proofs.Good.{same-start}
 use Rattle.writer.specs.Wrote.{Wrote}
 use Rattle.writer.proofs.Writes.{decimal-small, decimal-step, length-small, length-step, few-digits}

@@ -2,7 +2,7 @@
 use Prim.Native.Nat.{ℕ}
 use mathlib.Core.Path.{_≡_, refl, sym, ap, _∙_}
 use mathlib.Core.Bool.{Bool, true, false}
-use Rattle.frame.specs.Bytes.{Bytes}
+use Rattle.bytes.specs.Bytes.{Bytes}
 use Rattle.writer.specs.Call.{Outcome, Writes}
 use Rattle.writer.specs.Replied.{Replied}
 use Rattle.writer.specs.declared.Values.{Values}

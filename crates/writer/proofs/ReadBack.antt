@@ -8,7 +8,7 @@ use mathlib.Core.Option.{Option, none, some}
 use lib.Dec.{eqb, ltb}
 use lib.ListN.{length}
 use borrow.Author.Tests.{eqb-true, eqb-false, eq-eqb, ne-eqb, ltb-true}
-use Rattle.frame.specs.Bytes.{Bytes, all, has, Byted}
+use Rattle.bytes.specs.Bytes.{Bytes, all, has, Byted}
 use Rattle.frame.specs.Frame.{fixt, Good}
 use Rattle.fields.specs.Field.{firstField}
 use Rattle.frame.proofs.Tests.{both, neither, or-last}

@@ -6,8 +6,8 @@ use mathlib.Core.Bool.{Bool, true, false, not, _&&_, false≢true}
 use lib.Dec.{leb}
 use lib.ListN.{length}
 use borrow.Author.Tests.{leb-true, leb-false, le-leb, lt-leb, not-true, not-false}
-use Rattle.frame.specs.Bytes.{Bytes}
-use Rattle.frame.proofs.Tests.{both, both-true}
+use Rattle.bytes.specs.Bytes.{Bytes}
+use Rattle.bytes.proofs.Tests.{both, both-true}
 use Rattle.writer.specs.Wrote.{Wrote}
 use Rattle.writer.specs.code.Ranges.{Ranged}
 use Rattle.writer.specs.Replied.{sendable, rejectable, Replied}

@@ -10,11 +10,11 @@ use lib.Dec.{eqb}
 use lib.ListN.{length, drop, getD}
 use lib.Seq.{drop-append-seam}
 use borrow.Author.Tests.{eqb-true, eqb-false, ne-eqb}
-use Rattle.frame.specs.Bytes.{Bytes, fix, has, same, starts, value, decimal}
-use Rattle.frame.proofs.Numerals.{Digits, row-digits}
+use Rattle.bytes.specs.Bytes.{Bytes, fix, has, same, starts, value, decimal}
+use Rattle.bytes.proofs.Numerals.{Digits, row-digits}
 use Rattle.fields.specs.Field.{parts, firstOfParts, firstField}
-use Rattle.frame.proofs.Numerals.{numeral-true}
-use Rattle.frame.proofs.Decimals.{decimal-numeral, decimal-worth}
+use Rattle.bytes.proofs.Numerals.{numeral-true}
+use Rattle.bytes.proofs.Decimals.{decimal-numeral, decimal-worth}
 use Rattle.kinds.proofs.Values.{same-true, same-refl}
 use Rattle.writer.specs.Message.{Field, _is_, shown, tagged, row}
 

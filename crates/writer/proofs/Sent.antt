@@ -7,8 +7,8 @@ use mathlib.Core.Bool.{Bool, true, false, cond}
 use lib.Dec.{eqb}
 use lib.ListN.{length}
 use borrow.Author.Tests.{ne-eqb}
-use Rattle.frame.specs.Bytes.{Bytes, fix, has, decimal}
-use Rattle.frame.proofs.Numerals.{is-within}
+use Rattle.bytes.specs.Bytes.{Bytes, fix, has, decimal}
+use Rattle.bytes.proofs.Numerals.{is-within}
 use Rattle.kinds.specs.Kind.{text, number_to_, Y/N, time, kindOf, formed, allowed}
 use Rattle.table.specs.declared.MsgType.{MsgType}
 use Rattle.table.specs.declared.MsgType.the-variants.{Heartbeat, TestRequest, ResendRequest, Reject, SequenceReset, Logout, Logon}

@@ -8,8 +8,8 @@ use mathlib.Core.Option.{Option, none, some}
 use lib.Dec.{eqb, leb, ltb}
 use lib.ListN.{length, take, length-append}
 use borrow.Author.Tests.{eqb-true, eq-eqb, leb-true}
-use Rattle.frame.specs.Bytes.{Bytes, fix, any, all, has, decimal}
-use Rattle.frame.proofs.Tests.{both, neither, or-last}
+use Rattle.bytes.specs.Bytes.{Bytes, fix, any, all, has, decimal}
+use Rattle.bytes.proofs.Tests.{both, neither, or-last}
 use Rattle.kinds.specs.Kind.{kindOf}
 use Rattle.table.specs.declared.MsgType.{MsgType}
 use Rattle.table.specs.Dictionary.{№453, №580, header, fields, code35, administrative, groupsOf, rowsOf, listed, kindIn}

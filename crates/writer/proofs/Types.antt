@@ -8,8 +8,8 @@ use mathlib.Core.Option.{Option, none, some}
 use lib.Dec.{eqb}
 use lib.ListN.{length, getD}
 use borrow.Author.Tests.{ne-eqb}
-use Rattle.frame.specs.Bytes.{Bytes, fix, same}
-use Rattle.frame.proofs.Tests.{both, allBelow, at-below}
+use Rattle.bytes.specs.Bytes.{Bytes, fix, same}
+use Rattle.bytes.proofs.Tests.{both, allBelow, at-below}
 use Rattle.kinds.proofs.Values.{same-long}
 use Rattle.table.specs.declared.MsgType.{MsgType}
 use Rattle.table.specs.declared.MsgType.the-variants.{OrderCancelRequest, TradeCaptureReportRequest}

@@ -8,13 +8,13 @@ use lib.Dec.{eqb}
 use lib.ListN.{length, take, drop, getD, length-append}
 use lib.Seq.{take-at}
 use borrow.Author.Tests.{eqb-true, eq-eqb, ne-eqb}
-use Rattle.frame.specs.Bytes.{Bytes, fix, starts, same, within, value, decimal, At}
+use Rattle.bytes.specs.Bytes.{Bytes, fix, starts, same, within, value, decimal, At}
 use Rattle.frame.specs.Frame.{fixt, Good, front, trailer, sumOf}
-use Rattle.frame.proofs.Numerals.{within-is, is-within}
+use Rattle.bytes.proofs.Numerals.{within-is, is-within}
 use Rattle.fields.specs.Field.{behind, isBody}
-use Rattle.frame.proofs.Tests.{both, or-last}
-use Rattle.frame.proofs.Numerals.{numeral-means}
-use Rattle.frame.proofs.Decimals.{numeral-decimal}
+use Rattle.bytes.proofs.Tests.{both, or-last}
+use Rattle.bytes.proofs.Numerals.{numeral-means}
+use Rattle.bytes.proofs.Decimals.{numeral-decimal}
 use Rattle.kinds.proofs.Values.{same-true, same-refl}
 use Rattle.writer.specs.Message.{framed}
 use Rattle.writer.specs.Whole.{occurs, bodyIn, good}

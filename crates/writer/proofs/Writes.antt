@@ -9,11 +9,11 @@ use mathlib.Core.Bool.{true}
 use lib.ListN.{length, take, drop, getD, set, length-append, List·getD-append}
 use lib.Seq.{sets, sets-eq, take-suc, drop-at, length-take-le, take-append-seam}
 use borrow.Author.Tests.{lt-ltb}
-use Rattle.frame.specs.Bytes.{Bytes, all, digit, value, decimal}
-use Rattle.frame.proofs.Lists.{valueFrom-append}
-use Rattle.frame.proofs.Tests.{all-append}
-use Rattle.frame.proofs.Numerals.{is-digit, Numeral}
-use Rattle.frame.proofs.Decimals.{decimal-numeral, decimal-worth, numeral-decimal}
+use Rattle.bytes.specs.Bytes.{Bytes, all, digit, value, decimal}
+use Rattle.bytes.proofs.Lists.{valueFrom-append}
+use Rattle.bytes.proofs.Tests.{all-append}
+use Rattle.bytes.proofs.Numerals.{is-digit, Numeral}
+use Rattle.bytes.proofs.Decimals.{decimal-numeral, decimal-worth, numeral-decimal}
 use Rattle.writer.specs.Message.{Field, field, row}
 use Rattle.writer.specs.Wrote.{Wrote}
 

@@ -6,7 +6,7 @@ use mathlib.Core.Bool.{Bool, false, cond, not, _&&_, _||_}
 use mathlib.Core.Option.{Option, none, some}
 use lib.Dec.{eqb, leb, ltb}
 use lib.ListN.{length, take, drop, getD}
-use Rattle.frame.specs.Bytes.{Bytes, byte, any, has}
+use Rattle.bytes.specs.Bytes.{Bytes, byte, any, has}
 use Rattle.kinds.specs.Kind.{formed, allowed}
 use Rattle.table.specs.declared.MsgType.{MsgType}
 use Rattle.table.specs.Dictionary.{rowsOf, listed, kindIn, typeOf, administrative}

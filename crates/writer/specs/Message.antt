@@ -5,7 +5,7 @@ use mathlib.Core.Bool.{cond}
 use mathlib.Core.Option.{Option, none, some}
 use lib.Dec.{eqb}
 use lib.ListN.{length}
-use Rattle.frame.specs.Bytes.{Bytes, fix, same, decimal}
+use Rattle.bytes.specs.Bytes.{Bytes, fix, same, decimal}
 use Rattle.frame.specs.Frame.{fixt, front, trailer, sumOf}
 use Rattle.table.specs.declared.MsgType.{MsgType}
 use Rattle.table.specs.Dictionary.{code35, fields}

@@ -6,7 +6,7 @@ use mathlib.Core.List.{List, [], _∷_}
 use mathlib.Core.Bool.{Bool, true, false, _&&_}
 use mathlib.Core.Option.{none, some}
 use lib.ListN.{length, take, drop}
-use Rattle.frame.specs.Bytes.{Bytes, byte, fix, has, Byted}
+use Rattle.bytes.specs.Bytes.{Bytes, byte, fix, has, Byted}
 use Rattle.frame.specs.Frame.{fixt, Good}
 use Rattle.frame.specs.Stream.{Frames, joined}
 use Rattle.fields.specs.Field.{firstField}

@@ -6,7 +6,7 @@ use mathlib.Core.Path.{_≡_}
 use mathlib.Core.Bool.{Bool, true, false, _&&_}
 use lib.Dec.{leb}
 use lib.ListN.{length}
-use Rattle.frame.specs.Bytes.{Bytes}
+use Rattle.bytes.specs.Bytes.{Bytes}
 use Rattle.writer.specs.Wrote.{Wrote}
 
 -- how many bytes each asks for behind its place: no less than its longest message has

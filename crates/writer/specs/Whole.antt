@@ -3,7 +3,7 @@ use Prim.Native.Nat.{_-_}
 use mathlib.Core.List.{[], _∷_}
 use mathlib.Core.Bool.{Bool, not, _&&_, _||_}
 use lib.ListN.{length, take, drop}
-use Rattle.frame.specs.Bytes.{Bytes, byte, starts, same}
+use Rattle.bytes.specs.Bytes.{Bytes, byte, starts, same}
 use Rattle.frame.specs.Frame.{fixt}
 use Rattle.fields.specs.Field.{behind, isBody}
 use Rattle.writer.specs.Message.{framed}

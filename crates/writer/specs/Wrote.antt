@@ -3,7 +3,7 @@ use Prim.Native.Nat.{ℕ, _+_}
 use mathlib.Core.Path.{_≡_}
 use lib.ListN.{length}
 use lib.Seq.{sets}
-use Rattle.frame.specs.Bytes.{Bytes}
+use Rattle.bytes.specs.Bytes.{Bytes}
 
 -- the bytes xs stand in the buffer from `at` on, `to` is the place behind them, and all else is as it was
 pub record Wrote (d d′ : Bytes) (at to : ℕ) (xs : Bytes) : Type 0 where

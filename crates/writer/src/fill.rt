@@ -10,7 +10,7 @@ ghost use mathlib.Core.Path.{_≡_};
 ghost use mathlib.Core.Bool.{true, not};
 ghost use Prim.Native.Nat.{_+_, _≤_, _<_};
 ghost use lib.ListN.{length};
-ghost use Rattle.frame.specs.Bytes.{has, decimal};
+ghost use Rattle.bytes.specs.Bytes.{has, decimal};
 ghost use Rattle.kinds.specs.Judged.{meaning};
 ghost use Rattle.table.specs.Dictionary.{administrative};
 ghost use Rattle.writer.specs.Tags.{isNumeric};

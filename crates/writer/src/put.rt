@@ -1,10 +1,10 @@
 // Writing into a buffer from a place on: bytes, digits, fields, the frame around a body. Each function answers the place behind what it wrote.
-use frame::checksum;
+use bytes::checksum;
 ghost use mathlib.Core.Path.{_≡_};
 ghost use mathlib.Core.List.{[], _∷_, _++_};
 ghost use Prim.Native.Nat.{_+_, _≤_, _<_};
 ghost use lib.ListN.{length};
-ghost use Rattle.frame.specs.Bytes.{fix, decimal};
+ghost use Rattle.bytes.specs.Bytes.{fix, decimal};
 ghost use Rattle.frame.specs.Frame.{fixt, front, trailer};
 ghost use Rattle.writer.specs.Message.{number, bytes, _is_, field, framed};
 ghost use Rattle.writer.specs.Wrote.{Wrote};

@@ -4,7 +4,7 @@ use Prim.Native.Nat.{ℕ, _+_, _-_, _≤_, _<_}
 use mathlib.Core.Path.{_≡_}
 use mathlib.Core.List.{_∷_, _++_}
 use lib.ListN.{length, drop}
-use Rattle.frame.specs.Bytes.{Bytes, value, At}
+use Rattle.bytes.specs.Bytes.{Bytes, value, At}
 use Rattle.frame.specs.Frame.{Rule, Length, Body, GoodAt, Live, front}
 use Rattle.frame.specs.declared.parts.Part.{Part}
 use Rattle.frame.specs.declared.parts.Part.the-variants.{Mark, Size, Fields, Tail}

@@ -1,7 +1,7 @@
 -- What the code's readings answer, with the bounds that their callers need. Only the code needs these: nothing here states document 01.
 use Prim.Native.Nat.{ℕ, _≤_}
 use mathlib.Core.Path.{_≡_}
-use Rattle.frame.specs.Bytes.{Bytes}
+use Rattle.bytes.specs.Bytes.{Bytes}
 use Rattle.fields.specs.Field.{firstField}
 use Rattle.moves.specs.Words.{_otherwise_}
 use Rattle.moves.specs.Seen.{numberIn}

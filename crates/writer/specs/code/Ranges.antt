@@ -2,7 +2,7 @@
 use Prim.Native.Nat.{ℕ, _≤_, _<_}
 use mathlib.Core.List.{List, [], _∷_, _++_}
 use lib.ListN.{length}
-use Rattle.frame.specs.Bytes.{Bytes}
+use Rattle.bytes.specs.Bytes.{Bytes}
 use Rattle.writer.specs.Message.{Value, number, bytes, Field, _is_}
 
 -- "CompIDs (1 to 11 bytes ..)", "numbers 1 to 999,999,999"

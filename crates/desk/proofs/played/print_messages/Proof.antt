@@ -5,7 +5,7 @@ use Prim.Native.Nat.{ℕ, _+_, _-_, _≤_, _<_}
 use mathlib.Core.Path.{_≡_, subst}
 use lib.ListN.{length, take, drop, length-drop}
 use lib.Seq.{length-take-le}
-use Rattle.frame.specs.Bytes.{Bytes}
+use Rattle.bytes.specs.Bytes.{Bytes}
 use Rattle.frame.specs.Frame.{fixt}
 use Rattle.frame.specs.Reading.{Reads, numbers}
 use Rattle.frame.specs.declared.Reading.{Reading}

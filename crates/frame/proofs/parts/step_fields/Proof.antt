@@ -5,8 +5,8 @@ use native.Mathlib.Omega.{arith}
 use Prim.Native.Nat.{ℕ, _+_, _-_, _≤_, _<_}
 use Rattle.frame.specs.Frame.{ruleOf}
 use lib.ListN.{length}
+use Rattle.bytes.proofs.Search.{none-at-all}
 use Rattle.frame.proofs.AtBody.{tag-wrong, tag-short, mark-inside, fields-short, last-wrong, fields-next}
-use Rattle.frame.proofs.Lists.{none-at-all}
 use Rattle.frame.proofs.Past.{past-size, past-inside}
 use Rattle.frame.proofs.parts.step_fields.Statement.{statement}
 use Rattle.frame.proofs.parts.step_fields.Tie as tie

@@ -5,8 +5,8 @@ use native.Mathlib.Omega.{arith}
 use Prim.Native.Nat.{ℕ, _+_, _-_, _≤_, _<_}
 use mathlib.Core.Path.{refl}
 use lib.ListN.{length}
+use Rattle.bytes.proofs.Words.{matched-whole}
 use Rattle.frame.specs.Frame.{ruleOf}
-use Rattle.frame.proofs.Words.{matched-whole}
 use Rattle.frame.proofs.AtMark.{mark-next, mark-unlike, mark-wrong, mark-short}
 use Rattle.frame.proofs.Past.{past-one}
 use Rattle.frame.proofs.parts.step_mark.Statement.{statement}

@@ -5,8 +5,8 @@ use native.Mathlib.Omega.{arith}
 use Prim.Native.Nat.{ℕ, _+_, _-_, _≤_, _<_}
 use mathlib.Core.Path.{_≡_, refl, sym, _∙_}
 use lib.ListN.{length}
+use Rattle.bytes.proofs.Words.{matched-whole}
 use Rattle.frame.specs.Frame.{ruleOf, trailer}
-use Rattle.frame.proofs.Words.{matched-whole}
 use Rattle.frame.proofs.AtTrailer.{tail-after, tail-behind, tail-at, tail-word, tail-unlike, tail-wrong, tail-short, tail-whole}
 use Rattle.frame.proofs.Past.{past-room, past-body}
 use Rattle.frame.proofs.parts.step_tail.Statement.{statement}

@@ -6,7 +6,7 @@ use Rattle.gateway.proofs.record.is_spare.Tie as tie
 use Prim.Native.Nat.{_-_, _≤_}
 use mathlib.Core.Path.{_≡_, sym, _∙_}
 use lib.ListN.{length, drop}
-use Rattle.frame.specs.Bytes.{all}
+use Rattle.bytes.specs.Bytes.{all}
 use Rattle.gateway.specs.Record.{spare}
 use Rattle.gateway.proofs.Records.{zeroWord, spare-is, spare-stop, spare-next, spare-end}
 

@@ -4,7 +4,7 @@ use native.Mathlib.Omega.{arith}
 use denote.Ref.{now}
 use mathlib.Core.Path.{sym, subst}
 use lib.Seq.{length-take-le}
-use Rattle.frame.specs.Bytes.{Bytes}
+use Rattle.bytes.specs.Bytes.{Bytes}
 use Rattle.kinds.specs.Judged.{meaning}
 use Rattle.writer.specs.code.Held.{PutText}
 use Rattle.writer.proofs.Writes.{front-of, few-digits}

@@ -5,7 +5,7 @@ use native.Mathlib.Omega.{arith}
 use Prim.Native.Nat.{_+_, _-_, _≤_}
 use mathlib.Core.Path.{_≡_, refl}
 use lib.ListN.{length, length-set}
-use Rattle.frame.specs.Bytes.{decimal}
+use Rattle.bytes.specs.Bytes.{decimal}
 use Rattle.writer.proofs.Leftward.{Left, left-all, left-more, left-none}
 use Rattle.writer.proofs.put.put_decimal.Statement.{statement}
 use Rattle.writer.proofs.put.put_decimal.Tie as tie

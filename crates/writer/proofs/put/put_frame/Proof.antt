@@ -3,7 +3,7 @@ use borrow.Author.Needs.{needs}
 use native.Mathlib.Omega.{arith}
 use Prim.Native.Nat.{_%_}
 use mathlib.Core.Path.{ap, _∙_}
-use Rattle.frame.specs.Bytes.{Bytes, sum}
+use Rattle.bytes.specs.Bytes.{Bytes, sum}
 use Rattle.frame.specs.Frame.{trailer}
 use Rattle.writer.specs.Message.{framed}
 use Rattle.writer.proofs.Writes.{chain, reword, part-of}

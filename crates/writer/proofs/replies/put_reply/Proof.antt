@@ -6,7 +6,7 @@ use denote.Ref.{now}
 use mathlib.Core.Path.{sym, ap}
 use lib.ListN.{length, take}
 use lib.Seq.{length-take-le}
-use Rattle.frame.specs.Bytes.{decimal}
+use Rattle.bytes.specs.Bytes.{decimal}
 use Rattle.writer.proofs.Writes.{few-digits}
 use Rattle.writer.proofs.Calls.{framed-length}
 use Rattle.writer.proofs.replies.put_reply.Statement.{statement}

@@ -1,0 +1,7 @@
+pub mod Tests
+pub mod Lists
+pub mod Search
+pub mod Words
+pub mod Numerals
+pub mod Decimals
+pub mod OneOutcome

@@ -1,0 +1,129 @@
+// A byte and a row of bytes looked for.
+use crate::compare::stands;
+ghost use Prim.Native.Nat.{_+_, _-_, _≤_, _<_};
+ghost use lib.ListN.{length};
+ghost use Rattle.bytes.specs.code.Leaf.{FirstByte, Calm, Free, NextStart, Around, Searched};
+
+// Whether none of the n bytes from i on is x. The loop has no way out, so the compiler compares sixteen bytes at once.
+fn calm(s: &[u8], i: usize, n: usize, x: u8) -> bool
+    requires { ⌜ i + n ≤ length (now s) ⌝ }
+    ensures { λ r. ⌜ Calm (now (s .entry)) i n x r ⌝ }
+{
+    let mut none = true;
+    let mut k = 0;
+    while k < n {
+        if s[i + k] == x {
+            none = false;
+        }
+        k += 1;
+    }
+    none
+}
+
+// The first place from a on at which x stands before e, or e: byte by byte.
+fn byte_from(s: &[u8], a: usize, e: usize, x: u8) -> usize
+    requires { ⌜ (a ≤ e) × (e ≤ length (now s)) ⌝ }
+    ensures { λ r. ⌜ FirstByte (now (s .entry)) a e x r ⌝ }
+{
+    let mut i = a;
+    while i < e {
+        if s[i] == x {
+            return i;
+        }
+        i += 1;
+    }
+    i
+}
+
+// Whether x stands nowhere in the last bytes before e, from i on, fewer than sixteen: told by the last sixteen, where there are as many behind a.
+fn tail_free(s: &[u8], a: usize, i: usize, e: usize, x: u8) -> bool
+    requires { ⌜ ((a ≤ i) × (e - i ≤ 16)) × ((i ≤ e) × (e ≤ length (now s))) ⌝ }
+    ensures { λ r. ⌜ Free (now (s .entry)) i e x r ⌝ }
+{
+    if e - a < 16 {
+        return false;
+    }
+    calm(s, e - 16, 16, x)
+}
+
+// The first place from a on at which x stands before e, or e: sixty-four bytes at a time, and then sixteen, as long as x is not among them.
+fn find_byte(s: &[u8], a: usize, e: usize, x: u8) -> usize
+    requires { ⌜ (a ≤ e) × (e ≤ length (now s)) ⌝ }
+    ensures { λ r. ⌜ FirstByte (now (s .entry)) a e x r ⌝ }
+{
+    let mut i = a;
+    while 64 <= e - i {
+        if !calm(s, i, 64, x) {
+            return byte_from(s, i, e, x);
+        }
+        i += 64;
+    }
+    while 16 <= e - i {
+        if !calm(s, i, 16, x) {
+            return byte_from(s, i, e, x);
+        }
+        i += 16;
+    }
+    if tail_free(s, a, i, e, x) {
+        return e;
+    }
+    byte_from(s, i, e, x)
+}
+
+// The next place from p on at which a row of bytes with the fifth byte x may begin: p itself in the usual case, which is therefore looked at first. The
+// last four places are left to the row's own comparison.
+pub fn next_start(s: &[u8], p: usize, x: u8) -> usize
+    requires { ⌜ p ≤ length (now s) ⌝ }
+    ensures { λ r. ⌜ NextStart (now (s .entry)) p x r ⌝ }
+{
+    let n = s.len();
+    if n - p <= 4 {
+        return p;
+    }
+    let j = p + 4;
+    if s[j] == x {
+        return p;
+    }
+    let k = find_byte(s, j + 1, n, x);
+    k - 4
+}
+
+// Whether lit stands whole between a and e with its fifth byte at j.
+fn stands_around(s: &[u8], a: usize, e: usize, j: usize, lit: &[u8]) -> bool
+    requires { ⌜ ((j < e) × (e ≤ length (now s))) × ((8 ≤ length (now lit)) × (length (now lit) ≤ 16)) ⌝ }
+    ensures { λ r. ⌜ Around (now (s .entry)) a e j (now (lit .entry)) r ⌝ }
+{
+    if j < 4 {
+        return false;
+    }
+    let q = j - 4;
+    if q < a {
+        return false;
+    }
+    if e - q < lit.len() {
+        return false;
+    }
+    stands(s, q, lit)
+}
+
+// The first place from a on at which lit stands whole before e, or e. Its fifth byte is what is looked for: in a start mark that is the `X` of FIX,
+// which is rare in a body. Each byte is passed by find_byte once, and each place of that byte costs at most one comparison with lit: linear whatever
+// the bytes are.
+pub fn holds(s: &[u8], a: usize, e: usize, lit: &[u8]) -> usize
+    requires { ⌜ ((a ≤ e) × (e ≤ length (now s))) × ((8 ≤ length (now lit)) × (length (now lit) ≤ 16)) ⌝ }
+    ensures { λ r. ⌜ Searched (now (s .entry)) a e (now (lit .entry)) r ⌝ }
+{
+    let x = lit[4];
+    let mut i = a;
+    while i < e {
+        let j = find_byte(s, i, e, x);
+        if j == e {
+            return e;
+        }
+        if stands_around(s, a, e, j, lit) {
+            return j - 4;
+        }
+        i = j + 1;
+    }
+    e
+}

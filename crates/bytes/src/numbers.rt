@@ -1,0 +1,63 @@
+// Bytes as numbers: decimal digits read, and the sum of bytes.
+ghost use mathlib.Core.Path.{_≡_};
+ghost use Prim.Native.Nat.{_%_, _≤_};
+ghost use lib.ListN.{length};
+ghost use Rattle.bytes.specs.Bytes.{sum};
+ghost use Rattle.bytes.specs.code.Leaf.{digitLimit, Number, Digits};
+
+// Decimal digits that stand in a row: how many, and what they are worth.
+pub struct Num {
+    pub value: usize,
+    pub count: usize,
+}
+
+// The decimal digits of s from at on, at most `most` of them.
+pub fn number(s: &[u8], at: usize, most: usize) -> Num
+    requires { ⌜ (at ≤ length (now s)) × (most ≤ digitLimit) ⌝ }
+    ensures { λ r. ⌜ Number (now (s .entry)) at most (r .value) (r .count) ⌝ }
+{
+    let mut v: usize = 0;
+    let mut c: usize = 0;
+    while c < most {
+        if at + c == s.len() {
+            return Num { value: v, count: c };
+        }
+        let d = s[at + c];
+        if d < 48 {
+            return Num { value: v, count: c };
+        }
+        if 57 < d {
+            return Num { value: v, count: c };
+        }
+        v = v * 10 + ((d - 48) as usize);
+        c += 1;
+    }
+    Num { value: v, count: c }
+}
+
+// The same for any place and any limit: no digits behind the end, and none above a limit of 12.
+pub fn digits(s: &[u8], at: usize, most: usize) -> Num
+    ensures { λ r. ⌜ Digits (now (s .entry)) at most r ⌝ }
+{
+    let none = Num { value: 0, count: 0 };
+    if s.len() < at {
+        return none;
+    }
+    if 12 < most {
+        return none;
+    }
+    number(s, at, most)
+}
+
+// The sum of bytes, modulo 256. It is kept modulo 256 all the way, so that the compiler adds sixteen bytes at once.
+pub fn checksum(s: &[u8]) -> u8
+    ensures { λ r. ⌜ r ≡ sum (now (s .entry)) % 256 ⌝ }
+{
+    let mut t: u8 = 0;
+    let mut i: usize = 0;
+    while i < s.len() {
+        t = std::num::wrapping_add_u8(t, s[i]);
+        i += 1;
+    }
+    t
+}

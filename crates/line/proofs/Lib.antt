@@ -1,0 +1,4 @@
+pub mod Lines
+pub mod Hosted
+pub mod Promise
+pub mod OneOutcome

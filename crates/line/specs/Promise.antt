@@ -1,0 +1,53 @@
+-- What the line promises, over a rule R: the host's loop over the lent buffer is the reading in pieces of which the frame layer speaks, and how much is
+-- pending in the buffer.
+--
+-- Shown in proofs/Promise.antt for every rule whose mark is as frame's specs/Mark.antt asks, and so for `8=FIXT.1.1|9=` and `8=FIX.4.2|9=`.
+use Prim.Native.Nat.{ℕ, _-_, _≤_, _<_}
+use mathlib.Core.Path.{_≡_}
+use mathlib.Core.List.{List}
+use lib.ListN.{length}
+use Rattle.bytes.specs.Bytes.{Bytes}
+use Rattle.frame.specs.Frame.{Rule, fixt, longest}
+use Rattle.frame.specs.Reading.{refusal, Reads}
+use Rattle.frame.specs.Stream.{Fed}
+use Rattle.frame.specs.Promise.{ExactlyOne}
+use Rattle.line.specs.Line.{Line, line, pending, room, dropped, Hosted}
+
+-- THE HOST'S LINE
+-- the pending bytes lie in the lent buffer
+abbrev pub Within : Line → Type 0
+Within l = l .held ≤ length (l .buffer)
+
+-- and it has room for the longest frame
+pub record Lent (R : Rule) (l : Line) : Type 0 where
+  pub within : Within l
+  pub wide : longest R ≤ length (l .buffer)
+
+pub record OnTheLine (R : Rule) : Type 0 where
+  -- the host's loop over the lent buffer is that reading in pieces: from an empty line, of which frame's promise speaks, or from any pending rest;
+  pub in-pieces : {l l′ : Line} {xs : List Bytes} {fss : List (List Bytes)} → Within l → Hosted R l xs fss l′ → Fed R (pending l) xs fss (pending l′)
+  -- it ends, with exactly one row of frames for each piece and one line left,
+  pub ends : (l : Line) (xs : List Bytes) → Lent R l → ExactlyOne (λ (o : List (List Bytes) × Line). Hosted R l xs (o .0) (o .1))
+  -- which is lent as before, so that it can go on,
+  pub goes-on : {l l′ : Line} {xs : List Bytes} {fss : List (List Bytes)} → Lent R l → Hosted R l xs fss l′ → Lent R l′
+  -- and there is always room once reading has answered refusal 1:
+  pub some-room : (l : Line) (d : ℕ) → Lent R l → Reads R (pending l) (refusal 1 d) → 0 < room (dropped l d)
+  -- all but 2,072 bytes of the buffer
+  pub much-room : (l : Line) (d : ℕ) → Within l → Reads R (pending l) (refusal 1 d) → length (l .buffer) - (longest R - 1) ≤ room (dropped l d)
+
+-- THE PENDING REST
+pub record PendingRest (R : Rule) : Type 0 where
+  -- "Under refusal 1 at most 2,072 bytes stay pending": in every line buffer, when refusal 1's bytes are dropped,
+  pub held : (l : Line) (d : ℕ) → Reads R (pending l) (refusal 1 d) → dropped l d .held ≤ longest R - 1
+  -- and behind every piece
+  pub hosted : {buffer : Bytes} {l : Line} {xs : List Bytes} {fss : List (List Bytes)} → Hosted R (line buffer 0) xs fss l → l .held ≤ longest R - 1
+
+-- THE WHOLE PROMISE
+pub record Promise (R : Rule) : Type 0 where
+  pub on-the-line : OnTheLine R
+  pub pending-rest : PendingRest R
+
+-- ITS NUMBER for `8=FIXT.1.1|9=`
+pub record FixtNumbers : Type 0 where
+  -- "Under refusal 1 at most 2,072 bytes stay pending.", so that a lent buffer of 4,096 bytes then has room for 2,024 bytes of the next piece
+  pub room-left : (l : Line) (d : ℕ) → Within l → length (l .buffer) ≡ 4096 → Reads fixt (pending l) (refusal 1 d) → 2024 ≤ room (dropped l d)
