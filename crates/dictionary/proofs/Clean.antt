@@ -22,8 +22,8 @@ use Rattle.dictionary.specs.declared.Verdict.{Verdict}
 use Rattle.dictionary.specs.declared.Verdict.the-variants.{Clean, NoBody}
 use Rattle.dictionary.specs.Promise.{OfKind, required, Passed, PassedPart, AllPassed, CleanBody}
 use Rattle.table.specs.code.Held.{allRows, tags}
-use Rattle.frame.proofs.Numerals.{within-is}
-use Rattle.frame.proofs.Tests.{both}
+use Rattle.bytes.proofs.Numerals.{within-is}
+use Rattle.bytes.proofs.Tests.{both}
 use Rattle.table.proofs.Lists.{all-walked}
 use Rattle.dictionary.proofs.Saying.{unknown-tag}
 use Rattle.dictionary.proofs.Turns.{silent, silent-at, unknown-skipped}

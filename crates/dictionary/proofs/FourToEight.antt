@@ -17,7 +17,7 @@ use Rattle.table.specs.declared.MsgType.{MsgType}
 use Rattle.dictionary.specs.declared.Says.the-variants.{Nothing, Reason}
 use Rattle.dictionary.specs.declared.rules.State.{State}
 use Rattle.table.specs.declared.lines.Entry.{Entry}
-use Rattle.frame.proofs.Tests.{both, any-append}
+use Rattle.bytes.proofs.Tests.{both, any-append}
 use Rattle.dictionary.proofs.Groups.{counted}
 
 -- rule 4

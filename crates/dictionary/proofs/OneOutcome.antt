@@ -1,6 +1,6 @@
 -- One outcome of each call that the crate hands out: its contract is an equation, so any two answers that it allows are equal.
 use mathlib.Core.Path.{_≡_, sym, _∙_}
-use Rattle.frame.specs.Bytes.{Bytes}
+use Rattle.bytes.specs.Bytes.{Bytes}
 use Rattle.table.specs.Dictionary.{typeOf, named}
 use Rattle.dictionary.specs.Verdict.{verdict}
 use Rattle.table.specs.declared.Named.{Named}

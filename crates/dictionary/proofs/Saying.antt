@@ -22,7 +22,7 @@ use Rattle.dictionary.specs.declared.Says.{Says}
 use Rattle.dictionary.specs.declared.Says.the-variants.{Nothing, Reason}
 use Rattle.dictionary.specs.declared.rules.State.{State}
 use Rattle.table.specs.declared.lines.Entry.{Entry}
-use Rattle.frame.proofs.Tests.{both, neither, all-at}
+use Rattle.bytes.proofs.Tests.{both, neither, all-at}
 use Rattle.table.proofs.Places.{tags-long}
 use Rattle.dictionary.proofs.Groups.{counted}
 use Rattle.dictionary.proofs.FourToEight.{first-is}

@@ -5,7 +5,7 @@ use mathlib.Core.Path.{_≡_, refl, ap, sym, _∙_}
 use mathlib.Core.List.{List, [], _∷_}
 use mathlib.Core.Bool.{Bool, true, false, cond, not, _&&_}
 use mathlib.Core.Option.{Option, none, some}
-use Rattle.frame.specs.Bytes.{has}
+use Rattle.bytes.specs.Bytes.{has}
 use Rattle.table.specs.Dictionary.{Row}
 use Rattle.table.specs.code.Held.{tagCount, tagAt, unmet, Lacking}
 use Rattle.dictionary.specs.Verdict.{missing}

@@ -10,8 +10,8 @@ use borrow.Author.Tests.{eq-eqb, eqb-true}
 use lib.Dec.{eqb, leb}
 use lib.ListN.{length, getD, set, take, drop, drop-of-length-le}
 use lib.Seq.{drop-cons, length-sets}
-use Rattle.frame.specs.Bytes.{Bytes, Byted}
-use Rattle.frame.proofs.Tests.{both}
+use Rattle.bytes.specs.Bytes.{Bytes, Byted}
+use Rattle.bytes.proofs.Tests.{both}
 use Rattle.moves.specs.Session.{Session, code, turned}
 use Rattle.moves.specs.Held.{held, sessionOf, with}
 use Rattle.moves.specs.declared.record.Record.{Record}

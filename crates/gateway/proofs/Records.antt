@@ -11,9 +11,9 @@ use borrow.Author.Tests.{eq-eqb, ne-eqb, eqb-true}
 use lib.Dec.{eqb}
 use lib.ListN.{length, getD, set, drop, replicate, length-replicate, drop-of-length-le}
 use lib.Seq.{drop-cons, set-at}
-use Rattle.frame.specs.Bytes.{Bytes, all, has, within}
-use Rattle.frame.proofs.Numerals.{within-is}
-use Rattle.frame.proofs.Tests.{both}
+use Rattle.bytes.specs.Bytes.{Bytes, all, has, within}
+use Rattle.bytes.proofs.Numerals.{within-is}
+use Rattle.bytes.proofs.Tests.{both}
 use Rattle.moves.specs.Words.{if_then_else_}
 use Rattle.session.specs.Refusals.{numbers}
 use Rattle.moves.specs.Session.{compID, fresh, turned}

@@ -8,7 +8,7 @@ use mathlib.Core.Option.{Option, none, some}
 use lib.Dec.{eqb}
 use lib.ListN.{length, drop, getD, replicate}
 use lib.Seq.{sets}
-use Rattle.frame.specs.Bytes.{Bytes, all}
+use Rattle.bytes.specs.Bytes.{Bytes, all}
 use Rattle.moves.specs.Session.{code}
 use Rattle.moves.specs.declared.record.Record.{Record}
 use Rattle.moves.specs.declared.record.Status.{Status}

@@ -7,7 +7,7 @@ use mathlib.Core.Bool.{Bool, cond, _&&_}
 use mathlib.Core.List.{List, [], _∷_, _++_, append-nil, append-assoc}
 use mathlib.Core.Option.{Option, some}
 use lib.ListN.{length}
-use Rattle.frame.specs.Bytes.{Bytes, fix, decimal}
+use Rattle.bytes.specs.Bytes.{Bytes, fix, decimal}
 use Rattle.frame.specs.Stream.{joined}
 use Rattle.fields.specs.Field.{firstField}
 use Rattle.table.specs.Dictionary.{code35, fields}

@@ -6,9 +6,9 @@ use mathlib.Core.Bool.{Bool, true, false, not}
 use lib.Dec.{leb}
 use lib.ListN.{length, take}
 use borrow.Author.Tests.{lt-leb, le-leb, not-true, not-false}
-use Rattle.frame.specs.Bytes.{Bytes, has, within}
-use Rattle.frame.proofs.Numerals.{within-is}
-use Rattle.frame.proofs.Tests.{both}
+use Rattle.bytes.specs.Bytes.{Bytes, has, within}
+use Rattle.bytes.proofs.Numerals.{within-is}
+use Rattle.bytes.proofs.Tests.{both}
 use Rattle.moves.specs.Session.{stringTo, compID, numbered, inRange}
 use Rattle.moves.specs.Held.{held, sessionOf}
 use Rattle.moves.specs.declared.record.Record.{Record}

@@ -4,7 +4,7 @@ use mathlib.Core.List.{[]}
 use mathlib.Core.Bool.{cond}
 use lib.Dec.{leb}
 use lib.ListN.{take}
-use Rattle.frame.specs.Bytes.{Bytes}
+use Rattle.bytes.specs.Bytes.{Bytes}
 use Rattle.moves.specs.Session.{Session}
 use Rattle.moves.specs.declared.record.Record.{Record}
 

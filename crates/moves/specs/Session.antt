@@ -2,7 +2,7 @@
 use Prim.Native.Nat.{ℕ}
 use mathlib.Core.Bool.{Bool, not, _&&_}
 use lib.ListN.{length}
-use Rattle.frame.specs.Bytes.{Bytes, byte, has, within}
+use Rattle.bytes.specs.Bytes.{Bytes, byte, has, within}
 use Rattle.moves.specs.Words.{_=?_}
 use Rattle.moves.specs.declared.record.Status.{Status}
 use Rattle.moves.specs.declared.record.Status.the-variants.{Waiting, Active, Closed}

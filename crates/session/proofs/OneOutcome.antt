@@ -2,7 +2,7 @@
 -- Assumes nothing.
 use Prim.Native.Nat.{ℕ}
 use mathlib.Core.Path.{_≡_, sym, _∙_}
-use Rattle.frame.specs.Bytes.{Bytes}
+use Rattle.bytes.specs.Bytes.{Bytes}
 use Rattle.session.specs.Refusals.{No}
 use Rattle.session.specs.Calls.{Outcome, step, tick, logout, test-request, new, reconnect}
 use Rattle.moves.specs.Held.{sessionOf}

@@ -8,7 +8,7 @@ use mathlib.Core.List.{List, [], _∷_, _++_}
 use mathlib.Core.Option.{Option, none, some}
 use lib.ListN.{length}
 use borrow.Author.Tests.{lt-ltb, le-ltb, lt-leb, le-leb, leb-false, ltb-false, not-true, not-false}
-use Rattle.frame.specs.Bytes.{Bytes, Byted}
+use Rattle.bytes.specs.Bytes.{Bytes, Byted}
 use Rattle.calendar.specs.Time.{limit}
 use Rattle.moves.specs.Words.{first, _when_}
 use Rattle.moves.specs.Session.{_==_, Session, stringTo, inRange}

@@ -29,7 +29,7 @@ use played::unchanged;
 ghost use mathlib.Core.Path.{_≡_};
 ghost use Prim.Native.Nat.{_≤_, _<_};
 ghost use lib.ListN.{length};
-ghost use Rattle.frame.specs.Bytes.{Bytes};
+ghost use Rattle.bytes.specs.Bytes.{Bytes};
 ghost use Rattle.calendar.specs.Time.{limit};
 ghost use Rattle.session.specs.Refusals.{No};
 ghost use Rattle.moves.specs.Session.{turned};

@@ -2,8 +2,8 @@
 use native.Mathlib.Omega.{arith}
 use mathlib.Core.Path.{_≡_, refl, sym}
 use mathlib.Core.Bool.{Bool, true, false, false≢true}
-use Rattle.frame.specs.Bytes.{all}
-use Rattle.frame.proofs.Tests.{all-at}
+use Rattle.bytes.specs.Bytes.{all}
+use Rattle.bytes.proofs.Tests.{all-at}
 use Rattle.table.specs.Dictionary.{walked}
 use Rattle.table.specs.code.Held.{agree}
 use Rattle.table.specs.declared.MsgType.{MsgType}

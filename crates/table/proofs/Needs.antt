@@ -10,8 +10,8 @@ use mathlib.Core.Option.{none, some}
 use lib.Dec.{eqb, leb, ltb}
 use lib.ListN.{length, getD}
 use lib.Seq.{drop-cons}
-use Rattle.frame.specs.Bytes.{has}
-use Rattle.frame.proofs.Tests.{both}
+use Rattle.bytes.specs.Bytes.{has}
+use Rattle.bytes.proofs.Tests.{both}
 use Rattle.kinds.specs.Kind.{day}
 use Rattle.table.specs.Dictionary.{Row, №453, №580, header, fields}
 use Rattle.table.specs.code.Held.{tagCount, rowCount, agree, tagAt, allRows, rowsIn, rightRow, rightRows, InRows, lackedBy, unmet, Lacking, Marked}

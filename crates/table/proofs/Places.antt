@@ -18,7 +18,7 @@ use Rattle.table.specs.declared.MsgType.{MsgType}
 use Rattle.table.specs.declared.lines.Entry.{Entry}
 use Rattle.table.specs.declared.lines.Line.{Line}
 use Rattle.table.proofs.Lists.{agree-true, all-walked}
-use Rattle.frame.proofs.Tests.{both, all-at, map-at, has-next}
+use Rattle.bytes.proofs.Tests.{both, all-at, map-at, has-next}
 
 pub tags-long : length tags ≡ tagCount
 unfolding allRows tags header fields №453 №580

@@ -7,8 +7,8 @@ use mathlib.Core.Bool.{Bool, true, false, not, _&&_, _||_, false≢true}
 use mathlib.Core.Option.{Option, none, some}
 use lib.Dec.{eqb}
 use borrow.Author.Tests.{eqb-true, eq-eqb, not-true}
-use Rattle.frame.specs.Bytes.{Bytes, any, all, has, within}
-use Rattle.frame.proofs.Tests.{both, neither, or-last}
+use Rattle.bytes.specs.Bytes.{Bytes, any, all, has, within}
+use Rattle.bytes.proofs.Tests.{both, neither, or-last}
 use Rattle.table.specs.declared.MsgType.{MsgType}
 use Rattle.dictionary.specs.declared.Verdict.the-variants.{Clean}
 use Rattle.table.specs.Dictionary.{Row, header, fields, administrative, listed, groupsOf, member, rowsOf, frameTag, inDictionary}

@@ -12,7 +12,7 @@ use lib.Seq.{take-append-seam, drop-append-seam}
 use borrow.Author.Tests.{ltb-true, ltb-false}
 use Rattle.bytes.specs.Bytes.{Bytes, has, value, decimal, Byted}
 use Rattle.fields.specs.Field.{firstField}
-use Rattle.frame.proofs.Decimals.{decimal-worth}
+use Rattle.bytes.proofs.Decimals.{decimal-worth}
 use Rattle.table.specs.declared.MsgType.{MsgType}
 use Rattle.table.specs.Dictionary.{code35, administrative}
 use Rattle.writer.specs.Message.{Value, absent, number, bytes, shown, row, message, written}

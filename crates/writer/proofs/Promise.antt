@@ -7,8 +7,8 @@ use mathlib.Core.Bool.{Bool, true}
 use mathlib.Core.Option.{none}
 use lib.ListN.{length, take}
 use borrow.Author.Tests.{le-leb}
-use Rattle.frame.specs.Bytes.{Bytes, Byted}
-use Rattle.frame.proofs.Tests.{both-true}
+use Rattle.bytes.specs.Bytes.{Bytes, Byted}
+use Rattle.bytes.proofs.Tests.{both-true}
 use Rattle.table.specs.declared.MsgType.{MsgType}
 use Rattle.writer.specs.Message.{Value}
 use Rattle.writer.specs.Call.{Outcome, Writes, numbers}

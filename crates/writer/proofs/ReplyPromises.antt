@@ -4,7 +4,7 @@ use mathlib.Core.Path.{_≡_, refl}
 use mathlib.Core.List.{List, [], _∷_}
 use mathlib.Core.Bool.{Bool, true, false, cond}
 use lib.Dec.{eqb}
-use Rattle.frame.specs.Bytes.{Bytes, fix, Byted}
+use Rattle.bytes.specs.Bytes.{Bytes, fix, Byted}
 use Rattle.table.specs.declared.MsgType.the-variants.{Heartbeat, TestRequest, ResendRequest, Reject, SequenceReset, Logout, Logon}
 use Rattle.table.specs.Dictionary.{code35, administrative}
 use Rattle.writer.specs.Message.{absent, number, bytes, Field, _is_, shown, given}

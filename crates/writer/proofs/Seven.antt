@@ -10,9 +10,9 @@ use lib.Dec.{eqb}
 use lib.ListN.{length}
 use native.Mathlib.Omega.{arith}
 use borrow.Author.Tests.{eqb-true}
-use Rattle.frame.specs.Bytes.{Bytes, any, all, has, same, within, decimal}
+use Rattle.bytes.specs.Bytes.{Bytes, any, all, has, same, within, decimal}
 use Rattle.table.specs.Dictionary.{header, fields, №453, №580, code35, typeOf, administrative, listed, groupsOf, member, rowsOf, frameTag, inDictionary}
-use Rattle.frame.proofs.Tests.{both}
+use Rattle.bytes.proofs.Tests.{both}
 use Rattle.kinds.proofs.Values.{same-true}
 use Rattle.dictionary.specs.Verdict.{msgType}
 use Rattle.fields.specs.Field.{firstField}

@@ -3,7 +3,7 @@ use mathlib.Core.Path.{_≡_}
 use mathlib.Core.List.{[], _∷_, _++_}
 use mathlib.Core.Bool.{true, false}
 use lib.ListN.{replicate}
-use Rattle.frame.specs.Bytes.{Bytes, fix}
+use Rattle.bytes.specs.Bytes.{Bytes, fix}
 use Rattle.table.specs.declared.MsgType.the-variants.{TestRequest, ResendRequest, Reject, SequenceReset}
 use Rattle.writer.specs.Message.{absent, number, _is_, row, message}
 use Rattle.writer.specs.Reply.{heartbeat, values, ofTestRequest, ofGapFill}

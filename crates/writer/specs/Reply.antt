@@ -3,7 +3,7 @@ use Prim.Native.Nat.{ℕ}
 use mathlib.Core.List.{List, [], _∷_}
 use mathlib.Core.Bool.{Bool, cond}
 use lib.Dec.{eqb}
-use Rattle.frame.specs.Bytes.{Bytes, fix}
+use Rattle.bytes.specs.Bytes.{Bytes, fix}
 use Rattle.table.specs.declared.MsgType.the-variants.{Heartbeat, TestRequest, ResendRequest, Reject, SequenceReset, Logout, Logon}
 use Rattle.writer.specs.Message.{Value, absent, number, bytes, Field, _is_, written, given}
 

@@ -7,7 +7,7 @@ ghost use mathlib.Core.Path.{_≡_};
 ghost use mathlib.Core.Bool.{_&&_};
 ghost use Prim.Native.Nat.{_+_, _≤_, _<_};
 ghost use lib.ListN.{length, take};
-ghost use Rattle.frame.specs.Bytes.{fix};
+ghost use Rattle.bytes.specs.Bytes.{fix};
 ghost use Rattle.table.specs.declared.MsgType.the-variants.{ResendRequest, Reject, SequenceReset, Logout, Logon};
 ghost use Rattle.writer.specs.Message.{bytes, _is_, field, row, framed, message};
 ghost use Rattle.writer.specs.Reply.{optional, unlessZero, ofLogon, ofResendRequest, ofReject, ofGapFill, ofLogout, heartbeat, testRequest, logon, resendRequest, reject, gapFill, logout};

@@ -4,7 +4,7 @@ use mathlib.Core.Path.{_≡_}
 use mathlib.Core.List.{List, [], _∷_, _++_}
 use mathlib.Core.Bool.{Bool, true, false, not, _&&_}
 use lib.Dec.{eqb}
-use Rattle.frame.specs.Bytes.{Bytes, any, has, value}
+use Rattle.bytes.specs.Bytes.{Bytes, any, has, value}
 use Rattle.fields.specs.Field.{Part, field, malformed}
 use Rattle.kinds.specs.Kind.{isNumber}
 use Rattle.table.specs.Dictionary.{Row, Group, header, fields, listed, groupsOf, rowsOf}

@@ -4,7 +4,7 @@ use mathlib.Core.Path.{_≡_}
 use mathlib.Core.Bool.{Bool, false}
 use mathlib.Core.Option.{Option}
 use lib.ListN.{length}
-use Rattle.frame.specs.Bytes.{Bytes, fix, has, decimal, Byted}
+use Rattle.bytes.specs.Bytes.{Bytes, fix, has, decimal, Byted}
 use Rattle.table.specs.declared.MsgType.{MsgType}
 use Rattle.writer.specs.Message.{Value, absent, number, bytes}
 use Rattle.writer.specs.Reply.{optional}

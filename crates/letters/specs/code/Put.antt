@@ -2,7 +2,7 @@
 use Prim.Native.Nat.{ℕ, _+_, _≤_}
 use mathlib.Core.List.{List, [], _∷_}
 use lib.ListN.{length}
-use Rattle.frame.specs.Bytes.{Bytes}
+use Rattle.bytes.specs.Bytes.{Bytes}
 use Rattle.fields.specs.Field.{firstField}
 use Rattle.dictionary.specs.Verdict.{msgType}
 use Rattle.writer.specs.Message.{Value}

@@ -4,7 +4,7 @@ use mathlib.Core.List.{List, [], _∷_, _++_}
 use mathlib.Core.Option.{Option, none, some}
 use mathlib.Core.Bool.{Bool, true, false, cond, not, _&&_}
 use lib.Dec.{eqb, ltb}
-use Rattle.frame.specs.Bytes.{Bytes, fix}
+use Rattle.bytes.specs.Bytes.{Bytes, fix}
 use Rattle.fields.specs.Field.{firstField}
 use Rattle.table.specs.declared.MsgType.{MsgType}
 use Rattle.table.specs.declared.MsgType.the-variants as MsgType

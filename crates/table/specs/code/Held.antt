@@ -7,7 +7,7 @@ use mathlib.Core.Bool.{Bool, true, false, cond, not, _&&_, _||_}
 use mathlib.Core.Option.{Option, none, some}
 use lib.Dec.{eqb, leb, ltb}
 use lib.ListN.{length, take, drop, getD}
-use Rattle.frame.specs.Bytes.{Bytes, any, all, has, same}
+use Rattle.bytes.specs.Bytes.{Bytes, any, all, has, same}
 use Rattle.kinds.specs.Kind.{Kind, text, number_to_, Y/N, time, day, among}
 use Rattle.kinds.specs.Judged.{meaning}
 use Rattle.kinds.specs.declared.Kind as Code

@@ -1,6 +1,6 @@
 -- The types of one byte, AD, and others.
 use borrow.Author.Needs.{needs}
-use Rattle.frame.specs.Bytes.{Bytes}
+use Rattle.bytes.specs.Bytes.{Bytes}
 use Rattle.table.specs.Dictionary.{typeOf, named}
 use Rattle.dictionary.proofs.Types.{one-byte, two-bytes, other-bytes}
 use mathlib.Core.Path.{ap, _∙_}

@@ -4,8 +4,8 @@ use native.Mathlib.Omega.{arith}
 use Prim.Native.Nat.{_-_, _≤_}
 use mathlib.Core.Path.{_≡_, refl, sym, _∙_}
 use lib.ListN.{length, drop}
-use Rattle.frame.specs.Bytes.{has}
-use Rattle.frame.proofs.Tests.{has-here, has-next, has-end}
+use Rattle.bytes.specs.Bytes.{has}
+use Rattle.bytes.proofs.Tests.{has-here, has-next, has-end}
 use Rattle.moves.proofs.record.has_bar.Statement.{statement}
 use Rattle.moves.proofs.record.has_bar.Tie as tie
 

@@ -5,7 +5,7 @@ use Prim.Native.Nat.{_≤_, _-_}
 use mathlib.Core.Path.{_≡_, refl, _∙_}
 use Rattle.table.proofs.Places.{place-here, place-next, place-none}
 use lib.ListN.{drop}
-use Rattle.frame.specs.Bytes.{has}
+use Rattle.bytes.specs.Bytes.{has}
 use Rattle.table.specs.code.Held.{tagCount, tags}
 use Rattle.table.proofs.lines.place_of.Statement.{statement}
 use Rattle.table.proofs.lines.place_of.Tie as tie

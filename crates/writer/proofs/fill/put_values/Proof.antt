@@ -6,7 +6,7 @@ use denote.Ref.{now}
 use mathlib.Core.Path.{_≡_, refl, sym, ap, _∙_}
 use mathlib.Core.Bool.{true, false}
 use lib.ListN.{length, take}
-use Rattle.frame.specs.Bytes.{any}
+use Rattle.bytes.specs.Bytes.{any}
 use Rattle.table.specs.declared.MsgType.{MsgType}
 use Rattle.table.specs.Dictionary.{administrative}
 use Rattle.writer.specs.Message.{row, valued}

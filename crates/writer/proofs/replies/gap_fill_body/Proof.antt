@@ -3,7 +3,7 @@ use borrow.Author.Needs.{needs}
 use native.Mathlib.Omega.{arith}
 use denote.Ref.{now}
 use mathlib.Core.List.{[], _∷_}
-use Rattle.frame.specs.Bytes.{fix}
+use Rattle.bytes.specs.Bytes.{fix}
 use Rattle.table.specs.Dictionary.{fields, code35}
 use Rattle.writer.specs.Message.{number, bytes, _is_, order, own}
 use Rattle.writer.specs.code.Ranges.{ids}

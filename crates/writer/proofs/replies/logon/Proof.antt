@@ -3,7 +3,7 @@ use borrow.Author.Needs.{needs}
 use borrow.Author.Tests.{lt-leb, le-leb}
 use native.Mathlib.Omega.{arith}
 use denote.Ref.{now}
-use Rattle.frame.specs.Bytes.{fix}
+use Rattle.bytes.specs.Bytes.{fix}
 use Rattle.table.specs.declared.MsgType.the-variants.{Logon}
 use Rattle.writer.specs.Message.{message, written}
 use Rattle.writer.specs.Reply.{logon, ofLogon, optional}
