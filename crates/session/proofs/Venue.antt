@@ -17,7 +17,8 @@ use Rattle.moves.specs.Moves.{Deeds, Write, Becomes}
 use Rattle.session.specs.Calls.{Outcome, outcome, making, refusing, spent, unsendable, testID, test-request}
 use Rattle.moves.specs.Held.{sessionOf}
 use Rattle.session.specs.Held.{answeredBy, Leaves}
-use Rattle.session.specs.code.Fit.{Text, AllFit}
+use Rattle.letters.specs.code.Fit.{Text}
+use Rattle.session.specs.code.Fit.{AllFit}
 use Rattle.session.specs.code.Played.{shut}
 use Rattle.moves.specs.code.Plan.{planned, summed, says, closes, Ready}
 use Rattle.moves.specs.declared.record.Record.{Record}

@@ -1,7 +1,6 @@
 // The session: what it does with a frame, at a tick, for a message of the venue's own, when it is new and when it reconnects.
 mod gates;
 mod own;
-mod replies;
 
 use calendar::utc;
 use frame::body_of;
@@ -9,6 +8,7 @@ use gates::is_active;
 use gates::is_spent;
 use gates::logon_gate;
 use gates::step_gate;
+use letters::put_both;
 use moves::Letter;
 use moves::Plan;
 use moves::Record;
@@ -26,7 +26,6 @@ use moves::turned;
 use moves::waiting;
 use own::is_test_id;
 use own::own_gate;
-use replies::put_both;
 ghost use mathlib.Core.Path.{_≡_};
 ghost use mathlib.Core.List.{[], _++_};
 ghost use mathlib.Core.Bool.{cond};
@@ -43,7 +42,8 @@ ghost use Rattle.session.specs.Calls.{refusing, movesOn, due, step, tick
 ghost use Rattle.moves.specs.Held.{sessionOf};
 ghost use Rattle.session.specs.Held.{Leaves, answeredBy, recordOf, answeredNew, padded};
 ghost use Rattle.moves.specs.code.Plan.{lettersOf, behind, planned, Ready};
-ghost use Rattle.session.specs.code.Played.{bytesOf, outcomeOf, AllPut};
+ghost use Rattle.letters.specs.code.Put.{bytesOf, AllPut};
+ghost use Rattle.session.specs.code.Played.{outcomeOf};
 
 // Why a call changed nothing, or closed the session.
 pub enum Refusal {

@@ -26,7 +26,7 @@ ghost use Rattle.fields.specs.Field.{firstField};
 ghost use Rattle.writer.specs.Reply.{optional, heartbeat};
 ghost use Rattle.writer.specs.Wrote.{Wrote};
 ghost use Rattle.moves.specs.Seen.{repeated};
-ghost use Rattle.session.specs.code.Played.{rejectOf, logonOf, bytesOf, AllPut, Sending};
+ghost use Rattle.letters.specs.code.Put.{rejectOf, logonOf, bytesOf, AllPut, Sending};
 ghost use Rattle.moves.specs.code.Plan.{lettersOf, behind};
 
 // A Reject of the message whose body this is.

@@ -1,0 +1,135 @@
+-- A plan's messages, put one behind the other, are the bytes of its letters.
+-- Assumes nothing.
+use Prim.Native.Nat.{ℕ, _+_, _≤_, _<_}
+use native.Mathlib.Omega.{arith}
+use mathlib.Core.Path.{_≡_, refl, sym, ap, _∙_, subst}
+use mathlib.Core.Bool.{Bool, cond, _&&_}
+use mathlib.Core.List.{List, [], _∷_, _++_, append-nil, append-assoc}
+use mathlib.Core.Option.{Option, some}
+use lib.ListN.{length}
+use Rattle.frame.specs.Bytes.{Bytes, fix, decimal}
+use Rattle.frame.specs.Stream.{joined}
+use Rattle.fields.specs.Field.{firstField}
+use Rattle.dictionary.specs.Dictionary.{code35, fields}
+use Rattle.writer.specs.Message.{Value, absent, bytes, own, order, written}
+use Rattle.writer.specs.Reply as Reply
+use Rattle.writer.specs.Wrote.{Wrote}
+use Rattle.writer.proofs.Writes.{chain, nothing}
+use Rattle.writer.specs.Replied.{sendable, nineDigits, echoable, Replied}
+use borrow.Author.Tests.{le-leb}
+use Rattle.moves.specs.Session.{fresh}
+use Rattle.moves.specs.Seen.{repeated}
+use Rattle.moves.specs.Moves as Words
+use Rattle.moves.specs.Moves.{letter, #}
+use Rattle.moves.specs.code.Plan.{lettersOf, behind}
+use Rattle.letters.specs.code.Put.{bytesOf, AllPut, rejectOf, logonOf, Sending}
+use Rattle.letters.specs.code.Fit.{FitId, FitLogon}
+use Rattle.moves.specs.declared.plan.Letter.{Letter}
+use Rattle.moves.specs.declared.plan.Letter.the-variants.{Nothing, Heartbeat, Echo, Logon, Ask, Reject, Fill, Logout, Test}
+use Rattle.letters.proofs.Replying.{was-put}
+use Rattle.letters.proofs.Carried.{logon-seconds}
+
+-- A LOGON with 98=0, a number as 108 and 1137=9 is that of the writer's replies
+pub plain-logon : (ours peers : Bytes) (n : ℕ) (stamp : Bytes) (k : ℕ) (reset : Value) → letter ours peers n stamp (Words.Logon (bytes (fix "0")) (bytes (decimal k)) (bytes (fix "9")) reset) ≡ Reply.logon ours peers n stamp k reset
+unfolding written order own fields code35 Reply.logon
+plain-logon ours peers n stamp k reset = refl
+
+-- OUR LOGON repeats the peer's 98, 108 and 1137
+pub repeats : (ours peers stamp body : Bytes) (n : ℕ) (reset : Value) → FitLogon (repeated (firstField 98 body)) (repeated (firstField 108 body)) (repeated (firstField 1137 body)) reset
+    → letter ours peers n stamp (Words.Logon (repeated (firstField 98 body)) (repeated (firstField 108 body)) (repeated (firstField 1137 body)) reset) ≡ logonOf ours peers n stamp body reset
+unfolding #
+repeats ours peers stamp body n reset F =
+    rw (F .is98, F .is108, F .is1137)
+    (plain-logon ours peers n stamp (F .interval) reset ∙ ap (λ (k : ℕ). Reply.logon ours peers n stamp k reset) (sym (logon-seconds (fresh [] []) body F)))
+
+-- LISTS OF MESSAGES
+pub bytes-append : (ours peers stamp : Bytes) (xs ys : List (ℕ × Words.Letter)) → bytesOf ours peers stamp (xs ++ ys) ≡ bytesOf ours peers stamp xs ++ bytesOf ours peers stamp ys
+bytes-append ours peers stamp [] ys = refl
+bytes-append ours peers stamp (x ∷ xs) ys = ap (λ (l : List Bytes). letter ours peers (x .0) stamp (x .1) ∷ l) (bytes-append ours peers stamp xs ys)
+
+joined-append : (xs ys : List Bytes) → joined (xs ++ ys) ≡ joined xs ++ joined ys
+joined-append [] ys = refl
+joined-append (x ∷ xs) ys = ap (λ (l : Bytes). x ++ l) (joined-append xs ys) ∙ sym (append-assoc x (joined xs) (joined ys))
+
+pub put-split : (xs ys : List (ℕ × Words.Letter)) → AllPut (xs ++ ys) → AllPut xs × AllPut ys
+put-split [] ys h = (tt, h)
+put-split (x ∷ xs) ys h = let k = put-split xs ys (h .2) in ((h .0, h .1, k .0), k .1)
+
+pub put-more : (xs ys : List (ℕ × Words.Letter)) → AllPut xs → AllPut ys → AllPut (xs ++ ys)
+put-more [] ys h k = k
+put-more (x ∷ xs) ys h k = (h .0, h .1, put-more xs ys (h .2) k)
+
+-- ONE MESSAGE, PUT
+module _ (ours peers stamp body d d′ : Bytes) (n at to : ℕ) (l : Letter) (S : Sending ours peers n at stamp d) (A : AllPut (lettersOf body n l)) where
+  abbrev Put : Type 0
+  Put = Wrote d d′ at to (joined (bytesOf ours peers stamp (lettersOf body n l))) × (to ≤ at + 187)
+
+  -- one message, in its words
+  alone : {xs : Bytes} {k : Letter} → l ≡ k → xs ++ [] ≡ joined (bytesOf ours peers stamp (lettersOf body n k)) → Wrote d d′ at to xs → to ≤ at + 187 → Put
+  alone {xs = xs} e q w h =
+      (subst (Wrote d d′ at to) (sym (append-nil xs) ∙ q ∙ ap (λ (y : Letter). joined (bytesOf ours peers stamp (lettersOf body n y))) (sym e)) w, h)
+
+  pub put-beat : {id : Bytes} → id ≡ [] → l ≡ Heartbeat → Replied (sendable ours peers n stamp at 187 (length d) && echoable id) d d′ at to 187 (Reply.heartbeat ours peers n stamp absent) → Put
+  put-beat i e R = let w = was-put S n R (rw i refl) (S .number) (S .room) in alone e refl (w .0) (w .1)
+
+  pub put-echo : l ≡ Echo → Wrote d d′ at to (Reply.heartbeat ours peers n stamp (repeated (firstField 112 body))) → to ≤ at + 187 → Put
+  put-echo e w h = alone e refl w h
+
+  pub put-logon : {anew : Bool} → l ≡ Logon anew → Wrote d d′ at to (logonOf ours peers (cond anew 1 n) stamp body (Reply.optional anew (fix "Y"))) → to ≤ at + 156 → Put
+  put-logon {anew = anew} e w h =
+      let F = subst (λ (y : Letter). AllPut (lettersOf body n y)) e A in
+      alone e (ap (λ (xs : Bytes). xs ++ []) (sym (repeats ours peers stamp body (cond anew 1 n) (Reply.optional anew (fix "Y")) (F .1)))) w (omega arith)
+
+  pub put-ask : {from : ℕ} → l ≡ Ask from → Replied (sendable ours peers n stamp at 148 (length d) && nineDigits from) d d′ at to 148 (Reply.resendRequest ours peers n stamp from) → Put
+  put-ask {from = from} e R =
+      let F = subst (λ (y : Letter). AllPut (lettersOf body n y)) e A in
+      let w = was-put S n R (le-leb from 999_999_999 (F .1 .high)) (S .number) (omega (arith, S .room)) in alone e refl (w .0) (omega (arith, w .1))
+
+  pub put-reject : {reason tag : ℕ} → l ≡ Reject reason tag → Wrote d d′ at to (rejectOf ours peers n stamp body reason tag) → to ≤ at + 173 → Put
+  put-reject e w h = alone e refl w (omega arith)
+
+  pub put-fill : {begin new : ℕ} → l ≡ Fill begin new → Replied (sendable ours peers begin stamp at 179 (length d) && nineDigits new) d d′ at to 179 (Reply.gapFill ours peers begin stamp new) → Put
+  put-fill {begin = begin} {new = new} e R =
+      let F = subst (λ (y : Letter). AllPut (lettersOf body n y)) e A in
+      let w = was-put S begin R (le-leb new 999_999_999 (F .1 .high)) (F .0) (omega (arith, S .room)) in alone e refl (w .0) (omega (arith, w .1))
+
+  pub put-logout : {why : ℕ} → l ≡ Logout why → Replied (sendable ours peers n stamp at 132 (length d) && nineDigits why) d d′ at to 132 (Reply.logout ours peers n stamp why) → Put
+  put-logout {why = why} e R =
+      let F = subst (λ (y : Letter). AllPut (lettersOf body n y)) e A in
+      let w = was-put S n R (le-leb why 999_999_999 (F .1)) (S .number) (omega (arith, S .room)) in alone e refl (w .0) (omega (arith, w .1))
+
+  pub put-test : l ≡ Test → Replied (sendable ours peers n stamp at 187 (length d) && echoable body) d d′ at to 187 (Reply.testRequest ours peers n stamp body) → Put
+  put-test e R =
+      let F = subst (λ (y : Letter). AllPut (lettersOf body n y)) e A in
+      let w = was-put S n R (le-leb (length body) 64 (F .1 .short)) (S .number) (S .room) in alone e refl (w .0) (w .1)
+
+pub put-nothing : (ours peers stamp body d : Bytes) (n at : ℕ) (l : Letter) → l ≡ Nothing → Wrote d d at at (joined (bytesOf ours peers stamp (lettersOf body n l))) × (at ≤ at + 187)
+put-nothing ours peers stamp body d n at l e = (rw e nothing, omega arith)
+
+-- what a message carries can be put
+module _ (body : Bytes) (n : ℕ) (l : Letter) (A : AllPut (lettersOf body n l)) where
+  pub echo-carried : l ≡ Echo → (v : Bytes) → firstField 112 body ≡ some v → length v ≤ 64
+  echo-carried e v q = subst (λ (o : Option Bytes). FitId (repeated o)) q (subst (λ (y : Letter). AllPut (lettersOf body n y)) e A .1) .short
+
+  pub reject-carried : {reason tag : ℕ} → l ≡ Reject reason tag → (reason < 1_000_000_000) × (tag < 1_000_000_000)
+  reject-carried e = let F = subst (λ (y : Letter). AllPut (lettersOf body n y)) e A in (omega (arith, F .1 .reason-fits), omega (arith, F .1 .tag-fits))
+
+-- TWO MESSAGES
+pub sending-at : {ours peers stamp d d′ : Bytes} {n : ℕ} (k at : ℕ) → Sending ours peers n 187 stamp d → k ≤ 999_999_999 → at + 187 ≤ length d′ → Sending ours peers k at stamp d′
+sending-at k at S h room = record { ours-short = S .ours-short; peers-short = S .peers-short; number = h; stamped = S .stamped; room = room }
+
+pub first-put : (body : Bytes) (n : ℕ) (f g : Letter) → AllPut (lettersOf body n f ++ lettersOf body (behind n f) g) → AllPut (lettersOf body n f)
+first-put body n f g A = put-split (lettersOf body n f) (lettersOf body (behind n f) g) A .0
+
+pub second-put : (body : Bytes) (n : ℕ) (f g : Letter) {m : ℕ} → m ≡ behind n f → AllPut (lettersOf body n f ++ lettersOf body (behind n f) g) → AllPut (lettersOf body m g)
+second-put body n f g e A = subst (λ (k : ℕ). AllPut (lettersOf body k g)) (sym e) (put-split (lettersOf body n f) (lettersOf body (behind n f) g) A .1)
+
+pub both-put : (ours peers stamp : Bytes) {d d₁ d₂ : Bytes} {a to : ℕ} (xs ys : List (ℕ × Words.Letter)) → Wrote d d₁ 0 a (joined (bytesOf ours peers stamp xs)) → Wrote d₁ d₂ a to (joined (bytesOf ours peers stamp ys))
+    → Wrote d d₂ 0 to (joined (bytesOf ours peers stamp (xs ++ ys)))
+both-put ours peers stamp {d = d} {d₂ = d₂} {to = to} xs ys v w =
+    subst (Wrote d d₂ 0 to) (sym (ap (λ (l : List Bytes). joined l) (bytes-append ours peers stamp xs ys) ∙ joined-append (bytesOf ours peers stamp xs) (bytesOf ours peers stamp ys))) (chain v w)
+
+pub both-letters : (ours peers stamp body : Bytes) (n : ℕ) (f g : Letter) {d d₁ d₂ : Bytes} {a to m : ℕ} → m ≡ behind n f → Wrote d d₁ 0 a (joined (bytesOf ours peers stamp (lettersOf body n f)))
+    → Wrote d₁ d₂ a to (joined (bytesOf ours peers stamp (lettersOf body m g))) → Wrote d d₂ 0 to (joined (bytesOf ours peers stamp (lettersOf body n f ++ lettersOf body (behind n f) g)))
+both-letters ours peers stamp body n f g {d₁ = d₁} {d₂ = d₂} {a = a} {to = to} e v w =
+    both-put ours peers stamp (lettersOf body n f) (lettersOf body (behind n f) g) v (subst (λ (k : ℕ). Wrote d₁ d₂ a to (joined (bytesOf ours peers stamp (lettersOf body k g)))) e w)
