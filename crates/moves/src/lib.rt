@@ -3,6 +3,7 @@ mod plan;
 mod reads;
 mod record;
 mod rules;
+mod serving;
 
 pub use plan::Letter;
 pub use plan::Plan;

@@ -15,6 +15,9 @@ use crate::reads::number_at;
 use crate::reads::number_in;
 use crate::reads::type_in;
 use crate::record::Record;
+use crate::serving::fill_to;
+use crate::serving::serve;
+use crate::serving::unserved_tag;
 use dictionary::Verdict;
 use dictionary::verdict_on;
 use fields::Place;
@@ -23,10 +26,9 @@ ghost use mathlib.Core.Path.{_≡_};
 ghost use lib.Dec.{eqb};
 ghost use Rattle.fields.specs.First.{First};
 ghost use Rattle.dictionary.specs.Verdict.{msgType};
-ghost use Rattle.moves.specs.Words.{_otherwise_};
-ghost use Rattle.moves.specs.Moves.{N, counted, unserved, served, waiting, active, bare-reset, too-high, too-low, filled, in-turn};
+ghost use Rattle.moves.specs.Moves.{N, waiting, active, bare-reset, too-high, too-low, filled, in-turn};
 ghost use Rattle.moves.specs.Held.{sessionOf};
-ghost use Rattle.moves.specs.code.Plan.{planned, summed, closes, raised, rejectedBy, strangeTag, unservedTag, fillTo, isBareReset, typeByte, Ready};
+ghost use Rattle.moves.specs.code.Plan.{planned, summed, closes, raised, rejectedBy, strangeTag, isBareReset, typeByte, Ready};
 
 fn rejected(v: Verdict) -> Letter
     ensures { λ l. ⌜ l ≡ rejectedBy v ⌝ }
@@ -39,6 +41,13 @@ fn rejected(v: Verdict) -> Letter
         },
         Verdict::NoBody => Letter::Reject { reason: 0, tag: 0 },
     }
+}
+
+// Rule 1: 34 unreadable.
+fn rule_1(r: Record) -> Plan
+    ensures { λ p. ⌜ p ≡ closes (sessionOf r) (Letter.Logout 101) Letter.Nothing (r .expected) ⌝ }
+{
+    closing(r, Letter::Logout { why: 101 }, Letter::Nothing, r.expected)
 }
 
 // Rule 2: the tag of the CompID that is missing or not as it should be, or 0.
@@ -71,7 +80,7 @@ pub fn strange_tag(r: Record, body: &[u8]) -> u64
 }
 
 // Rule 2: Reject 9 with the tag, then Logout; E + 1 if N = E.
-fn stranger(r: Record, n: u64, tag: u64) -> Plan
+fn rule_2(r: Record, n: u64, tag: u64) -> Plan
     requires { ⌜ Ready r ⌝ }
     ensures { λ p. ⌜ p ≡ closes (sessionOf r) (Letter.Reject 9 tag) (Letter.Logout 101) (raised (eqb n (r .expected)) (r .expected)) ⌝ }
 {
@@ -85,7 +94,7 @@ fn stranger(r: Record, n: u64, tag: u64) -> Plan
 }
 
 // Rule 3: type 4 without 123=Y.
-fn bare_reset(r: Record, body: &[u8]) -> Plan
+fn rule_3(r: Record, body: &[u8]) -> Plan
     ensures { λ p. ⌜ planned (now (body .entry)) (sessionOf r) p ≡ summed (sessionOf r) (bare-reset (sessionOf r) (now (body .entry))) ⌝ }
 {
     let v = verdict_on(body);
@@ -99,42 +108,8 @@ fn bare_reset(r: Record, body: &[u8]) -> Plan
     expecting(r, to)
 }
 
-// Why a Resend Request is not served: the tag, or 0.
-fn unserved_tag(r: Record, body: &[u8]) -> u64
-    requires { ⌜ Ready r ⌝ }
-    ensures { λ t. ⌜ t ≡ unservedTag (sessionOf r) (now (body .entry)) ⌝ }
-{
-    let begin = number_in(body, 7, 0);
-    if r.next - 1 < begin {
-        return 7;
-    }
-    let end = number_in(body, 16, 0);
-    if end == 0 {
-        return 0;
-    }
-    if end < begin {
-        return 16;
-    }
-    0
-}
-
-// The number to which a gap fill goes.
-fn fill_to(r: Record, body: &[u8]) -> u64
-    requires { ⌜ Ready r ⌝ }
-    ensures { λ n. ⌜ n ≡ fillTo (sessionOf r) (now (body .entry)) ⌝ }
-{
-    let end = number_in(body, 16, 0);
-    if end == 0 {
-        return r.next - 1 + 1;
-    }
-    if end <= r.next - 1 {
-        return end + 1;
-    }
-    r.next - 1 + 1
-}
-
 // Rule 4: N > E.
-fn too_high(r: Record, t: u8, body: &[u8]) -> Plan
+fn rule_4(r: Record, t: u8, body: &[u8]) -> Plan
     requires { ⌜ Ready r × (t ≡ typeByte (msgType (now body))) ⌝ }
     ensures { λ p. ⌜ planned (now (body .entry)) (sessionOf r) p ≡ summed (sessionOf r) (too-high (sessionOf r) (now (body .entry))) ⌝ }
 {
@@ -155,7 +130,7 @@ fn too_high(r: Record, t: u8, body: &[u8]) -> Plan
 }
 
 // Rule 5: N < E.
-fn too_low(r: Record, body: &[u8]) -> Plan
+fn rule_5(r: Record, body: &[u8]) -> Plan
     ensures { λ p. ⌜ planned (now (body .entry)) (sessionOf r) p ≡ summed (sessionOf r) (too-low (sessionOf r) (now (body .entry))) ⌝ }
 {
     if !holds(body, 43, b"Y") {
@@ -174,20 +149,6 @@ fn too_low(r: Record, body: &[u8]) -> Plan
     saying(r, Letter::Nothing, Letter::Nothing)
 }
 
-// Rule 6, type 2: "Serving 7=b, 16=e".
-fn serve(r: Record, body: &[u8]) -> Plan
-    requires { ⌜ Ready r ⌝ }
-    ensures { λ p. ⌜ planned (now (body .entry)) (sessionOf r) p ≡ summed (sessionOf r) (counted (sessionOf r) (now (body .entry)) (unserved (sessionOf r) (now (body .entry)) otherwise served (sessionOf r) (now (body .entry)))) ⌝ }
-{
-    let tag = unserved_tag(r, body);
-    if tag != 0 {
-        return counting(r, Letter::Reject { reason: 5, tag });
-    }
-    let begin = number_in(body, 7, 0);
-    let new = fill_to(r, body);
-    counting(r, Letter::Fill { begin, new })
-}
-
 // Rule 6, type 4: a gap fill.
 fn filled(r: Record, n: u64, body: &[u8]) -> Plan
     requires { ⌜ Ready r × (n ≡ N (sessionOf r) (now body)) ⌝ }
@@ -201,7 +162,7 @@ fn filled(r: Record, n: u64, body: &[u8]) -> Plan
 }
 
 // Rule 6: N = E.
-fn in_turn(r: Record, n: u64, t: u8, body: &[u8]) -> Plan
+fn rule_6(r: Record, n: u64, t: u8, body: &[u8]) -> Plan
     requires { ⌜ Ready r × (n ≡ N (sessionOf r) (now body)) × (t ≡ typeByte (msgType (now body))) ⌝ }
     ensures { λ p. ⌜ planned (now (body .entry)) (sessionOf r) p ≡ summed (sessionOf r) (in-turn (sessionOf r) (now (body .entry))) ⌝ }
 {
@@ -251,7 +212,7 @@ fn is_bare_reset(t: u8, body: &[u8]) -> bool
     !holds(body, 123, b"Y")
 }
 
-// While Active: the first rule that fits. Rule 1, 34 unreadable, stands here; a number that can be read is not 0.
+// While Active: the first rule that fits. A number that can be read is not 0.
 pub fn active(r: Record, body: &[u8]) -> Plan
     requires { ⌜ Ready r ⌝ }
     ensures { λ p. ⌜ planned (now (body .entry)) (sessionOf r) p ≡ summed (sessionOf r) (active (sessionOf r) (now (body .entry))) ⌝ }
@@ -263,23 +224,23 @@ pub fn active(r: Record, body: &[u8]) -> Plan
     let n = number_at(body, 34, number, 1);
     let e = r.expected;
     if n == 0 {
-        return closing(r, Letter::Logout { why: 101 }, Letter::Nothing, r.expected);
+        return rule_1(r);
     }
     let tag = strange_at(r, body, sender, target);
     if tag != 0 {
-        return stranger(r, n, tag);
+        return rule_2(r, n, tag);
     }
     let t = type_in(body);
     if is_bare_reset(t, body) {
-        return bare_reset(r, body);
+        return rule_3(r, body);
     }
     if e < n {
-        return too_high(r, t, body);
+        return rule_4(r, t, body);
     }
     if n < e {
-        return too_low(r, body);
+        return rule_5(r, body);
     }
-    in_turn(r, n, t, body)
+    rule_6(r, n, t, body)
 }
 
 // While Waiting: a logon that is accepted, or is answered by our Logout.

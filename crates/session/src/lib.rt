@@ -1,49 +1,43 @@
 // The session: what it does with a frame, at a tick, for a message of the venue's own, when it is new and when it reconnects.
+mod begin;
 mod gates;
 mod own;
+mod played;
 
-use calendar::utc;
+use begin::blank;
+use begin::in_eleven;
 use frame::body_of;
 use gates::is_active;
 use gates::is_spent;
 use gates::logon_gate;
 use gates::step_gate;
-use letters::put_both;
 use moves::Letter;
-use moves::Plan;
 use moves::Record;
 use moves::Status;
 use moves::active;
 use moves::beating;
-use moves::changed;
 use moves::closing;
 use moves::in_range;
 use moves::is_comp_id;
-use moves::is_quiet;
-use moves::next_after;
 use moves::saying;
 use moves::turned;
 use moves::waiting;
 use own::is_test_id;
 use own::own_gate;
+use played::play;
+use played::unchanged;
 ghost use mathlib.Core.Path.{_≡_};
-ghost use mathlib.Core.List.{[], _++_};
-ghost use mathlib.Core.Bool.{cond};
 ghost use Prim.Native.Nat.{_≤_, _<_};
-ghost use lib.ListN.{length, take};
+ghost use lib.ListN.{length};
 ghost use Rattle.frame.specs.Bytes.{Bytes};
-ghost use Rattle.frame.specs.Stream.{joined};
-ghost use Rattle.calendar.specs.Time.{utc, limit};
-ghost use Rattle.writer.specs.Wrote.{Wrote};
+ghost use Rattle.calendar.specs.Time.{limit};
 ghost use Rattle.session.specs.Refusals.{No};
-ghost use Rattle.moves.specs.Session.{turned, fresh};
+ghost use Rattle.moves.specs.Session.{turned};
 ghost use Rattle.session.specs.declared.Answer.the-variants as Answer;
 ghost use Rattle.session.specs.Calls.{refusing, movesOn, due, step, tick, logout, test-request, new, reconnect};
 ghost use Rattle.moves.specs.Held.{sessionOf};
-ghost use Rattle.session.specs.Held.{Leaves, answeredBy, recordOf, answeredNew, padded};
-ghost use Rattle.moves.specs.code.Plan.{lettersOf, behind, planned, Ready};
-ghost use Rattle.letters.specs.code.Put.{bytesOf, AllPut};
-ghost use Rattle.session.specs.code.Played.{outcomeOf};
+ghost use Rattle.session.specs.Held.{Leaves, answeredBy, answeredNew};
+ghost use Rattle.moves.specs.code.Plan.{Ready};
 
 // Why a call changed nothing, or closed the session.
 pub enum Refusal {
@@ -115,78 +109,6 @@ fn refused(r: Record, k: Refusal) -> Answered
         Refusal::NotOneFrame => unchanged(r, answer),
         Refusal::BadRecord => unchanged(r, answer),
     }
-}
-
-fn unchanged(r: Record, answer: Answer) -> Answered
-    ensures { λ a. ⌜ a ≡ record { answer = answer; after = r; len = 0 } ⌝ }
-{
-    Answered {
-        answer,
-        after: r,
-        len: 0,
-    }
-}
-
-pub fn answer_of(delivered: bool) -> Answer
-    ensures { λ a. ⌜ a ≡ cond delivered Answer.Delivered Answer.Done ⌝ }
-{
-    if delivered {
-        return Answer::Delivered;
-    }
-    Answer::Done
-}
-
-// The messages of a plan, from the record as it was.
-fn stamped(
-    r: Record,
-    first: Letter,
-    second: Letter,
-    body: &[u8],
-    time: u64,
-    buf: &mut [u8],
-) -> usize
-    requires { ⌜ Ready r ⌝ }
-    requires { ⌜ (512 ≤ length (now buf)) × (time < limit) × AllPut (lettersOf (now body) (r .next) first ++ lettersOf (now body) (behind (r .next) first) second) ⌝ }
-    ensures bytes { λ n. ⌜ Wrote (now (buf .entry)) (now (buf .exit)) 0 n (joined (bytesOf (take (r .oursLen) (r .ours)) (take (r .peerLen) (r .peer)) (utc time) (lettersOf (now (body .entry)) (r .next) first ++ lettersOf (now (body .entry)) (behind (r .next) first) second))) ⌝ }
-    ensures room { λ n. ⌜ n ≤ 512 ⌝ }
-{
-    let stamp = utc(time);
-    let ours = r.ours;
-    let o = r.oursLen;
-    let peer = r.peer;
-    let p = r.peerLen;
-    put_both(
-        first,
-        second,
-        buf,
-        &ours[..o],
-        &peer[..p],
-        r.next,
-        &stamp,
-        body,
-    )
-}
-
-// A plan, carried out: its messages are put, and the record changed. One that writes nothing needs no time in words.
-fn play(r: Record, p: Plan, body: &[u8], time: u64, buf: &mut [u8]) -> Answered
-    requires { ⌜ Ready r ⌝ }
-    requires { ⌜ (512 ≤ length (now buf)) × (time < limit) × AllPut (planned (now body) (sessionOf r) p .letters) ⌝ }
-    ensures { λ a. ⌜ Leaves r (outcomeOf time (sessionOf r) (planned (now (body .entry)) (sessionOf r) p) (now (buf .entry))) a (now (buf .exit)) ⌝ }
-{
-    let first = p.first;
-    let second = p.second;
-    let st = p.status;
-    let answer = answer_of(p.delivered);
-    let next = next_after(second, next_after(first, r.next));
-    if is_quiet(first, second) {
-        return unchanged(
-            changed(r, st, p.expected, next, p.heartbeat, r.sent),
-            answer,
-        );
-    }
-    let len = stamped(r, first, second, body, time, buf);
-    let after = changed(r, st, p.expected, next, p.heartbeat, time);
-    Answered { answer, after, len }
 }
 
 // A step that no refusal before the moves stopped.
@@ -305,20 +227,6 @@ pub fn test_request(r: Record, id: &[u8], time: u64, buf: &mut [u8]) -> Answered
     }
 }
 
-// A CompID in eleven bytes, with zeros behind it.
-fn in_eleven(c: &[u8]) -> [u8; 11]
-    requires { ⌜ length (now c) ≤ 11 ⌝ }
-    ensures { λ r. ⌜ r ≡ padded (now (c .entry)) ⌝ }
-{
-    let mut a = [0u8; 11];
-    let mut i = 0;
-    while i < c.len() {
-        a[i] = c[i];
-        i += 1;
-    }
-    a
-}
-
 // A new session between two CompIDs.
 pub fn new(ours: &[u8], peer: &[u8]) -> Answered
     ensures { λ a. ⌜ a ≡ answeredNew (new (now (ours .entry)) (now (peer .entry))) ⌝ }
@@ -341,21 +249,4 @@ pub fn new(ours: &[u8], peer: &[u8]) -> Answered
         sent: 0,
     };
     unchanged(r, Answer::Done)
-}
-
-// As new, but Closed and both CompIDs empty.
-fn blank() -> Record
-    ensures { λ r. ⌜ r ≡ recordOf (turned Status.Closed (fresh [] [])) ⌝ }
-{
-    Record {
-        ours: [0; 11],
-        oursLen: 0,
-        peer: [0; 11],
-        peerLen: 0,
-        status: Status::Closed,
-        expected: 1,
-        next: 1,
-        heartbeat: 30,
-        sent: 0,
-    }
 }

@@ -4,8 +4,8 @@ use Rattle.moves.proofs.Choosing.{choosing, is-N}
 use Rattle.moves.proofs.rules.active.Statement.{statement}
 use Rattle.moves.proofs.rules.active.Tie as tie
 
-in-turn-requires : tie.Need-in-turn-requires
-in-turn-requires c κs = (c .before .before .before .before .before .before .before .before .before .before .before .pre, is-N _ (c .before .before .before .before .before .before .before .before .number-at .ensures), c .before .before .before .before .type-in .ensures)
+rule-6-requires : tie.Need-rule-6-requires
+rule-6-requires c κs = (c .before .before .before .before .before .before .before .before .before .before .before .pre, is-N _ (c .before .before .before .before .before .before .before .before .number-at .ensures), c .before .before .before .before .type-in .ensures)
 
 pub active-spec : {M : Type 1} → statement M
 active-spec =
@@ -26,5 +26,5 @@ active-spec =
     (λ c. search choosing)
     (λ c κs. search needs)
     (λ c. search choosing)
-    in-turn-requires
+    rule-6-requires
     (λ c. search choosing))

@@ -1,19 +1,23 @@
 use borrow.Author.Needs.{needs}
 use native.Mathlib.Omega.{arith}
 use Rattle.moves.proofs.Deciding.{deciding}
-use Rattle.moves.proofs.rules.too_low.Statement.{statement}
-use Rattle.moves.proofs.rules.too_low.Tie as tie
+use Rattle.moves.proofs.rules.rule_4.Statement.{statement}
+use Rattle.moves.proofs.rules.rule_4.Tie as tie
 
-pub too-low-spec : {M : Type 1} → statement M
-too-low-spec =
+pub rule-4-spec : {M : Type 1} → statement M
+rule-4-spec =
     tie.close
     (tie.spec
-    (λ c. search needs)
+    (λ c κs. search needs)
+    (λ c. search deciding)
+    (λ c κs. search needs)
     (λ c κs. search needs)
     (λ c κs. search needs)
     (λ c. search deciding)
     (λ c κs. search needs)
     (λ c κs. search needs)
     (λ c. search deciding)
+    (λ c κs. search needs)
+    (λ c κs. search needs)
     (λ c κs. search needs)
     (λ c. search deciding))

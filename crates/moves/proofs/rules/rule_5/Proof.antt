@@ -1,17 +1,19 @@
 use borrow.Author.Needs.{needs}
 use native.Mathlib.Omega.{arith}
 use Rattle.moves.proofs.Deciding.{deciding}
-use Rattle.moves.proofs.rules.serve.Statement.{statement}
-use Rattle.moves.proofs.rules.serve.Tie as tie
+use Rattle.moves.proofs.rules.rule_5.Statement.{statement}
+use Rattle.moves.proofs.rules.rule_5.Tie as tie
 
-pub serve-spec : {M : Type 1} → statement M
-serve-spec =
+pub rule-5-spec : {M : Type 1} → statement M
+rule-5-spec =
     tie.close
     (tie.spec
+    (λ c. search needs)
     (λ c κs. search needs)
     (λ c κs. search needs)
     (λ c. search deciding)
     (λ c κs. search needs)
     (λ c κs. search needs)
+    (λ c. search deciding)
     (λ c κs. search needs)
     (λ c. search deciding))

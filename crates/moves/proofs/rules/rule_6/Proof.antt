@@ -1,11 +1,11 @@
 use borrow.Author.Needs.{needs}
 use native.Mathlib.Omega.{arith}
 use Rattle.moves.proofs.Choosing.{choosing}
-use Rattle.moves.proofs.rules.in_turn.Statement.{statement}
-use Rattle.moves.proofs.rules.in_turn.Tie as tie
+use Rattle.moves.proofs.rules.rule_6.Statement.{statement}
+use Rattle.moves.proofs.rules.rule_6.Tie as tie
 
-pub in-turn-spec : {M : Type 1} → statement M
-in-turn-spec =
+pub rule-6-spec : {M : Type 1} → statement M
+rule-6-spec =
     tie.close
     (tie.spec
     (λ c. search needs)

@@ -4,8 +4,8 @@ use Rattle.moves.proofs.Deciding.{fill-all, fill-last}
 use Rattle.moves.specs.Held.{sessionOf}
 use native.Mathlib.Omega.{arith}
 use Rattle.moves.proofs.Deciding.{deciding}
-use Rattle.moves.proofs.rules.fill_to.Statement.{statement}
-use Rattle.moves.proofs.rules.fill_to.Tie as tie
+use Rattle.moves.proofs.serving.fill_to.Statement.{statement}
+use Rattle.moves.proofs.serving.fill_to.Tie as tie
 
 returns : tie.Need-returns
 returns c = fill-all (sessionOf (c .before .before .before .before .args .r)) _ (c .before .before .number-in .ensures) (c .before .if1 .taken)

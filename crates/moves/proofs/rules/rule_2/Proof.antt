@@ -2,8 +2,8 @@ use borrow.Author.Needs.{needs}
 use native.Mathlib.Omega.{arith}
 use Rattle.moves.specs.Held.{sessionOf}
 use Rattle.moves.proofs.Deciding.{stranger-next, stranger-other}
-use Rattle.moves.proofs.rules.stranger.Statement.{statement}
-use Rattle.moves.proofs.rules.stranger.Tie as tie
+use Rattle.moves.proofs.rules.rule_2.Statement.{statement}
+use Rattle.moves.proofs.rules.rule_2.Tie as tie
 
 returns : tie.Need-returns
 returns c = stranger-next (sessionOf (c .before .before .args .r)) (c .before .if1 .taken) (c .closing .ensures)
@@ -11,6 +11,6 @@ returns c = stranger-next (sessionOf (c .before .before .args .r)) (c .before .i
 returns-2 : tie.Need-returns-2
 returns-2 c = stranger-other (sessionOf (c .before .before .args .r)) (c .before .if1 .left) (c .closing2 .ensures)
 
-pub stranger-spec : {M : Type 1} → statement M
-stranger-spec =
+pub rule-2-spec : {M : Type 1} → statement M
+rule-2-spec =
     tie.close (tie.spec (λ c. search needs) (λ c κs. search needs) returns (λ c κs. search needs) returns-2)

@@ -1,15 +1,14 @@
 use borrow.Author.Needs.{needs}
 use native.Mathlib.Omega.{arith}
 use Rattle.moves.proofs.Deciding.{deciding}
-use Rattle.moves.proofs.rules.too_high.Statement.{statement}
-use Rattle.moves.proofs.rules.too_high.Tie as tie
+use Rattle.moves.proofs.rules.rule_3.Statement.{statement}
+use Rattle.moves.proofs.rules.rule_3.Tie as tie
 
-pub too-high-spec : {M : Type 1} → statement M
-too-high-spec =
+pub rule-3-spec : {M : Type 1} → statement M
+rule-3-spec =
     tie.close
     (tie.spec
     (λ c κs. search needs)
-    (λ c. search deciding)
     (λ c κs. search needs)
     (λ c κs. search needs)
     (λ c κs. search needs)
@@ -17,7 +16,5 @@ too-high-spec =
     (λ c κs. search needs)
     (λ c κs. search needs)
     (λ c. search deciding)
-    (λ c κs. search needs)
-    (λ c κs. search needs)
     (λ c κs. search needs)
     (λ c. search deciding))

@@ -2,8 +2,8 @@
 use borrow.Author.Needs.{needs}
 use native.Mathlib.Omega.{arith}
 use Rattle.moves.proofs.Deciding.{deciding}
-use Rattle.moves.proofs.rules.unserved_tag.Statement.{statement}
-use Rattle.moves.proofs.rules.unserved_tag.Tie as tie
+use Rattle.moves.proofs.serving.unserved_tag.Statement.{statement}
+use Rattle.moves.proofs.serving.unserved_tag.Tie as tie
 
 pub unserved-tag-spec : {M : Type 1} → statement M
 unserved-tag-spec =
