@@ -17,7 +17,7 @@ use Rattle.writer.specs.Message.{absent, bytes}
 use Rattle.moves.specs.Words.{first, _when_, _otherwise_, speaks}
 use Rattle.moves.specs.Session.{Session}
 use Rattle.moves.specs.Seen.{isIt, repeated, isClean}
-use Rattle.moves.specs.Moves.{Deeds, Heartbeat, Write, E-becomes, Next-becomes, Deliver, #, N, type, readable, reject, rejection, logout, resend-request, counted, unserved, served, logon, reset, no-reset, waiting, stranger, rule-1, rule-2, bare-reset, rule-3, too-high, rule-4, too-low, rule-5, filled, in-turn, rule-6, active}
+use Rattle.moves.specs.Moves.{Deeds, Heartbeat, Write, Fill-to, Reset-to, Anew, Deliver, #, N, type, readable, reject, rejection, logout, resend-request, counted, unserved, served, logon, reset, no-reset, waiting, stranger, rule-1, rule-2, bare-reset, rule-3, too-high, rule-4, too-low, rule-5, filled, in-turn, rule-6, active}
 use Rattle.moves.specs.Moves.{OurPeer, bare}
 use Rattle.moves.proofs.Words.{then-by, said-when, said-first, said-otherwise, Said, not-said, all-silent}
 use Rattle.moves.proofs.Readings.{is-clean}
@@ -35,7 +35,7 @@ not-held w o h e = false≢true (sym h ∙ is-held w o e)
 
 -- A LOGON that is answered
 pub record EachLogon (P : Deeds → Type 0) (s : Session) (body : Bytes) : Type 0 where
-  pub anew : N s body ≡ 1 → P (E-becomes 2 ∷ Next-becomes 1 ∷ logon s body (bytes (fix "Y")))
+  pub anew : N s body ≡ 1 → P (Anew ∷ logon s body (bytes (fix "Y")))
   pub logged-out : P (logout s body 101)
   pub in-turn : N s body ≡ s .E → P (counted s body (logon s body absent))
   pub high : s .E < N s body → P (logon s body absent ++ resend-request s body)
@@ -66,7 +66,7 @@ module _ (P : Deeds → Type 0) (s : Session) (body : Bytes) where
   each-logon R = go (isIt (fix "Y") (firstField 141 body)) (eqb (N s body) 1) (ltb (N s body) (s .E)) (eqb (N s body) (s .E)) (ltb (s .E) (N s body)) refl refl refl refl
     where
       go : (p q l m h : Bool) → eqb (N s body) 1 ≡ q → ltb (N s body) (s .E) ≡ l → eqb (N s body) (s .E) ≡ m → ltb (s .E) (N s body) ≡ h → P (first
-          ((cond q (E-becomes 2 ∷ Next-becomes 1 ∷ logon s body (bytes (fix "Y"))) (logout s body 101) when p)
+          ((cond q (Anew ∷ logon s body (bytes (fix "Y"))) (logout s body 101) when p)
           ∷ first ((logout s body 101 when l) ∷ (counted s body (logon s body absent) when m) ∷ ((logon s body absent ++ resend-request s body) when h) ∷ [])
           ∷ []) otherwise [])
       go true true l m h a b c d = R .anew (eqb-true _ _ a)
@@ -81,10 +81,10 @@ module _ (P : Deeds → Type 0) (s : Session) (body : Bytes) where
 
   -- RULE 3
   pub each-reset : (isClean (verdict body) ≡ false → P (rejection s body)) → (isClean (verdict body) ≡ true → # s body 36 < s .E → P (reject s body 5 36))
-      → (isClean (verdict body) ≡ true → s .E ≤ # s body 36 → P (E-becomes (# s body 36) ∷ [])) → P (bare-reset s body)
+      → (isClean (verdict body) ≡ true → s .E ≤ # s body 36 → P (Reset-to (# s body 36) ∷ [])) → P (bare-reset s body)
   unfolding bare-reset
   each-reset finding low taken =
-      said-otherwise P ((rejection s body when not (isClean (verdict body))) ∷ (reject s body 5 36 when ltb (# s body 36) (s .E)) ∷ []) (E-becomes (# s body 36) ∷ [])
+      said-otherwise P ((rejection s body when not (isClean (verdict body))) ∷ (reject s body 5 36 when ltb (# s body 36) (s .E)) ∷ []) (Reset-to (# s body 36) ∷ [])
       (then-by (said-when P _ _ (λ e. finding (not-true _ e))) (λ n. let c = not-false (isClean (verdict body)) (not-said (rejection s body) _ n) in
       then-by (said-when P _ _ (λ e. low c (ltb-true _ _ e))) (λ m. taken c (ltb-false _ _ (not-said (reject s body 5 36) _ m)))))
 
@@ -121,11 +121,11 @@ module _ (P : Deeds → Type 0) (s : Session) (body : Bytes) where
       go false b = new
 
   -- RULE 6
-  pub each-gap : (# s body 36 ≤ N s body → P (counted s body (reject s body 5 36))) → (N s body < # s body 36 → P (E-becomes (# s body 36) ∷ [])) → P (filled s body)
+  pub each-gap : (# s body 36 ≤ N s body → P (counted s body (reject s body 5 36))) → (N s body < # s body 36 → P (Fill-to (# s body 36) ∷ [])) → P (filled s body)
   unfolding filled
   each-gap low taken = go (leb (# s body 36) (N s body)) refl
     where
-      go : (b : Bool) → leb (# s body 36) (N s body) ≡ b → P (cond b (counted s body (reject s body 5 36)) (E-becomes (# s body 36) ∷ []))
+      go : (b : Bool) → leb (# s body 36) (N s body) ≡ b → P (cond b (counted s body (reject s body 5 36)) (Fill-to (# s body 36) ∷ []))
       go true e = low (leb-true _ _ e)
       go false e = taken (leb-false _ _ e)
 

@@ -43,8 +43,10 @@ letter ours peers n time (TestRequest id) = Reply.testRequest ours peers n time 
 pub data Deed : Type 0 where
   Write : Letter → Deed  -- with the next number, which it uses
   Resend : ℕ → Letter → Deed  -- with that number; it uses no new one
-  E-becomes : ℕ → Deed
-  Next-becomes : ℕ → Deed
+  Count : Deed  -- E + 1
+  Fill-to : ℕ → Deed  -- E becomes that, by a gap fill
+  Reset-to : ℕ → Deed  -- E becomes that, by a Sequence Reset without 123=Y
+  Anew : Deed  -- the numbers begin anew: E is 2, the next out is 1
   Heartbeat-becomes : ℕ → Deed
   Becomes : Status → Deed
   Deliver : Deed
@@ -101,7 +103,7 @@ module _ (s : Session) (body : Bytes) where
 
   -- what is done, and then E + 1
   abbrev pub counted : Deeds → Deeds
-  counted ds = ds ++ (E-becomes (E + 1) ∷ [])
+  counted ds = ds ++ (Count ∷ [])
 
   -- WAITING
   -- "Field 34 unreadable, wrong CompIDs or any verdict, refusal 4."
@@ -118,7 +120,7 @@ module _ (s : Session) (body : Bytes) where
 
   -- "141=Y: with N = 1, E is 2, our Logon with 141=Y goes out as number 1, and the next is 2; else Logout."
   unfoldable pub reset : Option Deeds
-  reset = (if N =? 1 then E-becomes 2 ∷ Next-becomes 1 ∷ logon (bytes (fix "Y")) else logout 101) when 141 holds fix "Y"
+  reset = (if N =? 1 then Anew ∷ logon (bytes (fix "Y")) else logout 101) when 141 holds fix "Y"
 
   -- "Without 141=Y: N < E, Logout; N = E, Logon, E + 1; N > E, Logon, then Resend Request from E."
   unfoldable pub no-reset : Option Deeds
@@ -169,7 +171,7 @@ module _ (s : Session) (body : Bytes) where
 
   -- "3. Type 4 without 123=Y: a verdict gives Reject; 36 below E gives Reject 5, tag 36; E stays. Otherwise E becomes 36."
   unfoldable pub bare-reset : Deeds
-  bare-reset = first (rejection when not clean ∷ reject 5 36 when # 36 <? E ∷ []) otherwise (E-becomes (# 36) ∷ [])
+  bare-reset = first (rejection when not clean ∷ reject 5 36 when # 36 <? E ∷ []) otherwise (Reset-to (# 36) ∷ [])
 
   -- "Type 4 without 123=Y"
   abbrev pub bare : Bool
@@ -196,7 +198,7 @@ module _ (s : Session) (body : Bytes) where
   -- tag 36, E + 1; else E becomes 36. Type 5: Logout, Closed. A: Reject 99, tag 35. AD, F: delivered. 0, 3: nothing.
   -- Where not said here, E + 1; elsewhere E stays."
   unfoldable pub filled : Deeds
-  filled = if # 36 ≤? N then counted (reject 5 36) else E-becomes (# 36) ∷ []
+  filled = if # 36 ≤? N then counted (reject 5 36) else Fill-to (# 36) ∷ []
 
   unfoldable pub in-turn : Deeds
   in-turn = first

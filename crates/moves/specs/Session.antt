@@ -27,12 +27,21 @@ pub record Session : Type 0 where
   pub heartbeat : ℕ
   pub sent : ℕ
 
--- every change of the record is made here: the CompIDs stay
-abbrev pub changed : Session → Status → ℕ → ℕ → ℕ → ℕ → Session
-changed s st e n h t = record { ours = s .ours; peers = s .peers; status = st; E = e; next = n; heartbeat = h; sent = t }
-
+-- every change of the record is made here, one thing at a time: the CompIDs stay
 abbrev pub turned : Status → Session → Session
-turned st s = changed s st (s .E) (s .next) (s .heartbeat) (s .sent)
+turned st s = record { ours = s .ours; peers = s .peers; status = st; E = s .E; next = s .next; heartbeat = s .heartbeat; sent = s .sent }
+
+abbrev pub expecting : ℕ → Session → Session
+expecting e s = record { ours = s .ours; peers = s .peers; status = s .status; E = e; next = s .next; heartbeat = s .heartbeat; sent = s .sent }
+
+abbrev pub numbering : ℕ → Session → Session
+numbering n s = record { ours = s .ours; peers = s .peers; status = s .status; E = s .E; next = n; heartbeat = s .heartbeat; sent = s .sent }
+
+abbrev pub beating : ℕ → Session → Session
+beating h s = record { ours = s .ours; peers = s .peers; status = s .status; E = s .E; next = s .next; heartbeat = h; sent = s .sent }
+
+abbrev pub sent-at : ℕ → Session → Session
+sent-at t s = record { ours = s .ours; peers = s .peers; status = s .status; E = s .E; next = s .next; heartbeat = s .heartbeat; sent = t }
 
 -- "A new session starts Waiting with both numbers 1, heartbeat 30, last sent 0."
 abbrev pub fresh : Bytes → Bytes → Session

@@ -3,6 +3,7 @@ ghost use mathlib.Core.Path.{_≡_};
 ghost use Rattle.bytes.specs.Bytes.{has};
 ghost use Rattle.moves.specs.Session.{changed, turned, stringTo, compID, numbered, inRange};
 ghost use Rattle.moves.specs.Held.{sessionOf, held, with};
+ghost use Rattle.moves.specs.code.Plan.{changed};
 
 // Waiting for a logon, active, or closed.
 pub enum Status {

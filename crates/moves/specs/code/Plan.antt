@@ -16,7 +16,7 @@ use Rattle.moves.specs.Words.{first, _otherwise_}
 use Rattle.moves.specs.Session.{Session}
 use Rattle.moves.specs.Seen.{isIt, repeated, numberIn, codeOf, reasonOf, tagOf}
 use Rattle.moves.specs.Moves as Words
-use Rattle.moves.specs.Moves.{Deed, Deeds, Write, Resend, E-becomes, Next-becomes, Heartbeat-becomes, Becomes, _holds_, b, e, L}
+use Rattle.moves.specs.Moves.{Deed, Deeds, Write, Resend, Count, Fill-to, Reset-to, Anew, Heartbeat-becomes, Becomes, _holds_, b, e, L}
 use Rattle.moves.specs.declared.record.Record.{Record}
 use Rattle.moves.specs.declared.record.Status.{Status}
 use Rattle.moves.specs.declared.record.Status.the-variants.{Active, Closed}
@@ -27,6 +27,10 @@ use Rattle.moves.specs.declared.plan.Letter.the-variants.{Nothing, Heart
 -- E + 1, or not
 abbrev pub raised : Bool → ℕ → ℕ
 raised c e = cond c (e + 1) e
+
+-- all changes of a record at once
+abbrev pub changed : Session → Status → ℕ → ℕ → ℕ → ℕ → Session
+changed s st e n h t = record { ours = s .ours; peers = s .peers; status = st; E = e; next = n; heartbeat = h; sent = t }
 
 -- WHAT DEEDS COME TO: whether the frame is delivered, the messages with their numbers, and the record but for its last sent
 pub record Sum : Type 0 where
@@ -40,8 +44,10 @@ pub record Sum : Type 0 where
 abbrev pub adding : Sum → Deed → Sum
 adding a (Write l) = record { delivered = a .delivered; letters = a .letters ++ ((a .next, l) ∷ []); status = a .status; E = a .E; next = a .next + 1; heartbeat = a .heartbeat }
 adding a (Resend n l) = record { delivered = a .delivered; letters = a .letters ++ ((n, l) ∷ []); status = a .status; E = a .E; next = a .next; heartbeat = a .heartbeat }
-adding a (E-becomes n) = record { delivered = a .delivered; letters = a .letters; status = a .status; E = n; next = a .next; heartbeat = a .heartbeat }
-adding a (Next-becomes n) = record { delivered = a .delivered; letters = a .letters; status = a .status; E = a .E; next = n; heartbeat = a .heartbeat }
+adding a Count = record { delivered = a .delivered; letters = a .letters; status = a .status; E = a .E + 1; next = a .next; heartbeat = a .heartbeat }
+adding a (Fill-to n) = record { delivered = a .delivered; letters = a .letters; status = a .status; E = n; next = a .next; heartbeat = a .heartbeat }
+adding a (Reset-to n) = record { delivered = a .delivered; letters = a .letters; status = a .status; E = n; next = a .next; heartbeat = a .heartbeat }
+adding a Anew = record { delivered = a .delivered; letters = a .letters; status = a .status; E = 2; next = 1; heartbeat = a .heartbeat }
 adding a (Heartbeat-becomes n) = record { delivered = a .delivered; letters = a .letters; status = a .status; E = a .E; next = a .next; heartbeat = n }
 adding a (Becomes st) = record { delivered = a .delivered; letters = a .letters; status = st; E = a .E; next = a .next; heartbeat = a .heartbeat }
 adding a Words.Deliver = record { delivered = true; letters = a .letters; status = a .status; E = a .E; next = a .next; heartbeat = a .heartbeat }
