@@ -1,7 +1,7 @@
 // The record of a session, its ranges and its changes.
 ghost use mathlib.Core.Path.{_≡_};
 ghost use Rattle.bytes.specs.Bytes.{has};
-ghost use Rattle.moves.specs.Session.{changed, turned, stringTo, compID, numbered, inRange};
+ghost use Rattle.moves.specs.Session.{turned, stringTo, compID, numbered, inRange};
 ghost use Rattle.moves.specs.Held.{sessionOf, held, with};
 ghost use Rattle.moves.specs.code.Plan.{changed};
 

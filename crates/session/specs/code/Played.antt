@@ -6,10 +6,10 @@ use mathlib.Core.Bool.{cond, not}
 use Rattle.bytes.specs.Bytes.{Bytes}
 use Rattle.calendar.specs.Time.{utc}
 use Rattle.moves.specs.Words.{_when_, first}
-use Rattle.moves.specs.Session.{Session, changed}
+use Rattle.moves.specs.Session.{Session}
 use Rattle.moves.specs.Moves as Words
 use Rattle.moves.specs.Moves.{type, acceptable}
-use Rattle.moves.specs.code.Plan.{Sum}
+use Rattle.moves.specs.code.Plan.{changed, Sum}
 use Rattle.letters.specs.code.Put.{bytesOf}
 use Rattle.session.specs.Calls.{Outcome, over}
 use Rattle.session.specs.declared.Answer.{Answer}
