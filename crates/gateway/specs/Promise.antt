@@ -1,4 +1,4 @@
--- The whole promise on one page: what a host that calls this library may rely on, in the words of documents 01 and of the three demands.
+-- The whole promise on one page: what a host that calls this library may rely on, in the words of document 01 and of the three demands.
 -- Shown once, by `promise` in proofs/Promise.antt. What each call does is its relation (Border.antt, Calls.antt), which is its whole contract.
 use Prim.Native.Nat.{ℕ, _+_, _≤_}
 use mathlib.Core.Path.{_≡_}

@@ -8,7 +8,7 @@ ghost use lib.ListN.{length, replicate};
 ghost use Rattle.moves.specs.Session.{code};
 ghost use Rattle.session.specs.Refusals.{numbers};
 ghost use Rattle.gateway.specs.Numbers.{refusalOf, valueOf};
-ghost use Rattle.gateway.specs.Record.{compIDsOf, wordsOf, saved, spare, statusOf, statusIn, recordWith};
+ghost use Rattle.gateway.specs.Record.{wordsOf, saved, spare, statusOf, statusIn, recordWith};
 ghost use Rattle.gateway.specs.code.Held.{statusHeld};
 
 // A status, if the words are a record's.
