@@ -2,7 +2,7 @@
 use Prim.Native.Nat.{ℕ, _+_, _-_, _≤_, _<_}
 use native.Mathlib.Omega.{arith}
 use mathlib.Core.Path.{_≡_, refl, sym, ap, _∙_, subst}
-use Rattle.kinds.specs.Kind.{days}
+use Rattle.dates.specs.Date.{days}
 use Rattle.calendar.specs.declared.days.Date.{Date}
 use Rattle.calendar.specs.Time.{total, counted, yearDays, date, inYear, dateOf, daysSince}
 use Rattle.calendar.proofs.Counting.{lies, counted-at, total-below}

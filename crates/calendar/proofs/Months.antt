@@ -8,7 +8,7 @@ use lib.Dec.{eqb, leb}
 use lib.ListN.{getD}
 use borrow.Author.Tests.{eqb-true, leb-true}
 use Rattle.bytes.proofs.Tests.{both, allBelow, at-below}
-use Rattle.kinds.specs.Kind.{leap, days}
+use Rattle.dates.specs.Date.{leap, days}
 use Rattle.calendar.specs.Time.{counted, yearDays, inYear}
 use Rattle.calendar.specs.code.Walk.{evened}
 use Rattle.calendar.proofs.Years.{year-days}

@@ -13,8 +13,9 @@ use Rattle.bytes.specs.Bytes.{Bytes, fix, all, digit, within, value}
 use Rattle.bytes.proofs.Numerals.{within-is}
 use Rattle.bytes.proofs.Tests.{both}
 use Rattle.bytes.proofs.Numerals.{value-below}
-use Rattle.kinds.specs.Kind.{time, like, allowed, goodDay, goodClock, days, number-at}
-use Rattle.kinds.proofs.Shapes.{like-append, like-letters}
+use Rattle.dates.specs.Date.{like, goodDay, goodClock, days, number-at}
+use Rattle.kinds.specs.Kind.{time, allowed}
+use Rattle.dates.proofs.Shapes.{like-append, like-letters}
 use Rattle.calendar.specs.declared.days.Date.{Date}
 use Rattle.calendar.specs.Time.{padded, dateOf, text, utc, limit, dayNamed, secondNamed, microseconds}
 use Rattle.calendar.proofs.Dates.{Calendar, date-only, date-below}

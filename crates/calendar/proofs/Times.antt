@@ -6,7 +6,8 @@ use mathlib.Core.Bool.{true, false}
 use lib.ListN.{length, getD}
 use borrow.Author.Tests.{le-leb}
 use Rattle.bytes.specs.Bytes.{Bytes, byte, all, has, within}
-use Rattle.kinds.specs.Kind.{time, formed, allowed, goodDay, goodClock, days, number-at}
+use Rattle.dates.specs.Date.{goodDay, goodClock, days, number-at}
+use Rattle.kinds.specs.Kind.{time, formed, allowed}
 use Rattle.calendar.specs.declared.days.Date.{Date}
 use Rattle.calendar.specs.Time.{dateOf, text, utc, limit, daysSince, microseconds}
 use Rattle.calendar.proofs.Months.{days-most}

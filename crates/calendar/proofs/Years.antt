@@ -6,8 +6,8 @@ use mathlib.Core.Path.{_≡_, refl, sym, ap, _∙_}
 use mathlib.Core.Bool.{Bool, true, false, cond, not, _&&_, _||_}
 use lib.Dec.{eqb}
 use borrow.Author.Tests.{eqb-true, eqb-false, eq-eqb, ne-eqb}
-use Rattle.kinds.specs.Kind.{leap}
-use Rattle.kinds.proofs.Months.{leap-is}
+use Rattle.dates.specs.Date.{leap}
+use Rattle.dates.proofs.Months.{leap-is}
 use Rattle.calendar.specs.Time.{total, yearDays, inYear, dateOf}
 use Rattle.calendar.specs.code.Walk.{InYear, Split}
 use Rattle.calendar.proofs.Counting.{total-behind, total-inside, counted-behind}

@@ -6,7 +6,7 @@ use mathlib.Core.List.{[], _∷_, _++_}
 use mathlib.Core.Bool.{cond}
 use lib.Dec.{ltb}
 use Rattle.bytes.specs.Bytes.{Bytes, fix}
-use Rattle.kinds.specs.Kind.{days, number-at}
+use Rattle.dates.specs.Date.{days, number-at}
 use Rattle.calendar.specs.declared.days.Date.{Date}
 
 -- COUNTING in months and in years alike: the i-th of them has `size i` days.

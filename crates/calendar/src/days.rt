@@ -1,5 +1,5 @@
 // The date of a day, by divisions: no walk over years or months.
-use kinds::is_leap;
+use dates::is_leap;
 ghost use mathlib.Core.Path.{_≡_};
 ghost use Prim.Native.Nat.{_*_, _<_, _≤_};
 ghost use Rattle.calendar.specs.Time.{dateOf, inYear, yearDays};

@@ -4,6 +4,7 @@ use mathlib.Core.List.{List, [], _∷_}
 use mathlib.Core.Bool.{cond}
 use mathlib.Core.Option.{Option, none, some}
 use Rattle.bytes.specs.Bytes.{Bytes, fix, value}
+use Rattle.dates.specs.Date.{found}
 use Rattle.kinds.specs.Kind as Words
 use Rattle.kinds.specs.Kind.{text, number_to_, Y/N, time, day, among, formed, allowed, isNumber}
 use Rattle.kinds.specs.declared.Kind.{Kind}
@@ -42,4 +43,4 @@ worth Bad = none
 
 -- 6, 5, or 0 where there is nothing to find
 unfoldable pub judged : Words.Kind → Bytes → ℕ
-judged k v = cond (formed k v) (cond (allowed k v) 0 5) 6
+judged k v = found (formed k v) (allowed k v)

@@ -2,13 +2,12 @@
 -- unless a list or group narrows them. .. 43, 97, 123, 141 are Y or N. 52, 60, 122 are `YYYYMMDD-HH:MM:SS`, alone or with 3 or 6 decimals; 75 is
 -- `YYYYMMDD`; Gregorian calendar, years 0001 to 9999, seconds 00 to 60 in any minute. Other values are strings of 1 to 32 bytes, none `|` (112: 64;
 -- 58: 256)."
-use Prim.Native.Nat.{ℕ, _%_}
-use Prim.Native.Char.{code}
+use Prim.Native.Nat.{ℕ}
 use mathlib.Core.List.{List, [], _∷_}
-use mathlib.Core.Bool.{Bool, true, false, cond, not, _&&_, _||_}
-use lib.Dec.{eqb, leb}
-use lib.ListN.{length, take, drop, getD}
-use Rattle.bytes.specs.Bytes.{Bytes, fix, any, has, same, within, digit, value, numeral}
+use mathlib.Core.Bool.{Bool, true, cond, _&&_, _||_}
+use lib.ListN.{length}
+use Rattle.bytes.specs.Bytes.{Bytes, fix, any, has, same, within, value, numeral}
+use Rattle.dates.specs.Date.{isTime, isDay, goodDay, goodClock}
 
 pub data Kind : Type 0 where
   text : ℕ → Kind  -- a string of 1 to n bytes
@@ -46,39 +45,14 @@ kindOf t = kindBy kinds t
 unfoldable pub isNumber : Bytes → Bool
 isNumber v = numeral 9 v || same v (fix "0")
 
--- The form of a value ("numbers, Y/N, the shape of dates"). In a shape a letter stands for a digit, any other byte for itself.
-abbrev pub like : Bytes → Bytes → Bool
-like [] [] = true
-like [] (x ∷ l) = false
-like (s ∷ k) [] = false
-like (s ∷ k) (x ∷ l) = cond (leb (code "A") s) (digit x) (eqb x s) && like k l
-
-abbrev pub shapes : List Bytes
-shapes = fix "YYYYMMDD-HH:MM:SS" ∷ fix "YYYYMMDD-HH:MM:SS.sss" ∷ fix "YYYYMMDD-HH:MM:SS.ssssss" ∷ []
-
+-- The form of a value ("numbers, Y/N, the shape of dates").
 unfoldable pub formed : Kind → Bytes → Bool
 formed (text n) v = true
 formed (number a to b) v = isNumber v
 formed Y/N v = same v (fix "Y") || same v (fix "N")
-formed time v = any (λ s. like s v) shapes
-formed day v = like (fix "YYYYMMDD") v
+formed time v = isTime v
+formed day v = isDay v
 formed (among l) v = true
-
-abbrev pub number-at : ℕ → ℕ → Bytes → ℕ  -- the number that n digits write, from place i
-number-at i n v = value (take n (drop i v))
-
-abbrev pub leap : ℕ → Bool
-leap y = eqb (y % 4) 0 && not (eqb (y % 100) 0) || eqb (y % 400) 0
-
-abbrev pub days : ℕ → ℕ → ℕ
-days y m = getD (0 ∷ 31 ∷ cond (leap y) 29 28 ∷ 31 ∷ 30 ∷ 31 ∷ 30 ∷ 31 ∷ 31 ∷ 30 ∷ 31 ∷ 30 ∷ 31 ∷ []) m 0
-
-unfoldable pub goodDay : Bytes → Bool
-goodDay v =
-    within 1 9999 (number-at 0 4 v) && within 1 12 (number-at 4 2 v) && within 1 (days (number-at 0 4 v) (number-at 4 2 v)) (number-at 6 2 v)
-
-unfoldable pub goodClock : Bytes → Bool
-goodClock v = within 0 23 (number-at 9 2 v) && within 0 59 (number-at 12 2 v) && within 0 60 (number-at 15 2 v)
 
 -- The value ("ranges, lists, string length, calendar").
 unfoldable pub allowed : Kind → Bytes → Bool

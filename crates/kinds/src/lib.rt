@@ -1,8 +1,5 @@
 // The kinds of values: form and value of one field's bytes.
-mod dates;
-
 use bytes::digits;
-pub use dates::is_leap;
 use dates::judge_day;
 use dates::judge_time;
 ghost use mathlib.Core.Path.{_≡_};

@@ -12,7 +12,8 @@ use Rattle.bytes.specs.Bytes.{Bytes, fix, any, has, same, within, digit, numera
 use Rattle.bytes.proofs.Tests.{both, neither}
 use Rattle.bytes.proofs.Numerals.{within-is, numeral-true, numeral-means}
 use Rattle.bytes.proofs.Decimals.{decimal-numeral, decimal-worth}
-use Rattle.kinds.specs.Kind.{Kind, text, number_to_, Y/N, time, day, among, formed, allowed, isNumber, like, shapes}
+use Rattle.dates.specs.Date.{like, shapes}
+use Rattle.kinds.specs.Kind.{Kind, text, number_to_, Y/N, time, day, among, formed, allowed, isNumber}
 use Rattle.kinds.proofs.Values.{same-true}
 use Rattle.table.specs.declared.MsgType.{MsgType}
 use Rattle.table.specs.Dictionary.{rowsOf, listed, kindIn}

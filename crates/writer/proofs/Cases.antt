@@ -2,7 +2,8 @@
 use mathlib.Core.Path.{refl}
 use Rattle.bytes.specs.Bytes.{numeral, decimal}
 use Rattle.frame.specs.Frame.{fixt}
-use Rattle.kinds.specs.Kind.{kindOf, isNumber, formed, allowed, goodDay, goodClock}
+use Rattle.dates.specs.Date.{goodDay, goodClock}
+use Rattle.kinds.specs.Kind.{kindOf, isNumber, formed, allowed}
 use Rattle.table.specs.Dictionary.{№453, №580, header, code35, fields, typeOf, administrative, groupsOf, rowsOf}
 use Rattle.writer.specs.Message.{framed, own, order, written}
 use Rattle.writer.specs.Reply.{heartbeat}

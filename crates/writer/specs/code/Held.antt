@@ -7,7 +7,8 @@ use mathlib.Core.Option.{Option, none, some}
 use lib.Dec.{eqb}
 use lib.ListN.{length, getD}
 use Rattle.bytes.specs.Bytes.{Bytes, has}
-use Rattle.kinds.specs.Kind.{Kind, text, number_to_, Y/N, time, day, among, formed, allowed, shapes}
+use Rattle.dates.specs.Date.{shapes}
+use Rattle.kinds.specs.Kind.{Kind, text, number_to_, Y/N, time, day, among, formed, allowed}
 use Rattle.kinds.specs.Judged.{meaning}
 use Rattle.table.specs.declared.MsgType.{MsgType}
 use Rattle.table.specs.declared.MsgType.the-variants.{Heartbeat, ResendRequest, Reject, SequenceReset, Logout, Logon}
