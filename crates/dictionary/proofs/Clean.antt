@@ -14,7 +14,7 @@ use Rattle.bytes.specs.Bytes.{Bytes, all, has, starts, within}
 use Rattle.fields.specs.Field.{Part, field, malformed, partOf, parts, firstOfParts, firstField, isBody}
 use Rattle.fields.proofs.Firsts.{tagged, starts-append, tag-part, part-split}
 use Rattle.table.specs.Dictionary.{Row, №453, №580, walked, header, fields, rowsOf, listed, administrative, inDictionary}
-use Rattle.dictionary.specs.Verdict.{Open, Place, outside, inside, Past, _when_, firstOf, missing, closing, left, rule1, rule2, rule4, rule6, rule9, rule10, said, skipped, taken, after, verdictBy, walk, nothingYet, msgType, judgedAs, verdict}
+use Rattle.dictionary.specs.Verdict.{Open, Past, _when_, firstOf, missing, closingAll, left, rule1, rule2, rule4, rule6, rule9, rule10, said, skipped, taken, after, verdictBy, walk, nothingYet, msgType, judgedAs, verdict}
 use Rattle.table.specs.declared.MsgType.{MsgType}
 use Rattle.dictionary.specs.declared.Says.{Says}
 use Rattle.dictionary.specs.declared.Says.the-variants.{Nothing, Reason}
@@ -38,13 +38,13 @@ by-clean Nothing x h = (refl, h)
 by-clean (Reason a t) x h = let z : _≡_ {A = ℕ} 0 1 = cc in absurd (omega arith)
 
 -- the tags met behind a field: a member leaves none
-seen-taken : (m : MsgType) (seen : List ℕ) (u : ℕ) (v : Bytes) → taken m seen outside u v .seen ≡ u ∷ seen
+seen-taken : (m : MsgType) (seen : List ℕ) (u : ℕ) (v : Bytes) → taken m seen [] u v .seen ≡ u ∷ seen
 unfolding taken
 seen-taken m seen u v = refl
 
-seen-member : (m : MsgType) (seen : List ℕ) (g : Open) (u : ℕ) (v : Bytes) → taken m seen (inside g) u v .seen ≡ seen
+seen-member : (m : MsgType) (seen : List ℕ) (g : Open) (gs : List Open) (u : ℕ) (v : Bytes) → taken m seen (g ∷ gs) u v .seen ≡ seen
 unfolding taken
-seen-member m seen g u v = refl
+seen-member m seen g gs u v = refl
 
 -- KINDS
 when-not : (b : Bool) (a t : ℕ) → (Reason a t when not b) ≡ Nothing → b ≡ true
@@ -73,7 +73,7 @@ passed-field m w t v h =
 passed-part : (m : MsgType) (w : Past) (q : Part) → said m w q ≡ Nothing → PassedPart m q
 unfolding said rule2
 passed-part m w malformed h =
-    let n = silent-at (rule1 (w .place) malformed ∷ Reason 0 0 ∷ []) (sym h) 1 (omega arith) in
+    let n = silent-at (rule1 (w .inside) malformed ∷ Reason 0 0 ∷ []) (sym h) 1 (omega arith) in
     let z : _≡_ {A = ℕ} 0 1 = cc in
     absurd (omega arith)
 passed-part m w (field t v) h = passed-field m w t v h
@@ -131,20 +131,20 @@ module _ (m : MsgType) (t : ℕ) (low : 1 ≤ t) (high : t ≤ 99_999) where
   seen-after : (w : Past) (p : Bytes) (q : Part) → partOf p ≡ q → has (after m w q .seen) t ≡ true → (has (w .seen) t ≡ true) ⊎ (starts (tagged t) p ≡ true)
   unfolding after
   seen-after w p malformed e h = inl h
-  seen-after w p (field u v) e h = go (skipped m u) (left (w .place) (field u v)) h
+  seen-after w p (field u v) e h = go (skipped m u) (left (w .inside) (field u v)) h
     where
       own : (b : Bool) → eqb u t ≡ b → (b || has (w .seen) t) ≡ true → (has (w .seen) t ≡ true) ⊎ (starts (tagged t) p ≡ true)
       own true x y = inr (part-starts t p v (e ∙ ap (λ (n : ℕ). field n v) (eqb-true u t x)))
       own false x y = inl y
 
-      go : (b : Bool) (pl : Place) → has (cond b (record { seen = w .seen; place = pl }) (taken m (w .seen) pl u v) .seen) t ≡ true → (has (w .seen) t ≡ true) ⊎ (starts (tagged t) p ≡ true)
-      go true pl h = inl h
-      go false outside h = own (eqb u t) refl (rw (seen-taken m (w .seen) u v) at h)
-      go false (inside g) h = inl (rw (seen-member m (w .seen) g u v) at h)
+      go : (b : Bool) (gs : List Open) → has (cond b (record { seen = w .seen; inside = gs }) (taken m (w .seen) gs u v) .seen) t ≡ true → (has (w .seen) t ≡ true) ⊎ (starts (tagged t) p ≡ true)
+      go true gs h = inl h
+      go false [] h = own (eqb u t) refl (rw (seen-taken m (w .seen) u v) at h)
+      go false (g ∷ gs) h = inl (rw (seen-member m (w .seen) g gs u v) at h)
 
   walk-required : (ps : List Bytes) (w : Past) → required (header ++ fields m) t ≡ true → walk m w ps ≡ Clean → (has (w .seen) t ≡ true) ⊎ Found ps
   walk-required [] w r h =
-      let l = closing (w .place) ∷ missing (header ++ fields m) (w .seen) ∷ [] in
+      let l = closingAll (w .inside) ∷ missing (header ++ fields m) (w .seen) ∷ [] in
       inl (none-missing (header ++ fields m) (w .seen) t r (silent-at l (sym (by-clean (firstOf l) Clean h .0)) 1 (omega arith)))
   walk-required (p ∷ ps) w r h =
       let c = by-clean (said m w (partOf p)) (walk m (after m w (partOf p)) ps) h in

@@ -19,8 +19,8 @@ use Rattle.dictionary.specs.declared.Says.{Says}
 use Rattle.dictionary.specs.declared.Says.the-variants.{Nothing, Reason}
 use Rattle.dictionary.specs.declared.Verdict.{Verdict}
 use Rattle.dictionary.specs.declared.Verdict.the-variants.{Clean, Finding, NoBody}
-use Rattle.table.specs.Dictionary.{Row, Group, №453, №580, groups, header, fields, groupsAmong, groupsOf, member, rowsOf, listed, kindIn, administrative, frameTag, inDictionary}
-use Rattle.dictionary.specs.Verdict.{Open, Place, outside, inside, Past, _when_, firstOf, missing, incomplete, miscounted, closing, ends, begins, firstMember, rule1, left, rule2, skipped, rule3, rule4, rule5, rule6, rule7, rule8, rule9, rule10, rules4to10, said, opened, taken, after, verdictBy, walk, msgType, nothingYet, judgedAs, verdict, numbers}
+use Rattle.table.specs.Dictionary.{Row, Group, №453, №580, groups, header, fields, groupsAmong, allMembers, deeper, groupsOf, member, rowsOf, listed, kindIn, administrative, frameTag, inDictionary}
+use Rattle.dictionary.specs.Verdict.{Open, Past, _when_, firstOf, missing, incomplete, miscounted, closing, closingAll, ends, begins, firstMember, rule1, left, rule2, skipped, rule3, rule4, rule5, rule6, rule7, rule8, rule9, rule10, rules4to10, said, opened, joined, taken, after, verdictBy, walk, msgType, nothingYet, judgedAs, verdict, numbers}
 use Rattle.dictionary.specs.Promise.{reasons, Found}
 
 abbrev Small : Says → Type 0
@@ -60,9 +60,9 @@ abbrev LowGroups : List Group → Type 0
 LowGroups [] = Unit {0}
 LowGroups (g ∷ gs) = LowGroup g × LowGroups gs
 
-abbrev LowPlace : Place → Type 0
-LowPlace outside = Unit {0}
-LowPlace (inside g) = LowGroup (g .group)
+abbrev LowOpen : List Open → Type 0
+LowOpen [] = Unit {0}
+LowOpen (g ∷ gs) = LowGroup (g .group) × LowOpen gs
 
 low-groups : LowGroups groups
 unfolding №453 №580
@@ -75,6 +75,10 @@ low-among (g ∷ gs) rows h = go (listed rows (g .counter)) (low-among gs rows (
     go : (b : Bool) → LowGroups (groupsAmong gs rows) → LowGroups (cond b (g ∷ groupsAmong gs rows) (groupsAmong gs rows))
     go true k = (h .0, k)
     go false k = k
+
+low-of : (m : MsgType) → LowGroups (groupsOf m)
+unfolding groupsOf
+low-of m = low-among groups (fields m ++ allMembers (deeper (fields m) (deeper (fields m) []))) low-groups
 
 low-rows : (m : MsgType) → all low (header ++ fields m) ≡ true
 unfolding header fields №453 №580
@@ -93,10 +97,9 @@ small-incomplete : (g : Open) → LowGroup (g .group) → Small (incomplete g)
 unfolding incomplete
 small-incomplete g h = small-when (missing (g .group .members) (g .last)) (not (eqb (g .begun) 0)) (small-missing (g .group .members) (g .last) (h .members))
 
-small-closing : (p : Place) → LowPlace p → Small (closing p)
+small-closing : (g : Open) → LowGroup (g .group) → Small (closing g)
 unfolding closing
-small-closing outside h = tt
-small-closing (inside g) h =
+small-closing g h =
     small-first (incomplete g ∷ miscounted g ∷ []) (small-incomplete g h, (small-when (Reason 16 (g .group .counter)) (not (eqb (g .begun) (g .count))) (refl, h .counter), tt))
 
 abbrev LowPart : Part → Type 0
@@ -115,31 +118,35 @@ low-part p = go (has p (byte "=")) (isTag (before (byte "=") p)) refl
     go true false e = tt
     go false b e = tt
 
-small-rule1 : (w : Place) (p : Part) → LowPlace w → Small (rule1 w p)
-unfolding rule1
-small-rule1 outside p h = tt
-small-rule1 (inside g) p h =
-    small-first ((closing (inside g) when ends (g .group .members) p) ∷ (incomplete g when begins (g .group .members) p) ∷ []) (
-      small-when (closing (inside g)) (ends (g .group .members) p) (small-closing (inside g) h),
-      (small-when (incomplete g) (begins (g .group .members) p) (small-incomplete g h), tt),
-    )
+small-closing-all : (gs : List Open) → LowOpen gs → Small (closingAll gs)
+small-closing-all [] h = tt
+small-closing-all (g ∷ gs) h = small-first (closing g ∷ closingAll gs ∷ []) (small-closing g (h .0), (small-closing-all gs (h .1), tt))
 
-low-left : (w : Place) (p : Part) → LowPlace w → LowPlace (left w p)
-unfolding left
-low-left outside p h = tt
-low-left (inside g) p h = go (ends (g .group .members) p)
+small-rule1 : (gs : List Open) (p : Part) → LowOpen gs → Small (rule1 gs p)
+unfolding rule1
+small-rule1 [] p h = tt
+small-rule1 (g ∷ gs) p h = go (ends (g .group .members) p) (small-rule1 gs p (h .1))
   where
-    go : (b : Bool) → LowPlace (cond b outside (inside g))
-    go true = tt
-    go false = h
+    go : (b : Bool) → Small (rule1 gs p) → Small (cond b (firstOf (closing g ∷ rule1 gs p ∷ [])) (incomplete g when begins (g .group .members) p))
+    go true k = small-first (closing g ∷ rule1 gs p ∷ []) (small-closing g (h .0), (k, tt))
+    go false k = small-when (incomplete g) (begins (g .group .members) p) (small-incomplete g (h .0))
+
+low-left : (gs : List Open) (p : Part) → LowOpen gs → LowOpen (left gs p)
+unfolding left
+low-left [] p h = tt
+low-left (g ∷ gs) p h = go (ends (g .group .members) p) (low-left gs p (h .1))
+  where
+    go : (b : Bool) → LowOpen (left gs p) → LowOpen (cond b (left gs p) (g ∷ gs))
+    go true k = k
+    go false k = h
 
 reason-when : (r t : ℕ) (b : Bool) → has reasons r ≡ true → t ≤ 99_999 → Small (Reason r t when b)
 reason-when r t b h l = small-when (Reason r t) b (h, l)
 
-small-rule8 : (m : MsgType) (w : Place) (t : ℕ) → t ≤ 99_999 → Small (rule8 m w t)
+small-rule8 : (m : MsgType) (gs : List Open) (t : ℕ) → t ≤ 99_999 → Small (rule8 m gs t)
 unfolding rule8
-small-rule8 m outside t l = reason-when 15 t (member m t) refl l
-small-rule8 m (inside g) t l =
+small-rule8 m [] t l = reason-when 15 t (member m t) refl l
+small-rule8 m (g ∷ gs) t l =
     small-when (firstOf ((Reason 15 t when eqb (g .begun) 0) ∷ (Reason 13 t when has (g .last) t) ∷ [])) (not (firstMember (g .group .members) t))
     (small-first ((Reason 15 t when eqb (g .begun) 0) ∷ (Reason 13 t when has (g .last) t) ∷ [])
     (reason-when 15 t (eqb (g .begun) 0) refl l, (reason-when 13 t (has (g .last) t) refl l, tt)))
@@ -155,7 +162,7 @@ small-known m w t v l = (
       (
         reason-when 14 t (listed header t && any (λ (s : ℕ). not (listed header s)) (w .seen)) refl l,
         (
-          small-rule8 m (left (w .place) (field t v)) t l,
+          small-rule8 m (left (w .inside) (field t v)) t l,
           (
             reason-when 6 t (not (formed (kindIn (rowsOf m) t) v)) refl l,
             (
@@ -173,43 +180,47 @@ small-rule3 : (m : MsgType) (t : ℕ) → t ≤ 99_999 → Small (rule3 m t)
 unfolding rule3
 small-rule3 m t l = reason-when 3 t (not (administrative m) && not (inDictionary t)) refl l
 
-small-said : (m : MsgType) (w : Past) (p : Part) → LowPlace (w .place) → LowPart p → Small (said m w p)
+small-said : (m : MsgType) (w : Past) (p : Part) → LowOpen (w .inside) → LowPart p → Small (said m w p)
 unfolding said rule2
-small-said m w malformed h l = small-first (rule1 (w .place) malformed ∷ rule2 malformed ∷ []) (small-rule1 (w .place) malformed h, ((refl, omega arith), tt))
+small-said m w malformed h l = small-first (rule1 (w .inside) malformed ∷ rule2 malformed ∷ []) (small-rule1 (w .inside) malformed h, ((refl, omega arith), tt))
 small-said m w (field t v) h l =
-    small-first (rule1 (w .place) (field t v) ∷ rule2 (field t v) ∷ rule3 m t ∷ cond (skipped m t) [] (rules4to10 m w t v))
-    (small-rule1 (w .place) (field t v) h, (tt, (small-rule3 m t l, go (skipped m t))))
+    small-first (rule1 (w .inside) (field t v) ∷ rule2 (field t v) ∷ rule3 m t ∷ cond (skipped m t) [] (rules4to10 m w t v))
+    (small-rule1 (w .inside) (field t v) h, (tt, (small-rule3 m t l, go (skipped m t))))
   where
     go : (b : Bool) → AllSmall (cond b [] (rules4to10 m w t v))
     go true = tt
     go false = small-known m w t v l
 
 -- THE WALK keeps to the table's groups
-low-opened : (gs : List Group) (t : ℕ) (v : Bytes) → LowGroups gs → LowPlace (opened gs t v)
+low-opened : (gs : List Group) (t : ℕ) (v : Bytes) → LowGroups gs → LowOpen (opened gs t v)
 low-opened [] t v h = tt
 low-opened (g ∷ gs) t v h = go (eqb (g .counter) t) (low-opened gs t v (h .1))
   where
-    go : (b : Bool) → LowPlace (opened gs t v) → LowPlace (cond b (inside (record { group = g; count = value v; begun = 0; last = [] })) (opened gs t v))
-    go true k = h .0
+    go : (b : Bool) → LowOpen (opened gs t v) → LowOpen (cond b (record { group = g; count = value v; begun = 0; last = [] } ∷ []) (opened gs t v))
+    go true k = (h .0, tt)
     go false k = k
 
-low-taken : (m : MsgType) (seen : List ℕ) (w : Place) (t : ℕ) (v : Bytes) → LowPlace w → LowPlace (taken m seen w t v .place)
-unfolding taken groupsOf
-low-taken m seen outside t v h = low-opened (groupsAmong groups (fields m)) t v (low-among groups (fields m) low-groups)
-low-taken m seen (inside g) t v h = go (firstMember (g .group .members) t)
+low-append : (gs ks : List Open) → LowOpen gs → LowOpen ks → LowOpen (gs ++ ks)
+low-append [] ks h k = k
+low-append (g ∷ gs) ks h k = (h .0, low-append gs ks (h .1) k)
+
+low-taken : (m : MsgType) (seen : List ℕ) (gs : List Open) (t : ℕ) (v : Bytes) → LowOpen gs → LowOpen (taken m seen gs t v .inside)
+unfolding taken
+low-taken m seen [] t v h = low-opened (groupsOf m) t v (low-of m)
+low-taken m seen (g ∷ gs) t v h = low-append (opened (groupsOf m) t v) (joined g t ∷ gs) (low-opened (groupsOf m) t v (low-of m)) (go (firstMember (g .group .members) t), h .1)
   where
     go : (b : Bool) → LowGroup (cond {A = Open} b (record { group = g .group; count = g .count; begun = g .begun + 1; last = t ∷ [] }) (record { group = g .group; count = g .count; begun = g .begun; last = t ∷ g .last }) .group)
-    go true = h
-    go false = h
+    go true = h .0
+    go false = h .0
 
-low-after : (m : MsgType) (w : Past) (p : Part) → LowPlace (w .place) → LowPlace (after m w p .place)
+low-after : (m : MsgType) (w : Past) (p : Part) → LowOpen (w .inside) → LowOpen (after m w p .inside)
 unfolding after
 low-after m w malformed h = h
 low-after m w (field t v) h = go (skipped m t)
   where
-    go : (b : Bool) → LowPlace (cond {A = Past} b (record { seen = w .seen; place = left (w .place) (field t v) }) (taken m (w .seen) (left (w .place) (field t v)) t v) .place)
-    go true = low-left (w .place) (field t v) h
-    go false = low-taken m (w .seen) (left (w .place) (field t v)) t v (low-left (w .place) (field t v) h)
+    go : (b : Bool) → LowOpen (cond {A = Past} b (record { seen = w .seen; inside = left (w .inside) (field t v) }) (taken m (w .seen) (left (w .inside) (field t v)) t v) .inside)
+    go true = low-left (w .inside) (field t v) h
+    go false = low-taken m (w .seen) (left (w .inside) (field t v)) t v (low-left (w .inside) (field t v) h)
 
 -- a walk ends with a clean verdict or with such a finding
 abbrev Told : Verdict → Type 0
@@ -221,10 +232,10 @@ told-by : (x : Says) (v : Verdict) → Small x → Told v → Told (verdictBy x 
 told-by Nothing v h k = k
 told-by (Reason r t) v h k = h
 
-told-walk : (m : MsgType) (ps : List Bytes) (w : Past) → LowPlace (w .place) → Told (walk m w ps)
+told-walk : (m : MsgType) (ps : List Bytes) (w : Past) → LowOpen (w .inside) → Told (walk m w ps)
 told-walk m [] w h =
-    told-by (firstOf (closing (w .place) ∷ missing (header ++ fields m) (w .seen) ∷ [])) Clean
-    (small-first (closing (w .place) ∷ missing (header ++ fields m) (w .seen) ∷ []) (small-closing (w .place) h, (small-missing (header ++ fields m) (w .seen) (low-rows m), tt))) tt
+    told-by (firstOf (closingAll (w .inside) ∷ missing (header ++ fields m) (w .seen) ∷ [])) Clean
+    (small-first (closingAll (w .inside) ∷ missing (header ++ fields m) (w .seen) ∷ []) (small-closing-all (w .inside) h, (small-missing (header ++ fields m) (w .seen) (low-rows m), tt))) tt
 told-walk m (p ∷ ps) w h =
     told-by (said m w (partOf p)) (walk m (after m w (partOf p)) ps) (small-said m w (partOf p) h (low-part p)) (told-walk m ps (after m w (partOf p)) (low-after m w (partOf p) h))
 

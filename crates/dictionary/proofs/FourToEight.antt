@@ -9,16 +9,16 @@ use lib.ListN.{length, getD}
 use Rattle.bytes.specs.Bytes.{Bytes, has}
 use Rattle.fields.specs.Field.{field}
 use Rattle.table.specs.Dictionary.{Row, header, fields, listed, allMembers, groupsOf, member, rowsOf}
-use Rattle.dictionary.specs.Verdict.{Open, Place, outside, inside, firstMember, left, rule4, rule5, rule6, rule7, rule8}
+use Rattle.dictionary.specs.Verdict.{Open, firstMember, left, rule4, rule5, rule6, rule7, rule8}
 use Rattle.table.specs.code.Held.{tagCount, tagAt, index, bitOf, Right}
 use Rattle.dictionary.specs.code.Held.{InGroup, Stood, away, within, insideOf, Rule5, Rule7, Rule8}
 use Rattle.table.specs.code.Held as Table
 use Rattle.table.specs.declared.MsgType.{MsgType}
 use Rattle.dictionary.specs.declared.Says.the-variants.{Nothing, Reason}
-use Rattle.dictionary.specs.declared.rules.State.{State}
+use Rattle.dictionary.specs.declared.groups.State.{State}
 use Rattle.table.specs.declared.lines.Entry.{Entry}
 use Rattle.bytes.proofs.Tests.{both, any-append}
-use Rattle.dictionary.proofs.Groups.{counted}
+use Rattle.dictionary.proofs.Ending.{counted}
 
 -- rule 4
 pub rule4-empty : (t : ℕ) (v : Bytes) → length v ≡ 0 → Reason 4 t ≡ rule4 t v
@@ -83,18 +83,18 @@ module _ {e : Entry} {over b : Bool} (R : Right e) (p : b ≡ bitOf (e .marks) 2
 
 -- where a field stands once rule 1 has been heard: rule 8 looks there
 module _ {e : Entry} {met : List Bool} {st : State} (R : Right e) where
-  pub left-away : insideOf st e ≡ false → (pl : Place) (v : Bytes) → Stood pl met st → left pl (field (e .tag) v) ≡ outside
+  pub left-away : insideOf st e ≡ false → (gs : List Open) (v : Bytes) → Stood gs met st → left gs (field (e .tag) v) ≡ []
   unfolding left
-  left-away i outside v (away z) = refl
-  left-away i (inside g) v (within I) =
+  left-away i [] v (away z) = refl
+  left-away i (g ∷ []) v (within I) =
       let h : eqb (st .group) 0 ≡ false = ne-eqb (st .group) 0 (λ z. counted (g .group) (I .two) (sym (I .counter) ∙ z)) in
       rw (sym (R .member-of (g .group) (I .two)), ← I .counter, rw h at i)
 
-  pub left-within : insideOf st e ≡ true → (pl : Place) (v : Bytes) → Stood pl met st
-      → (g : Open) × ((pl ≡ inside g) × (InGroup g met st) × (left pl (field (e .tag) v) ≡ inside g) × (eqb (g .group .counter) (e .member .group) ≡ true))
+  pub left-within : insideOf st e ≡ true → (gs : List Open) (v : Bytes) → Stood gs met st
+      → (g : Open) × ((gs ≡ g ∷ []) × (InGroup g met st) × (left gs (field (e .tag) v) ≡ g ∷ []) × (eqb (g .group .counter) (e .member .group) ≡ true))
   unfolding left
-  left-within i outside v (away z) = absurd (false≢true (rw (eq-eqb (st .group) 0 z) at i))
-  left-within i (inside g) v (within I) =
+  left-within i [] v (away z) = absurd (false≢true (rw (eq-eqb (st .group) 0 z) at i))
+  left-within i (g ∷ []) v (within I) =
       let h : eqb (g .group .counter) (e .member .group) ≡ true = rw (I .counter) at (both (not (eqb (st .group) 0)) (eqb (st .group) (e .member .group)) i .1) in
       (g, (refl, I, rw (sym (R .member-of (g .group) (I .two)), h), h))
 
@@ -114,18 +114,18 @@ module _ {m : MsgType} {e : Entry} {met : List Bool} {st : State} (R : Right e) 
   module _ {b d : Bool} (i : b ≡ insideOf st e) (q : not b ≡ true) (k : d ≡ bitOf (e .member .marks) (index m)) where
     pub rule8-astray : d ≡ true → Rule8 m met st (e .tag) (Reason 15 (e .tag))
     unfolding rule8
-    rule8-astray h = record { is = λ pl v S. rw (left-away R (sym i ∙ not-true b q) pl v S, sym (R .member-in m) ∙ sym k ∙ h) }
+    rule8-astray h = record { is = λ gs v S. rw (left-away R (sym i ∙ not-true b q) gs v S, sym (R .member-in m) ∙ sym k ∙ h) }
 
     pub rule8-none : d ≡ false → Rule8 m met st (e .tag) Nothing
     unfolding rule8
-    rule8-none h = record { is = λ pl v S. rw (left-away R (sym i ∙ not-true b q) pl v S, sym (R .member-in m) ∙ sym k ∙ h) }
+    rule8-none h = record { is = λ gs v S. rw (left-away R (sym i ∙ not-true b q) gs v S, sym (R .member-in m) ∙ sym k ∙ h) }
 
   module _ {b : Bool} (i : b ≡ insideOf st e) (q : not b ≡ false) where
     pub rule8-first : e .member .first ≡ true → Rule8 m met st (e .tag) Nothing
     unfolding rule8
     rule8-first f = record {
-      is = λ pl v S.
-          let w = left-within R (sym i ∙ not-false b q) pl v S in
+      is = λ gs v S.
+          let w = left-within R (sym i ∙ not-false b q) gs v S in
           rw (w .1 .2, leads e met st R (w .0) (w .1 .1) (w .1 .3) ∙ f);
     }
 
@@ -133,8 +133,8 @@ module _ {m : MsgType} {e : Entry} {met : List Bool} {st : State} (R : Right e) 
       pub rule8-unled : st .begun ≡ 0 → Rule8 m met st (e .tag) (Reason 15 (e .tag))
       unfolding rule8
       rule8-unled z = record {
-        is = λ pl v S.
-            let w = left-within R (sym i ∙ not-false b q) pl v S in
+        is = λ gs v S.
+            let w = left-within R (sym i ∙ not-false b q) gs v S in
             rw (w .1 .2, leads e met st R (w .0) (w .1 .1) (w .1 .3) ∙ f, eq-eqb (w .0 .begun) 0 (sym (w .1 .1 .begun) ∙ z));
       }
 
@@ -142,8 +142,8 @@ module _ {m : MsgType} {e : Entry} {met : List Bool} {st : State} (R : Right e) 
         pub rule8-again : getD met p false ≡ true → Rule8 m met st (e .tag) (Reason 13 (e .tag))
         unfolding rule8
         rule8-again y = record {
-          is = λ pl v S.
-              let w = left-within R (sym i ∙ not-false b q) pl v S in
+          is = λ gs v S.
+              let w = left-within R (sym i ∙ not-false b q) gs v S in
               let z = ne-eqb (w .0 .begun) 0 (λ x. n (w .1 .1 .begun ∙ x)) in
               rw (w .1 .2, leads e met st R (w .0) (w .1 .1) (w .1 .3) ∙ f, z, sym (mark-of met st p (e .tag) l t (w .0) (w .1 .1) z) ∙ y);
         }
@@ -151,8 +151,8 @@ module _ {m : MsgType} {e : Entry} {met : List Bool} {st : State} (R : Right e) 
         pub rule8-new : getD met p false ≡ false → Rule8 m met st (e .tag) Nothing
         unfolding rule8
         rule8-new y = record {
-          is = λ pl v S.
-              let w = left-within R (sym i ∙ not-false b q) pl v S in
+          is = λ gs v S.
+              let w = left-within R (sym i ∙ not-false b q) gs v S in
               let z = ne-eqb (w .0 .begun) 0 (λ x. n (w .1 .1 .begun ∙ x)) in
               rw (w .1 .2, leads e met st R (w .0) (w .1 .1) (w .1 .3) ∙ f, z, sym (mark-of met st p (e .tag) l t (w .0) (w .1 .1) z) ∙ y);
         }

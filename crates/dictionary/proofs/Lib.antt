@@ -1,5 +1,5 @@
 pub mod Unmet
-pub mod Groups
+pub mod Ending
 pub mod FourToEight
 pub mod Saying
 pub mod Opening

@@ -1,26 +1,27 @@
 -- The state behind a field outside groups: the header that may be over, and the group that a count field opens.
 use Prim.Native.Nat.{ℕ}
 use native.Mathlib.Omega.{arith}
-use borrow.Author.Tests.{eqb-true}
-use mathlib.Core.Path.{_≡_, refl, ap, sym, _∙_}
+use borrow.Author.Tests.{eqb-true, not-true}
+use mathlib.Core.Path.{_≡_, refl, ap, sym, _∙_, subst}
 use mathlib.Core.List.{List, [], _∷_, _++_}
 use mathlib.Core.Bool.{Bool, true, false, cond, not, _||_, false≢true}
 use mathlib.Core.Logic.{inl, inr}
 use lib.Dec.{eqb}
-use Rattle.bytes.specs.Bytes.{Bytes, any, value}
+use Rattle.bytes.specs.Bytes.{Bytes, any, all, value}
 use Rattle.kinds.specs.Kind.{Kind, text, number_to_, Y/N, time, day, among, formed, isNumber}
 use Rattle.kinds.specs.Judged.{meaning, numberOf}
 use Rattle.kinds.specs.declared.Number.{Number}
 use Rattle.kinds.specs.declared.Number.the-variants.{Is, Bad}
-use Rattle.table.specs.Dictionary.{Row, Group, №453, №580, groups, header, fields, listed, kindIn, groupsAmong, groupsOf, rowsOf}
-use Rattle.dictionary.specs.Verdict.{Open, outside, inside, _when_, opened, rule9}
+use Rattle.table.specs.Dictionary.{Row, Group, №453, №580, groups, header, fields, listed, kindIn, groupsAmong, allMembers, groupsOf, rowsOf}
+use Rattle.dictionary.specs.Verdict.{Open, _when_, opened, rule9}
 use Rattle.table.specs.code.Held.{bitOf, isNumeric, kindFor, Two, Right}
-use Rattle.dictionary.specs.code.Held.{away, within, Over, Counted, Noted}
+use Rattle.dictionary.specs.code.Held.{away, within, Over, Counted, Noted, outsideOf}
 use Rattle.table.specs.declared.MsgType.{MsgType}
 use Rattle.dictionary.specs.declared.Says.the-variants.{Nothing, Reason}
-use Rattle.dictionary.specs.declared.rules.State.{State}
+use Rattle.dictionary.specs.declared.groups.State.{State}
 use Rattle.table.specs.declared.lines.Entry.{Entry}
-use Rattle.bytes.proofs.Tests.{any-append}
+use Rattle.bytes.proofs.Tests.{any-append, both}
+use Rattle.table.proofs.Groups.{closed-down}
 use Rattle.dictionary.proofs.FourToEight.{listed-rows}
 
 -- the header
@@ -49,17 +50,17 @@ opened-among (g ∷ gs) rows t v h = go (eqb (g .counter) t) refl (listed rows (
     o = record { group = g; count = value v; begun = 0; last = [] }
 
     go : (b : Bool) → eqb (g .counter) t ≡ b → (c : Bool) → listed rows (g .counter) ≡ c → opened (groupsAmong gs rows) t v ≡ opened gs t v
-        → opened (cond c (g ∷ groupsAmong gs rows) (groupsAmong gs rows)) t v ≡ cond b (inside o) (opened gs t v)
+        → opened (cond c (g ∷ groupsAmong gs rows) (groupsAmong gs rows)) t v ≡ cond b (o ∷ []) (opened gs t v)
     go b e true k ih = rw (e, ih)
     go true e false k ih = absurd (false≢true (sym k ∙ ap (listed rows) (eqb-true (g .counter) t e) ∙ h))
     go false e false k ih = ih
 
-opened-none : (gs : List Group) (rows : List Row) (t : ℕ) (v : Bytes) → any (λ g. eqb (g .counter) t) gs ≡ false → opened (groupsAmong gs rows) t v ≡ outside
+opened-none : (gs : List Group) (rows : List Row) (t : ℕ) (v : Bytes) → any (λ g. eqb (g .counter) t) gs ≡ false → opened (groupsAmong gs rows) t v ≡ []
 opened-none [] rows t v h = refl
 opened-none (g ∷ gs) rows t v h = go (eqb (g .counter) t) refl (listed rows (g .counter)) h (opened-none gs rows t v)
   where
-    go : (b : Bool) → eqb (g .counter) t ≡ b → (c : Bool) → (b || any (λ x. eqb (x .counter) t) gs) ≡ false → (any (λ x. eqb (x .counter) t) gs ≡ false → opened (groupsAmong gs rows) t v ≡ outside)
-        → opened (cond c (g ∷ groupsAmong gs rows) (groupsAmong gs rows)) t v ≡ outside
+    go : (b : Bool) → eqb (g .counter) t ≡ b → (c : Bool) → (b || any (λ x. eqb (x .counter) t) gs) ≡ false → (any (λ x. eqb (x .counter) t) gs ≡ false → opened (groupsAmong gs rows) t v ≡ [])
+        → opened (cond c (g ∷ groupsAmong gs rows) (groupsAmong gs rows)) t v ≡ []
     go true e c k ih = absurd (false≢true (sym k))
     go false e true k ih = rw e (ih k)
     go false e false k ih = ih k
@@ -68,12 +69,12 @@ opened-none (g ∷ gs) rows t v h = go (eqb (g .counter) t) refl (listed rows (g
 newly : Group → Bytes → Open
 newly g v = record { group = g; count = value v; begun = 0; last = [] }
 
-opens-two : (t : ℕ) (v : Bytes) → any (λ g. eqb (g .counter) t) groups ≡ true → (g : Group) × (Two g × (t ≡ g .counter) × (opened groups t v ≡ inside (newly g v)))
+opens-two : (t : ℕ) (v : Bytes) → any (λ g. eqb (g .counter) t) groups ≡ true → (g : Group) × (Two g × (t ≡ g .counter) × (opened groups t v ≡ newly g v ∷ []))
 unfolding newly
 opens-two t v h = go (eqb (№453 .counter) t) (eqb (№580 .counter) t) refl refl h
   where
     go : (a b : Bool) → eqb (№453 .counter) t ≡ a → eqb (№580 .counter) t ≡ b → (a || (b || false)) ≡ true
-        → (g : Group) × (Two g × (t ≡ g .counter) × (cond a (inside (newly №453 v)) (cond b (inside (newly №580 v)) outside) ≡ inside (newly g v)))
+        → (g : Group) × (Two g × (t ≡ g .counter) × (cond a (newly №453 v ∷ []) (cond b (newly №580 v ∷ []) []) ≡ newly g v ∷ []))
     go true b p q k = (№453, (inl refl, sym (eqb-true (№453 .counter) t p), refl))
     go false true p q k = (№580, (inr refl, sym (eqb-true (№580 .counter) t q), refl))
     go false false p q k = absurd (false≢true k)
@@ -85,6 +86,36 @@ no-header g (inr e) = rw e
 
 own-field : (m : MsgType) (t : ℕ) → listed header t ≡ false → listed (header ++ fields m) t ≡ true → listed (fields m) t ≡ true
 own-field m t n h = rw (any-append (λ (r : Row). eqb (r .tag) t) header (fields m), n) at h
+
+-- a count field that the message lists, or one of its groups, opens its group; a tag that is no count opens none
+opens-here : (m : MsgType) (t : ℕ) (v : Bytes) → listed (fields m ++ allMembers (groupsOf m)) t ≡ true → opened (groupsOf m) t v ≡ opened groups t v
+opens-here m t v h = ap (λ (gs : List Group). opened gs t v) (sym (closed-down m)) ∙ opened-among groups (fields m ++ allMembers (groupsOf m)) t v h
+
+pub opens-none : (m : MsgType) (t : ℕ) (v : Bytes) → any (λ g. eqb (g .counter) t) groups ≡ false → opened (groupsOf m) t v ≡ []
+opens-none m t v h = ap (λ (gs : List Group). opened gs t v) (sym (closed-down m)) ∙ opened-none groups (fields m ++ allMembers (groupsOf m)) t v h
+
+own-listed : (m : MsgType) (t : ℕ) → listed (fields m) t ≡ true → listed (fields m ++ allMembers (groupsOf m)) t ≡ true
+own-listed m t h = rw (any-append (λ (r : Row). eqb (r .tag) t) (fields m) (allMembers (groupsOf m)), h)
+
+-- NO GROUP IN A GROUP: a member of one of the two groups is no count, so that it opens none
+flat : (rows : List Row) (t : ℕ) → all (λ (r : Row). not (any (λ (g : Group). eqb (g .counter) (r .tag)) groups)) rows ≡ true → listed rows t ≡ true
+    → any (λ g. eqb (g .counter) t) groups ≡ false
+flat [] t h k = absurd (false≢true k)
+flat (r ∷ rs) t h k =
+    let w = both (not (any (λ (g : Group). eqb (g .counter) (r .tag)) groups)) _ h in
+    go (eqb (r .tag) t) refl k (not-true _ (w .0)) (flat rs t (w .1))
+  where
+    go : (b : Bool) → eqb (r .tag) t ≡ b → (b || listed rs t) ≡ true → any (λ (g : Group). eqb (g .counter) (r .tag)) groups ≡ false → (listed rs t ≡ true → any (λ g. eqb (g .counter) t) groups ≡ false) → any (λ g. eqb (g .counter) t) groups ≡ false
+    go true e k n f = ap (λ (x : ℕ). any (λ (g : Group). eqb (g .counter) x) groups) (sym (eqb-true (r .tag) t e)) ∙ n
+    go false e k n f = f k
+
+flat-groups : (g : Group) → Two g → all (λ (r : Row). not (any (λ (x : Group). eqb (x .counter) (r .tag)) groups)) (g .members) ≡ true
+unfolding №453 №580
+flat-groups g (inl e) = rw e
+flat-groups g (inr e) = rw e
+
+pub member-opens-none : (m : MsgType) (g : Group) (t : ℕ) (v : Bytes) → Two g → listed (g .members) t ≡ true → opened (groupsOf m) t v ≡ []
+member-opens-none m g t v T h = opens-none m t v (flat (g .members) t (flat-groups g T) h)
 
 numeric : (k : Kind) (v : Bytes) → isNumeric k ≡ true → formed k v ≡ isNumber v
 unfolding formed
@@ -105,20 +136,19 @@ rule9-silent m t v = go (formed (kindIn (rowsOf m) t) v)
 
 module _ {e : Entry} {st : State} {v : Bytes} {over b : Bool} (R : Right e) (O : Over (st .over) (e .tag) over) (p : b ≡ bitOf (e .marks) 30) where
   pub noted-count : {n : ℕ} → b ≡ true → Counted v n → Noted st (e .tag) v (record { over = over; group = e .tag; count = n; begun = 0 })
-  unfolding groupsOf newly
+  unfolding newly
   noted-count {n} q C = record {
     over = O;
     none = refl;
-    place = λ m met l s.
+    opens = λ m met l s.
         let w = opens-two (e .tag) v (sym (R .counts) ∙ sym p ∙ q) in
         let g = w .0 in
         let f = own-field m (e .tag) (ap (listed header) (w .1 .1) ∙ no-header g (w .1 .0)) l in
         let k : listed (rowsOf m) (e .tag) ≡ true = rw (listed-rows m (e .tag), l) in
         let i : isNumber v ≡ true = sym (numeric (meaning (kindFor m (e .kind))) v (R .counts-number m (sym p ∙ q))) ∙ ap (λ (x : Kind). formed x v) (R .kind-in m k) ∙ rule9-silent m (e .tag) v s in
-        rw (opened-among groups (fields m) (e .tag) v f, w .1 .2)
+        rw (opens-here m (e .tag) v (own-listed m (e .tag) f), w .1 .2)
         (within (record { two = w .1 .0; counter = w .1 .1; count = C .is i; begun = refl; last = λ z. absurd (false≢true (sym z)) }));
   }
 
-  pub noted-other : b ≡ false → Noted st (e .tag) v (record { over = over; group = 0; count = 0; begun = 0 })
-  unfolding groupsOf
-  noted-other q = record { over = O; none = refl; place = λ m met l s. rw (opened-none groups (fields m) (e .tag) v (sym (R .counts) ∙ sym p ∙ q)) (away refl) }
+  pub noted-other : {r : State} → b ≡ false → r ≡ outsideOf over → Noted st (e .tag) v r
+  noted-other {r} q h = subst (Noted st (e .tag) v) (sym h) (record { over = O; none = refl; opens = λ m met l s. rw (opens-none m (e .tag) v (sym (R .counts) ∙ sym p ∙ q)) (away refl) })

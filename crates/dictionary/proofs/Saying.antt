@@ -13,18 +13,18 @@ use Rattle.fields.specs.Field.{field, malformed}
 use Rattle.kinds.specs.Kind.{Kind, formed, allowed}
 use Rattle.kinds.specs.Judged.{meaning, judged}
 use Rattle.table.specs.Dictionary.{Row, Group, №453, №580, walked, header, fields, code35, listed, kindIn, groupsOf, member, rowsOf, inDictionary, administrative}
-use Rattle.dictionary.specs.Verdict.{Place, outside, inside, Past, _when_, firstOf, firstMember, rule1, rule2, rule3, rule4, rule5, rule6, rule7, rule8, rule9, rule10, left, skipped, rules4to10, said}
+use Rattle.dictionary.specs.Verdict.{Open, Past, _when_, firstOf, firstMember, rule1, rule2, rule3, rule4, rule5, rule6, rule7, rule8, rule9, rule10, left, skipped, rules4to10, said}
 use Rattle.table.specs.code.Held.{tagCount, allRows, tags, tagAt, index, kindFor, Two, Right, Looked, Marked}
 use Rattle.dictionary.specs.code.Held.{Belongs, Stood, away, within, Rules9and10}
 use Rattle.table.specs.declared.MsgType.{MsgType}
 use Rattle.table.specs.declared.MsgType.the-variants.{Heartbeat, TestRequest, ResendRequest, Reject, SequenceReset, Logout, Logon, OrderCancelRequest, TradeCaptureReportRequest}
 use Rattle.dictionary.specs.declared.Says.{Says}
 use Rattle.dictionary.specs.declared.Says.the-variants.{Nothing, Reason}
-use Rattle.dictionary.specs.declared.rules.State.{State}
+use Rattle.dictionary.specs.declared.groups.State.{State}
 use Rattle.table.specs.declared.lines.Entry.{Entry}
 use Rattle.bytes.proofs.Tests.{both, neither, all-at}
 use Rattle.table.proofs.Places.{tags-long}
-use Rattle.dictionary.proofs.Groups.{counted}
+use Rattle.dictionary.proofs.Ending.{counted}
 use Rattle.dictionary.proofs.FourToEight.{first-is}
 
 -- r is what the first rule says that speaks: one that does, and one that does not
@@ -94,10 +94,10 @@ module _ (t : ℕ) (n : has tags t ≡ false) where
       not-first (r ∷ rs) h = neither (eqb (r .tag) t) (listed rs t) h .0
 
   -- and it ends any that is open
-  pub unknown-left : (pl : Place) (v : Bytes) {met : List Bool} {st : State} → Stood pl met st → left pl (field t v) ≡ outside
+  pub unknown-left : (gs : List Open) (v : Bytes) {met : List Bool} {st : State} → Stood gs met st → left gs (field t v) ≡ []
   unfolding left
-  unknown-left outside v (away z) = refl
-  unknown-left (inside g) v (within I) = rw (not-listed (g .group .members) (members-placed (g .group) (I .two)))
+  unknown-left [] v (away z) = refl
+  unknown-left (g ∷ []) v (within I) = rw (not-listed (g .group .members) (members-placed (g .group) (I .two)))
 
 pub malformed-belongs : Belongs malformed 0 false
 malformed-belongs = record {
@@ -115,14 +115,14 @@ pub mark-seen : {e : Entry} {p : ℕ} {marks : List Bool} {met : List ℕ} → M
 mark-seen {e} {p} {marks} {met} M L = M .at p (L .small) ∙ ap (has met) (L .tagged)
 
 -- what is said of each
-pub said-malformed : (m : MsgType) (w : Past) (r : Says) → First (rule1 (w .place) malformed ∷ Reason 0 0 ∷ []) r → r ≡ said m w malformed
+pub said-malformed : (m : MsgType) (w : Past) (r : Says) → First (rule1 (w .inside) malformed ∷ Reason 0 0 ∷ []) r → r ≡ said m w malformed
 unfolding said rule2
 said-malformed m w r F = F .is
 
 pub unknown-says : (m : MsgType) (w : Past) (t : ℕ) (v : Bytes) → inDictionary t ≡ false
-    → said m w (field t v) ≡ firstOf (rule1 (w .place) (field t v) ∷ cond (administrative m) Nothing (Reason 3 t) ∷ [])
+    → said m w (field t v) ≡ firstOf (rule1 (w .inside) (field t v) ∷ cond (administrative m) Nothing (Reason 3 t) ∷ [])
 unfolding said rule2 rule3 skipped
-unknown-says m w t v h = rw h (go (rule1 (w .place) (field t v)) (administrative m))
+unknown-says m w t v h = rw h (go (rule1 (w .inside) (field t v)) (administrative m))
   where
     go : (x : Says) (a : Bool) → firstOf (x ∷ Nothing ∷ Reason 3 t when (not a && true) ∷ cond (a && true) [] (rules4to10 m w t v)) ≡ firstOf (x ∷ cond a Nothing (Reason 3 t) ∷ [])
     go Nothing true = refl
@@ -130,19 +130,19 @@ unknown-says m w t v h = rw h (go (rule1 (w .place) (field t v)) (administrative
     go (Reason r u) a = refl
 
 pub said-unknown : (m : MsgType) (w : Past) (t : ℕ) (v : Bytes) (r : Says) → inDictionary t ≡ false
-    → First (rule1 (w .place) (field t v) ∷ cond (administrative m) Nothing (Reason 3 t) ∷ []) r → r ≡ said m w (field t v)
+    → First (rule1 (w .inside) (field t v) ∷ cond (administrative m) Nothing (Reason 3 t) ∷ []) r → r ≡ said m w (field t v)
 said-unknown m w t v r h F = F .is ∙ sym (unknown-says m w t v h)
 
 abbrev pub rulesHeard : MsgType → Past → ℕ → Bytes → List Says
 rulesHeard m w t v =
-    rule1 (w .place) (field t v) ∷ rule4 t v ∷ rule5 m (w .seen) t ∷ rule6 m t ∷ rule7 (w .seen) t ∷ rule8 m (left (w .place) (field t v)) t ∷ rule9 m t v ∷ rule10 m t v ∷ []
+    rule1 (w .inside) (field t v) ∷ rule4 t v ∷ rule5 m (w .seen) t ∷ rule6 m t ∷ rule7 (w .seen) t ∷ rule8 m (left (w .inside) (field t v)) t ∷ rule9 m t v ∷ rule10 m t v ∷ []
 
 pub known-says : (m : MsgType) (w : Past) (t : ℕ) (v : Bytes) → inDictionary t ≡ true → said m w (field t v) ≡ firstOf (rulesHeard m w t v)
 unfolding said rule2 rule3 skipped rules4to10
-known-says m w t v h = rw h (go (rule1 (w .place) (field t v)) (administrative m))
+known-says m w t v h = rw h (go (rule1 (w .inside) (field t v)) (administrative m))
   where
     l : List Says
-    l = rule4 t v ∷ rule5 m (w .seen) t ∷ rule6 m t ∷ rule7 (w .seen) t ∷ rule8 m (left (w .place) (field t v)) t ∷ rule9 m t v ∷ rule10 m t v ∷ []
+    l = rule4 t v ∷ rule5 m (w .seen) t ∷ rule6 m t ∷ rule7 (w .seen) t ∷ rule8 m (left (w .inside) (field t v)) t ∷ rule9 m t v ∷ rule10 m t v ∷ []
 
     go : (x : Says) (a : Bool) → firstOf (x ∷ Nothing ∷ Reason 3 t when (not a && false) ∷ cond (a && false) [] l) ≡ firstOf (x ∷ l)
     go Nothing true = refl

@@ -16,7 +16,7 @@ use Rattle.bytes.proofs.Decimals.{decimal-numeral, decimal-worth}
 use Rattle.fields.specs.Field.{partOf, field, parts, isBody}
 use Rattle.fields.proofs.Items.{field-part}
 use Rattle.table.specs.Dictionary.{Row, header, fields, administrative, listed, groupsOf, member, rowsOf, frameTag, inDictionary}
-use Rattle.dictionary.specs.Verdict.{Past, outside, nothingYet, said, after, taken, left, skipped, closing, missing, walk, rules4to10, rule1, rule2, rule3, rule4, rule5, rule6, rule7, rule8, rule9, rule10, msgType, verdict}
+use Rattle.dictionary.specs.Verdict.{Past, nothingYet, said, after, taken, left, skipped, closing, missing, walk, rules4to10, rule1, rule2, rule3, rule4, rule5, rule6, rule7, rule8, rule9, rule10, msgType, verdict}
 use Rattle.dictionary.specs.Promise.{OfKind, required}
 use Rattle.table.specs.declared.MsgType.{MsgType}
 use Rattle.dictionary.specs.declared.Says.the-variants.{Nothing, Reason}
@@ -24,7 +24,7 @@ use Rattle.dictionary.specs.declared.Verdict.the-variants.{Clean}
 
 -- the walk outside groups, with these tags met
 abbrev pub at : List ℕ → Past
-at seen = record { seen = seen; place = outside }
+at seen = record { seen = seen; inside = [] }
 
 -- a field of which no rule speaks there
 pub record Taken (m : MsgType) (seen : List ℕ) (t : ℕ) (v : Bytes) : Type 0 where

@@ -5,6 +5,8 @@ use borrow.Author.Tests.{eqb-true, eqb-false}
 use mathlib.Core.Path.{_≡_, refl, ap, sym, _∙_, subst}
 use mathlib.Core.List.{List, [], _∷_, _++_}
 use mathlib.Core.Bool.{Bool, true, false, cond, not, _&&_, _||_}
+use mathlib.Core.Logic.{_⊎_, inl, inr}
+use denote.Enum.Declared.{tagOf}
 use lib.Dec.{eqb}
 use lib.ListN.{length, getD, take, drop, set, replicate, length-replicate, getD-replicate}
 use lib.Seq.{getD-set-same, getD-set-other}
@@ -13,20 +15,21 @@ use Rattle.fields.specs.Field.{Part, field, malformed, parts}
 use Rattle.fields.specs.Item.{Span, Lies, Cut}
 use Rattle.fields.specs.declared.Item.{Item}
 use Rattle.fields.specs.declared.Item.the-variants.{Field, Malformed, End, NoBody}
+use Rattle.fields.proofs.Item.{the-type}
 use Rattle.fields.proofs.Rows.{Step, Stepped, parts-step}
 use Rattle.table.specs.Dictionary.{Row, header, fields}
 use Rattle.dictionary.specs.Verdict.{Past, firstOf, rule1, rule2, said, after, verdictBy, walk, nothingYet, missing}
 use Rattle.table.specs.code.Held.{tagCount, tagAt, Looked, Marked}
-use Rattle.dictionary.specs.code.Held.{away, Stands, Closing, Missing, Finished}
+use Rattle.dictionary.specs.code.Held.{away, Stands, Closing, Missing, outsideOf, Finished, EndedBy, Ended}
 use Rattle.table.specs.declared.MsgType.{MsgType}
 use Rattle.dictionary.specs.declared.Says.{Says}
 use Rattle.dictionary.specs.declared.Says.the-variants.{Nothing, Reason}
 use Rattle.dictionary.specs.declared.Verdict.{Verdict}
 use Rattle.dictionary.specs.declared.Verdict.the-variants.{Clean}
-use Rattle.dictionary.specs.declared.rules.State.{State}
+use Rattle.dictionary.specs.declared.groups.State.{State}
 use Rattle.table.specs.declared.lines.Entry.{Entry}
 use Rattle.table.proofs.Places.{one-place}
-use Rattle.dictionary.proofs.Groups.{alone}
+use Rattle.dictionary.proofs.Ending.{alone}
 
 -- a mark that is set, and no marks
 pub mark-more : {e : Entry} {p : ℕ} {marks : List Bool} {met : List ℕ} → Looked e p → length marks ≡ 128 → Marked marks met → Marked (set marks p true) (e .tag ∷ met)
@@ -52,15 +55,15 @@ pub record At (m : MsgType) (body : Bytes) (seen met : List Bool) (st : State) (
   pub seen-long : length seen ≡ 128
   pub met-long : length met ≡ 128
 
-pub begins : (m : MsgType) (body : Bytes) → At m body (replicate 128 false) (replicate 128 false) (record { over = false; group = 0; count = 0; begun = 0 }) 0
-begins m body = record {
+pub begins : (m : MsgType) (body : Bytes) {st : State} → st ≡ outsideOf false → At m body (replicate 128 false) (replicate 128 false) st 0
+begins m body e = subst (λ (x : State). At m body (replicate 128 false) (replicate 128 false) x 0) (sym e) (record {
   past = nothingYet;
   stands = record { marked = no-marks; over = refl; stood = away refl };
   rest = refl;
   few = omega arith;
   seen-long = length-replicate 128 false;
   met-long = length-replicate 128 false;
-}
+})
 
 -- a part that is found fault with, and one that is not
 walk-on : (m : MsgType) (w : Past) (body part : Bytes) (says : Part) (at next : ℕ) → Step body at part says next
@@ -72,25 +75,28 @@ by-reason s a t x y e = rw e
 
 malformed-speaks : (m : MsgType) (w : Past) (x y : Verdict) → verdictBy (said m w malformed) x ≡ verdictBy (said m w malformed) y
 unfolding said rule2
-malformed-speaks m w x y = go (rule1 (w .place) malformed)
+malformed-speaks m w x y = go (rule1 (w .inside) malformed)
   where
     go : (s : Says) → verdictBy (firstOf (s ∷ Reason 0 0 ∷ [])) x ≡ verdictBy (firstOf (s ∷ Reason 0 0 ∷ [])) y
     go Nothing = refl
     go (Reason a t) = refl
 
 module _ {m : MsgType} {body : Bytes} {seen met : List Bool} {st : State} {at : ℕ} (A : At m body seen met st at) where
-  pub ends-with : (part : Bytes) (says : Part) (next : ℕ) (r : Says) (f : Verdict) (a t : ℕ) → Step body at part says next → r ≡ said m (A .past) says → r ≡ Reason a t
+  pub ends-with : {part : Bytes} {says : Part} {next : ℕ} {r : Says} {f : Verdict} {a t : ℕ} → Step body at part says next → r ≡ said m (A .past) says → r ≡ Reason a t
       → f ≡ verdictBy r Clean → f ≡ walk m nothingYet (parts body)
-  ends-with part says next r f a t S s e v =
+  ends-with {part} {says} {next} {r} {f} {a} {t} S s e v =
       v ∙ by-reason r a t _ _ e ∙ ap (λ (x : Says). verdictBy x (walk m (after m (A .past) says) (parts (drop next body)))) s ∙ sym (walk-on m (A .past) body part says at next S) ∙ sym (A .rest)
 
-  pub goes-on : (part : Bytes) (says : Part) (next : ℕ) (r : Says) → Step body at part says next → r ≡ said m (A .past) says → r ≡ Nothing
-      → walk m nothingYet (parts body) ≡ walk m (after m (A .past) says) (parts (drop next body))
-  goes-on part says next r S s e =
-      A .rest ∙ walk-on m (A .past) body part says at next S ∙ ap (λ (x : Says). verdictBy x (walk m (after m (A .past) says) (parts (drop next body)))) (sym s ∙ e)
-
-  pub malformed-ends : {part : Bytes} {next : ℕ} {r : Says} {f : Verdict} → Step body at part malformed next → r ≡ said m (A .past) malformed → f ≡ verdictBy r Clean → f ≡ walk m nothingYet (parts body)
-  malformed-ends {part} {next} {r} {f} S s v = v ∙ ap (λ (x : Says). verdictBy x Clean) s ∙ malformed-speaks m (A .past) Clean _ ∙ sym (walk-on m (A .past) body part malformed at next S) ∙ sym (A .rest)
+  pub goes-on : {part : Bytes} {says : Part} {next : ℕ} {r : Says} {seen2 met2 : List Bool} {st2 : State} → Step body at part says next → r ≡ said m (A .past) says → r ≡ Nothing
+      → Stands (after m (A .past) says) seen2 met2 st2 → st2 .begun ≤ next → length seen2 ≡ 128 → length met2 ≡ 128 → At m body seen2 met2 st2 next
+  goes-on {part} {says} {next} S s e T f k l = record {
+    past = after m (A .past) says;
+    stands = T;
+    rest = A .rest ∙ walk-on m (A .past) body part says at next S ∙ ap (λ (x : Says). verdictBy x (walk m (after m (A .past) says) (parts (drop next body)))) (sym s ∙ e);
+    few = f;
+    seen-long = k;
+    met-long = l;
+  }
 
 -- what the item found at a place is
 module _ {body : Bytes} {at : ℕ} {r : Item} (C : Cut body at r) where
@@ -109,6 +115,27 @@ module _ {body : Bytes} {at : ℕ} {r : Item} (C : Cut body at r) where
   pub never-none : r ≡ NoBody → ⊥
   never-none h = subst (Lies body at) h (C .lies)
 
+-- what is no field
+pub other-ends : {m : MsgType} {seen met : List Bool} {st : State} {r : Verdict} (i : Item) → (tagOf the-type i ≡ 0) ⊎ (tagOf the-type i ≡ 3) → Ended m seen met st i r
+other-ends (Field t s e n) k = record { is = λ w S. tt }
+other-ends (Malformed s e n) (inl k) = absurd (omega arith)
+other-ends (Malformed s e n) (inr k) = absurd (omega arith)
+other-ends End (inl k) = absurd (omega arith)
+other-ends End (inr k) = absurd (omega arith)
+other-ends NoBody k = record { is = λ w S. tt }
+
+pub ends-here : {m : MsgType} {body : Bytes} {seen met : List Bool} {st : State} {at : ℕ} (A : At m body seen met st at) {i : Item} {f : Verdict} → Cut body at i
+    → (tagOf the-type i ≡ 1) ⊎ ((tagOf the-type i ≡ 2) ⊎ (tagOf the-type i ≡ 3)) → Ended m seen met st i f → f ≡ walk m nothingYet (parts body)
+ends-here {m} {body} A {i} {f} C K E = go i refl K (E .is (A .past) (A .stands))
+  where
+    go : (j : Item) → i ≡ j → (tagOf the-type j ≡ 1) ⊎ ((tagOf the-type j ≡ 2) ⊎ (tagOf the-type j ≡ 3)) → EndedBy m (A .past) j f → f ≡ walk m nothingYet (parts body)
+    go (Field t s e n) h (inl k) v = absurd (omega arith)
+    go (Field t s e n) h (inr (inl k)) v = absurd (omega arith)
+    go (Field t s e n) h (inr (inr k)) v = absurd (omega arith)
+    go (Malformed s e n) h k v = v ∙ malformed-speaks m (A .past) Clean _ ∙ sym (walk-on m (A .past) body _ malformed _ _ (malformed-step C h)) ∙ sym (A .rest)
+    go End h k v = v ∙ sym (A .rest ∙ ap (walk m (A .past)) (end-row C h))
+    go NoBody h k v = absurd (never-none C h)
+
 -- the end of the body
 missing-append : (k l : List Row) (met : List ℕ) → missing (k ++ l) met ≡ firstOf (missing k met ∷ missing l met ∷ [])
 missing-append [] l met = sym (alone (missing l met))
@@ -121,11 +148,11 @@ missing-append (r ∷ k) l met = go (r .required && not (has met (r .tag))) (mis
 
 module _ {m : MsgType} {seen met : List Bool} {st : State} {r : Says} (C : Closing met st r) where
   pub finish-closing : {a t : ℕ} {f : Verdict} → r ≡ Reason a t → f ≡ verdictBy r Clean → Finished m seen met st f
-  finish-closing e v = record { is = λ w S. v ∙ rw (sym (C .is (w .place) (S .stood)), e) }
+  finish-closing e v = record { is = λ w S. v ∙ rw (sym (C .is (w .inside) (S .stood)), e) }
 
   module _ {h : Says} (n : r ≡ Nothing) (H : Missing seen header h) where
     pub finish-header : {a t : ℕ} {f : Verdict} → h ≡ Reason a t → f ≡ verdictBy h Clean → Finished m seen met st f
-    finish-header e v = record { is = λ w S. v ∙ rw (sym (C .is (w .place) (S .stood)), n, missing-append header (fields m) (w .seen), sym (H .is (w .seen) (S .marked)), e) }
+    finish-header e v = record { is = λ w S. v ∙ rw (sym (C .is (w .inside) (S .stood)), n, missing-append header (fields m) (w .seen), sym (H .is (w .seen) (S .marked)), e) }
 
     pub finish-own : {o : Says} {f : Verdict} → h ≡ Nothing → Missing seen (fields m) o → f ≡ verdictBy o Clean → Finished m seen met st f
-    finish-own {o} e O v = record { is = λ w S. v ∙ rw (sym (C .is (w .place) (S .stood)), n, missing-append header (fields m) (w .seen), sym (H .is (w .seen) (S .marked)), e, sym (O .is (w .seen) (S .marked)), alone (firstOf (o ∷ [])), alone o) }
+    finish-own {o} e O v = record { is = λ w S. v ∙ rw (sym (C .is (w .inside) (S .stood)), n, missing-append header (fields m) (w .seen), sym (H .is (w .seen) (S .marked)), e, sym (O .is (w .seen) (S .marked)), alone (firstOf (o ∷ [])), alone o) }

@@ -15,20 +15,17 @@ use Rattle.dictionary.specs.declared.Says.the-variants.{Nothing, Reason}
 use Rattle.dictionary.specs.declared.Verdict.{Verdict}
 use Rattle.dictionary.specs.declared.Verdict.the-variants.{Clean, Finding, NoBody}
 
--- What the walk remembers of the fields before: the tags met outside groups (128 marks in the code), and the group that is open, if one is.
+-- What the walk remembers of the fields before: the tags met outside groups (128 marks in the code), and the groups that are open, the innermost
+-- first. In document 01 no group holds another, so there is at most one.
 pub record Open : Type 0 where
   pub group : Group
   pub count : ℕ  -- what its count field says
   pub begun : ℕ  -- the instances begun
   pub last : List ℕ  -- the members met in the last of them
 
-pub data Place : Type 0 where
-  outside : Place
-  inside : Open → Place
-
 pub record Past : Type 0 where
   pub seen : List ℕ
-  pub place : Place
+  pub inside : List Open
 
 -- What a rule says of a field: nothing, or a reason with a tag. Of several rules the first that speaks stands.
 infix 70 reason_tag_
@@ -59,9 +56,13 @@ incomplete g = missing (g .group .members) (g .last) when not (eqb (g .begun) 0)
 abbrev pub miscounted : Open → Says
 miscounted g = reason 16 tag g .group .counter when not (eqb (g .begun) (g .count))
 
-unfoldable pub closing : Place → Says
-closing outside = Nothing
-closing (inside g) = firstOf (incomplete g ∷ miscounted g ∷ [])
+unfoldable pub closing : Open → Says
+closing g = firstOf (incomplete g ∷ miscounted g ∷ [])
+
+-- of all that are open, the innermost first
+abbrev pub closingAll : List Open → Says
+closingAll [] = Nothing
+closingAll (g ∷ gs) = firstOf (closing g ∷ closingAll gs ∷ [])
 
 abbrev pub ends : List Row → Part → Bool
 ends members malformed = true
@@ -76,14 +77,15 @@ abbrev pub begins : List Row → Part → Bool
 begins members malformed = false
 begins members (field t v) = firstMember members t
 
-unfoldable pub rule1 : Place → Part → Says
-rule1 outside p = Nothing
-rule1 (inside g) p = firstOf (closing (inside g) when ends (g .group .members) p ∷ incomplete g when begins (g .group .members) p ∷ [])
+unfoldable pub rule1 : List Open → Part → Says
+rule1 [] p = Nothing
+rule1 (g ∷ gs) p =
+    cond (ends (g .group .members) p) (firstOf (closing g ∷ rule1 gs p ∷ [])) (incomplete g when begins (g .group .members) p)
 
--- where the field then stands: in the open group if it is one of its members, else outside; rule 8 looks at this place
-unfoldable pub left : Place → Part → Place
-left outside p = outside
-left (inside g) p = cond (ends (g .group .members) p) outside (inside g)
+-- the groups that it leaves open: the innermost is one that it is a member of; rule 8 looks there
+unfoldable pub left : List Open → Part → List Open
+left [] p = []
+left (g ∷ gs) p = cond (ends (g .group .members) p) (left gs p) (g ∷ gs)
 
 -- "2. no `=`, or a malformed tag: 0, tag reported 0"
 unfoldable pub rule2 : Part → Says
@@ -116,9 +118,9 @@ rule7 seen t = reason 14 tag t when (listed header t && any (λ s. not (listed h
 
 -- "8. a member outside its group, or a first instance that doesn't begin with the group's first member: 15. That first member starts each instance,
 -- the others follow in any order; another member twice in one instance: 13"
-unfoldable pub rule8 : MsgType → Place → ℕ → Says
-rule8 m outside t = reason 15 tag t when member m t
-rule8 m (inside g) t =
+unfoldable pub rule8 : MsgType → List Open → ℕ → Says
+rule8 m [] t = reason 15 tag t when member m t
+rule8 m (g ∷ gs) t =
     firstOf (reason 15 tag t when eqb (g .begun) 0 ∷ reason 13 tag t when has (g .last) t ∷ []) when not (firstMember (g .group .members) t)
 
 -- "9. bad form: 6 (numbers, Y/N, the shape of dates)"
@@ -132,18 +134,18 @@ rule10 m t v = reason 5 tag t when not (allowed (kindIn (rowsOf m) t) v)
 -- What is said of a part: the first rule that speaks stands.
 unfoldable pub rules4to10 : MsgType → Past → ℕ → Bytes → List Says
 rules4to10 m w t v =
-    rule4 t v ∷ rule5 m (w .seen) t ∷ rule6 m t ∷ rule7 (w .seen) t ∷ rule8 m (left (w .place) (field t v)) t ∷ rule9 m t v ∷ rule10 m t v ∷ []
+    rule4 t v ∷ rule5 m (w .seen) t ∷ rule6 m t ∷ rule7 (w .seen) t ∷ rule8 m (left (w .inside) (field t v)) t ∷ rule9 m t v ∷ rule10 m t v ∷ []
 
 unfoldable pub said : MsgType → Past → Part → Says
-said m w malformed = firstOf (rule1 (w .place) malformed ∷ rule2 malformed ∷ [])
+said m w malformed = firstOf (rule1 (w .inside) malformed ∷ rule2 malformed ∷ [])
 said m w (field t v) =
-    firstOf (rule1 (w .place) (field t v) ∷ rule2 (field t v) ∷ rule3 m t ∷ cond (skipped m t) [] (rules4to10 m w t v))
+    firstOf (rule1 (w .inside) (field t v) ∷ rule2 (field t v) ∷ rule3 m t ∷ cond (skipped m t) [] (rules4to10 m w t v))
 
--- What is remembered of a field that no rule spoke of: outside groups its tag, and the group that its count opens; in a group the member,
--- which begins an instance if it is the first. A skipped field leaves nothing but the end of a group.
-abbrev pub opened : List Group → ℕ → Bytes → Place
-opened [] t v = outside
-opened (g ∷ gs) t v = cond (eqb (g .counter) t) (inside (record { group = g; count = value v; begun = 0; last = [] })) (opened gs t v)
+-- What is remembered of a field that no rule spoke of: outside groups its tag; in a group the member, which begins an instance if it is the
+-- first; and the group that its count opens. A skipped field leaves nothing but the end of the groups.
+abbrev pub opened : List Group → ℕ → Bytes → List Open
+opened [] t v = []
+opened (g ∷ gs) t v = cond (eqb (g .counter) t) (record { group = g; count = value v; begun = 0; last = [] } ∷ []) (opened gs t v)
 
 abbrev pub joined : Open → ℕ → Open
 joined g t =
@@ -151,14 +153,14 @@ joined g t =
     (record { group = g .group; count = g .count; begun = g .begun + 1; last = t ∷ [] })
     (record { group = g .group; count = g .count; begun = g .begun; last = t ∷ g .last })
 
-unfoldable pub taken : MsgType → List ℕ → Place → ℕ → Bytes → Past
-taken m seen outside t v = record { seen = t ∷ seen; place = opened (groupsOf m) t v }
-taken m seen (inside g) t v = record { seen = seen; place = inside (joined g t) }
+unfoldable pub taken : MsgType → List ℕ → List Open → ℕ → Bytes → Past
+taken m seen [] t v = record { seen = t ∷ seen; inside = opened (groupsOf m) t v }
+taken m seen (g ∷ gs) t v = record { seen = seen; inside = opened (groupsOf m) t v ++ (joined g t ∷ gs) }
 
 unfoldable pub after : MsgType → Past → Part → Past
 after m w malformed = w
 after m w (field t v) =
-    let place = left (w .place) (field t v) in cond (skipped m t) (record { seen = w .seen; place = place }) (taken m (w .seen) place t v)
+    let inside = left (w .inside) (field t v) in cond (skipped m t) (record { seen = w .seen; inside = inside }) (taken m (w .seen) inside t v)
 
 -- "the first finding stands"; "At the end, after step 1: the first missing required tag, header first, in the order above: 1."
 abbrev pub verdictBy : Says → Verdict → Verdict
@@ -166,7 +168,7 @@ verdictBy Nothing rest = rest
 verdictBy (Reason r t) rest = Finding r t
 
 abbrev pub walk : MsgType → Past → List Bytes → Verdict
-walk m w [] = verdictBy (firstOf (closing (w .place) ∷ missing (header ++ fields m) (w .seen) ∷ [])) Clean
+walk m w [] = verdictBy (firstOf (closingAll (w .inside) ∷ missing (header ++ fields m) (w .seen) ∷ [])) Clean
 walk m w (p ∷ ps) = verdictBy (said m w (partOf p)) (walk m (after m w (partOf p)) ps)
 
 -- "MsgType outside the nine: reason 11, tag 35. Otherwise fields are walked from the left". MsgType is the first field 35.
@@ -178,7 +180,7 @@ abbrev pub msgType : Bytes → Option MsgType
 msgType body = typeBy (firstField 35 body)
 
 abbrev pub nothingYet : Past
-nothingYet = record { seen = []; place = outside }
+nothingYet = record { seen = []; inside = [] }
 
 abbrev pub judgedAs : Option MsgType → Bytes → Verdict
 judgedAs none body = Finding 11 35

@@ -13,6 +13,8 @@ pub enum Verdict {
     NoBody,
 }
 
+mod bits;
+mod groups;
 mod missing;
 mod rules;
 mod walk;

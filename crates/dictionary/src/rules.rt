@@ -1,107 +1,18 @@
-// The ten rules at a field, each a function under its number.
+// Rules 2 to 10 at a field, each a function under its number, and the first of all ten that speaks.
 use super::Says;
-use super::missing::missing_member;
+use super::bits::bit;
+use super::bits::is_administrative;
+use super::bits::is_in;
+use super::groups::State;
+use super::groups::is_inside;
+use super::groups::rule_1;
 use table::Entry;
 use table::MsgType;
 use table::kind_of;
 ghost use mathlib.Core.Path.{_≡_};
-ghost use Prim.Native.Nat.{_<_};
-ghost use Rattle.table.specs.Dictionary.{administrative};
 ghost use Rattle.dictionary.specs.Verdict.{rule4, rule6};
-ghost use Rattle.table.specs.code.Held.{Index, index, bitOf, Right, Looked};
-ghost use Rattle.dictionary.specs.code.Held.{insideOf, Incomplete, Closing, Rule1, Rule5, Rule7, Rule8, Rules9and10, OfMalformed, OfUnknown, OfKnown, Counted, Over, Noted, leftOf, begunOf};
-
-// What the walk holds beside its marks: a tag outside the header was met; the open group by its count tag (0: none), its count, and the instances
-// begun.
-pub struct State {
-    pub over: bool,
-    pub group: u32,
-    pub count: u32,
-    pub begun: u32,
-}
-
-// The bit of a message in an entry's marks.
-fn bit_of(m: MsgType) -> u32
-    ensures { λ r. ⌜ Index m r ⌝ }
-{
-    match m {
-        MsgType::Heartbeat => 0,
-        MsgType::TestRequest => 1,
-        MsgType::ResendRequest => 2,
-        MsgType::Reject => 3,
-        MsgType::SequenceReset => 4,
-        MsgType::Logout => 5,
-        MsgType::Logon => 6,
-        MsgType::OrderCancelRequest => 7,
-        MsgType::TradeCaptureReportRequest => 8,
-    }
-}
-
-fn bit(marks: u32, k: u32) -> bool
-    requires { ⌜ k < 32 ⌝ }
-    ensures { λ r. ⌜ r ≡ bitOf marks k ⌝ }
-{
-    (marks >> k) % 2 == 1
-}
-
-fn is_in(marks: u32, m: MsgType) -> bool
-    ensures { λ r. ⌜ r ≡ bitOf marks (index m) ⌝ }
-{
-    bit(marks, bit_of(m))
-}
-
-// The seven types before F and AD.
-pub fn is_administrative(m: MsgType) -> bool
-    ensures { λ r. ⌜ r ≡ administrative m ⌝ }
-{
-    bit_of(m) < 7
-}
-
-// Rule 1, a required member missing from the last instance, if one began.
-fn incomplete(st: State, met: &[bool; 128]) -> Says
-    ensures { λ r. ⌜ Incomplete (now (met .entry)) st r ⌝ }
-{
-    if st.begun == 0 {
-        return Says::Nothing;
-    }
-    missing_member(met, st.group)
-}
-
-// Rule 1, the two checks at the end of a group.
-pub fn closing(st: State, met: &[bool; 128]) -> Says
-    ensures { λ r. ⌜ Closing (now (met .entry)) st r ⌝ }
-{
-    if st.group == 0 {
-        return Says::Nothing;
-    }
-    let r = incomplete(st, met);
-    let Says::Nothing = r else {
-        return r;
-    };
-    if st.begun == st.count {
-        return Says::Nothing;
-    }
-    Says::Reason {
-        reason: 16,
-        tag: st.group,
-    }
-}
-
-// Rule 1 at a part that is a member of this group, or of none.
-pub fn rule_1(st: State, met: &[bool; 128], group: u32, first: bool) -> Says
-    ensures { λ r. ⌜ Rule1 (now (met .entry)) st group first r ⌝ }
-{
-    if st.group == 0 {
-        return Says::Nothing;
-    }
-    if st.group != group {
-        return closing(st, met);
-    }
-    if first {
-        return incomplete(st, met);
-    }
-    Says::Nothing
-}
+ghost use Rattle.table.specs.code.Held.{Right, Looked};
+ghost use Rattle.dictionary.specs.code.Held.{Rule5, Rule7, Rule8, Rules9and10, OfMalformed, OfUnknown, OfKnown};
 
 // Rule 4: empty value.
 fn rule_4(tag: u32, v: &[u8]) -> Says
@@ -168,16 +79,6 @@ fn rule_7(e: Entry, over: bool) -> Says
         return Says::Nothing;
     }
     Says::Nothing
-}
-
-// The field stands in the open group.
-pub fn is_inside(st: State, e: Entry) -> bool
-    ensures { λ r. ⌜ r ≡ insideOf st e ⌝ }
-{
-    if st.group == 0 {
-        return false;
-    }
-    st.group == e.member.group
 }
 
 // Rule 8: a member outside its group, a first instance that doesn't begin with the first member, or another member twice in one.
@@ -291,72 +192,4 @@ pub fn of_known(
         return r8;
     };
     rules_9_and_10(m, e, v)
-}
-
-// The number that the value of a count field writes.
-fn count_of(v: &[u8]) -> u32
-    ensures { λ r. ⌜ Counted (now (v .entry)) r ⌝ }
-{
-    match kinds::read_number(v) {
-        kinds::Number::Is(n) => n,
-        kinds::Number::Bad => 0,
-    }
-}
-
-// A tag outside the header was met, this one included.
-fn over_with(over: bool, e: Entry) -> bool
-    requires { ⌜ Right e ⌝ }
-    ensures { λ r. ⌜ Over over (e .tag) r ⌝ }
-{
-    if bit(e.marks, 28) {
-        return over;
-    }
-    true
-}
-
-// The state behind a field outside groups; a count field opens its group.
-pub fn noted(st: State, e: Entry, v: &[u8]) -> State
-    requires { ⌜ Right e ⌝ }
-    ensures { λ r. ⌜ Noted st (e .tag) (now (v .entry)) r ⌝ }
-{
-    let over = over_with(st.over, e);
-    if bit(e.marks, 30) {
-        return State {
-            over,
-            group: e.tag,
-            count: count_of(v),
-            begun: 0,
-        };
-    }
-    State {
-        over,
-        group: 0,
-        count: 0,
-        begun: 0,
-    }
-}
-
-// The state behind a field that is skipped.
-pub fn left(st: State) -> State
-    ensures { λ r. ⌜ r ≡ leftOf st ⌝ }
-{
-    State {
-        over: st.over,
-        group: 0,
-        count: 0,
-        begun: 0,
-    }
-}
-
-// The state behind a first member, which begins an instance.
-pub fn begun(st: State) -> State
-    requires { ⌜ st .begun < 4096 ⌝ }
-    ensures { λ r. ⌜ r ≡ begunOf st ⌝ }
-{
-    State {
-        over: st.over,
-        group: st.group,
-        count: st.count,
-        begun: st.begun + 1,
-    }
 }

@@ -1,14 +1,12 @@
 // The walk along the fields of a body, and the verdict.
 use super::Says;
 use super::Verdict;
+use super::groups::State;
+use super::groups::closing;
+use super::groups::outside;
+use super::groups::remembered;
 use super::missing::missing_header;
 use super::missing::missing_own;
-use super::rules::State;
-use super::rules::begun;
-use super::rules::closing;
-use super::rules::is_inside;
-use super::rules::left;
-use super::rules::noted;
 use super::rules::of_known;
 use super::rules::of_malformed;
 use super::rules::of_unknown;
@@ -30,7 +28,7 @@ ghost use Rattle.fields.specs.Field.{parts};
 ghost use mathlib.Core.List.{[], _∷_};
 ghost use Rattle.table.specs.Dictionary.{typeOf, named};
 ghost use Rattle.dictionary.specs.Verdict.{verdictBy, walk, nothingYet, verdict};
-ghost use Rattle.dictionary.specs.code.Held.{Finished};
+ghost use Rattle.dictionary.specs.code.Held.{Finished, Ended};
 
 // The verdict by what was said, where nothing more is to come.
 fn finding(said: Says) -> Verdict
@@ -57,8 +55,22 @@ fn finish(m: MsgType, st: State, seen: &[bool; 128], met: &[bool; 128]) -> Verdi
     finding(missing_own(seen, m))
 }
 
-// The fields from the left; the first finding stands. One mark is set at each field outside groups (seen); the members met in the last instance of
-// the open group have marks of their own, at the same places (met).
+// Where the fields end: a malformed part, or the end of the body.
+fn ended(m: MsgType, item: Item, st: State, seen: &[bool; 128], met: &[bool; 128]) -> Verdict
+    ensures { λ r. ⌜ Ended m (now (seen .entry)) (now (met .entry)) st item r ⌝ }
+{
+    match item {
+        Item::Malformed {
+            start: _,
+            end: _,
+            next: _,
+        } => finding(of_malformed(st, met)),
+        Item::End => finish(m, st, seen, met),
+        _ => Verdict::NoBody,
+    }
+}
+
+// The fields from the left; the first finding stands.
 fn walk(m: MsgType, body: &[u8]) -> Verdict
     requires { ⌜ length (now body) ≤ 2048 ⌝ }
     ensures { λ r. ⌜ r ≡ walk m nothingYet (parts (now (body .entry))) ⌝ }
@@ -66,64 +78,36 @@ fn walk(m: MsgType, body: &[u8]) -> Verdict
     let t = table();
     let mut seen = [false; 128];
     let mut met = [false; 128];
-    let mut st = State {
-        over: false,
-        group: 0,
-        count: 0,
-        begun: 0,
-    };
+    let mut st = outside(false);
     let mut at: usize = 0;
     loop {
         let item = fields::item_at(body, at);
-        match item {
-            Item::Field {
-                tag,
-                start,
-                end,
-                next,
-            } => {
-                let p = place_of(tag);
-                if p == TAGS {
-                    let said = of_unknown(m, st, &met, tag);
-                    let Says::Nothing = said else {
-                        return finding(said);
-                    };
-                    st = left(st);
-                    at = next;
-                    continue;
-                }
-                let line = t[p];
-                let e = entry_of(line);
-                let v = &body[start..end];
-                let said = of_known(m, st, e, p, &seen, &met, v);
-                let Says::Nothing = said else {
-                    return finding(said);
-                };
-                if !is_inside(st, e) {
-                    seen[p] = true;
-                    st = noted(st, e, v);
-                    at = next;
-                    continue;
-                }
-                if e.member.first {
-                    met = [false; 128];
-                    met[p] = true;
-                    st = begun(st);
-                    at = next;
-                    continue;
-                }
-                met[p] = true;
-                at = next;
-                continue;
-            }
-            Item::Malformed {
-                start: _,
-                end: _,
-                next: _,
-            } => return finding(of_malformed(st, &met)),
-            Item::End => return finish(m, st, &seen, &met),
-            Item::NoBody => return Verdict::NoBody,
+        let Item::Field {
+            tag,
+            start,
+            end,
+            next,
+        } = item
+        else {
+            return ended(m, item, st, &seen, &met);
+        };
+        at = next;
+        let p = place_of(tag);
+        if p == TAGS {
+            let said = of_unknown(m, st, &met, tag);
+            let Says::Nothing = said else {
+                return finding(said);
+            };
+            st = outside(st.over);
+            continue;
         }
+        let e = entry_of(t[p]);
+        let v = &body[start..end];
+        let said = of_known(m, st, e, p, &seen, &met, v);
+        let Says::Nothing = said else {
+            return finding(said);
+        };
+        st = remembered(st, e, p, v, &mut seen, &mut met);
     }
 }
 

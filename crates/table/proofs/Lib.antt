@@ -1,3 +1,4 @@
 pub mod Lists
 pub mod Places
 pub mod Needs
+pub mod Groups

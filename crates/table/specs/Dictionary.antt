@@ -131,17 +131,21 @@ abbrev pub kindIn : List Row → ℕ → Kind
 kindIn [] t = text 32
 kindIn (r ∷ rs) t = cond (eqb (r .tag) t) (r .kind) (kindIn rs t)
 
--- the groups of a message are those whose count field it lists
+-- the groups whose count field some rows list
 abbrev pub groupsAmong : List Group → List Row → List Group
 groupsAmong [] rows = []
 groupsAmong (g ∷ gs) rows = cond (listed rows (g .counter)) (g ∷ groupsAmong gs rows) (groupsAmong gs rows)
 
-unfoldable pub groupsOf : MsgType → List Group
-groupsOf m = groupsAmong groups (fields m)
-
 abbrev pub allMembers : List Group → List Row
 allMembers [] = []
 allMembers (g ∷ gs) = g .members ++ allMembers gs
+
+-- the groups of a message are those whose count field it lists, or one of its groups does, three levels down (in document 01 none does)
+abbrev pub deeper : List Row → List Group → List Group
+deeper rows gs = groupsAmong groups (rows ++ allMembers gs)
+
+unfoldable pub groupsOf : MsgType → List Group
+groupsOf m = deeper (fields m) (deeper (fields m) (deeper (fields m) []))
 
 -- t is a member of a group of the message
 unfoldable pub member : MsgType → ℕ → Bool

@@ -1,20 +1,24 @@
 -- What the walk remembers, and what its functions answer. Only the code's walk needs these: nothing here states document 01.
-use Prim.Native.Nat.{ℕ, _+_}
+use Prim.Native.Nat.{ℕ, _+_, _≤_}
 use mathlib.Core.Path.{_≡_}
 use mathlib.Core.List.{List, [], _∷_, _++_}
 use mathlib.Core.Bool.{Bool, true, false, not, _&&_}
 use lib.Dec.{eqb}
+use lib.ListN.{length}
 use Rattle.bytes.specs.Bytes.{Bytes, any, has, value}
 use Rattle.fields.specs.Field.{Part, field, malformed}
+use Rattle.fields.specs.declared.Item.{Item}
+use Rattle.fields.specs.declared.Item.the-variants.{Field, Malformed, End, NoBody}
 use Rattle.kinds.specs.Kind.{isNumber}
 use Rattle.table.specs.Dictionary.{Row, Group, header, fields, listed, groupsOf, rowsOf}
 use Rattle.table.specs.code.Held.{tags, Two, Marked}
-use Rattle.dictionary.specs.Verdict.{Open, Place, outside, inside, Past, firstOf, missing, incomplete, closing, ends, begins, left, rule1, rule5, rule7, rule8, rule9, rule10, said, opened, walk}
+use Rattle.dictionary.specs.Verdict.{Open, Past, firstOf, missing, incomplete, closingAll, ends, begins, left, rule1, rule5, rule7, rule8, rule9, rule10, said, opened, after, verdictBy, walk}
 use Rattle.table.specs.declared.MsgType.{MsgType}
 use Rattle.dictionary.specs.declared.Says.{Says}
 use Rattle.dictionary.specs.declared.Says.the-variants.{Nothing}
 use Rattle.dictionary.specs.declared.Verdict.{Verdict}
-use Rattle.dictionary.specs.declared.rules.State.{State}
+use Rattle.dictionary.specs.declared.Verdict.the-variants.{Clean}
+use Rattle.dictionary.specs.declared.groups.State.{State}
 use Rattle.table.specs.declared.lines.Entry.{Entry}
 
 -- WHAT THE WALK REMEMBERS. An open group, and the code's state in it
@@ -25,9 +29,10 @@ pub record InGroup (g : Open) (met : List Bool) (st : State) : Type 0 where
   pub begun : st .begun ≡ g .begun
   pub last : eqb (g .begun) 0 ≡ false → Marked met (g .last)
 
-pub data Stood : Place → List Bool → State → Type 0 where
-  away : {met : List Bool} {st : State} → st .group ≡ 0 → Stood outside met st
-  within : {g : Open} {met : List Bool} {st : State} → InGroup g met st → Stood (inside g) met st
+-- no group is open, or one: the code's state has room for no more
+pub data Stood : List Open → List Bool → State → Type 0 where
+  away : {met : List Bool} {st : State} → st .group ≡ 0 → Stood [] met st
+  within : {g : Open} {met : List Bool} {st : State} → InGroup g met st → Stood (g ∷ []) met st
 
 -- the field of an entry is a member of the open group
 abbrev pub insideOf : State → Entry → Bool
@@ -40,7 +45,7 @@ pastHeader seen = any (λ s. not (listed header s)) seen
 pub record Stands (w : Past) (seen met : List Bool) (st : State) : Type 0 where
   pub marked : Marked seen (w .seen)
   pub over : st .over ≡ pastHeader (w .seen)
-  pub stood : Stood (w .place) met st
+  pub stood : Stood (w .inside) met st
 
 -- a part is a member of the group with this count tag, and its first one, or of none
 pub record Belongs (p : Part) (group : ℕ) (first : Bool) : Type 0 where
@@ -55,10 +60,10 @@ pub record Incomplete (met : List Bool) (st : State) (r : Says) : Type 0 where
   pub is : (g : Open) → InGroup g met st → r ≡ incomplete g
 
 pub record Closing (met : List Bool) (st : State) (r : Says) : Type 0 where
-  pub is : (pl : Place) → Stood pl met st → r ≡ closing pl
+  pub is : (gs : List Open) → Stood gs met st → r ≡ closingAll gs
 
 pub record Rule1 (met : List Bool) (st : State) (group : ℕ) (first : Bool) (r : Says) : Type 0 where
-  pub is : (pl : Place) (p : Part) → Stood pl met st → Belongs p group first → r ≡ rule1 pl p
+  pub is : (gs : List Open) (p : Part) → Stood gs met st → Belongs p group first → r ≡ rule1 gs p
 
 pub record Rule5 (m : MsgType) (t : ℕ) (mark : Bool) (r : Says) : Type 0 where
   pub is : (seen : List ℕ) → mark ≡ has seen t → r ≡ rule5 m seen t
@@ -67,17 +72,17 @@ pub record Rule7 (t : ℕ) (over : Bool) (r : Says) : Type 0 where
   pub is : (seen : List ℕ) → over ≡ pastHeader seen → r ≡ rule7 seen t
 
 pub record Rule8 (m : MsgType) (met : List Bool) (st : State) (t : ℕ) (r : Says) : Type 0 where
-  pub is : (pl : Place) (v : Bytes) → Stood pl met st → r ≡ rule8 m (left pl (field t v)) t
+  pub is : (gs : List Open) (v : Bytes) → Stood gs met st → r ≡ rule8 m (left gs (field t v)) t
 
 pub record Rules9and10 (m : MsgType) (t : ℕ) (v : Bytes) (r : Says) : Type 0 where
   pub is : listed (rowsOf m) t ≡ true → r ≡ firstOf (rule9 m t v ∷ rule10 m t v ∷ [])
 
 -- what is said of a part
 pub record OfMalformed (met : List Bool) (st : State) (r : Says) : Type 0 where
-  pub is : (m : MsgType) (w : Past) → Stood (w .place) met st → r ≡ said m w malformed
+  pub is : (m : MsgType) (w : Past) → Stood (w .inside) met st → r ≡ said m w malformed
 
 pub record OfUnknown (m : MsgType) (met : List Bool) (st : State) (t : ℕ) (r : Says) : Type 0 where
-  pub is : (w : Past) (v : Bytes) → Stood (w .place) met st → has tags t ≡ false → r ≡ said m w (field t v)
+  pub is : (w : Past) (v : Bytes) → Stood (w .inside) met st → has tags t ≡ false → r ≡ said m w (field t v)
 
 pub record OfKnown (m : MsgType) (seen met : List Bool) (st : State) (t : ℕ) (v : Bytes) (r : Says) : Type 0 where
   pub is : (w : Past) → Stands w seen met st → r ≡ said m w (field t v)
@@ -91,16 +96,33 @@ pub record Counted (v : Bytes) (r : ℕ) : Type 0 where
 
 pub record Noted (st : State) (t : ℕ) (v : Bytes) (r : State) : Type 0 where
   pub over : Over (st .over) t (r .over)
-  pub place : (m : MsgType) (met : List Bool) → listed (header ++ fields m) t ≡ true → rule9 m t v ≡ Nothing → Stood (opened (groupsOf m) t v) met r
+  pub opens : (m : MsgType) (met : List Bool) → listed (header ++ fields m) t ≡ true → rule9 m t v ≡ Nothing → Stood (opened (groupsOf m) t v) met r
   pub none : r .begun ≡ 0
 
--- .. one that is skipped, and a first member
-abbrev pub leftOf : State → State
-leftOf st = record { over = st .over; group = 0; count = 0; begun = 0 }
+-- .. one that leaves no group open, and a first member
+abbrev pub outsideOf : Bool → State
+outsideOf over = record { over = over; group = 0; count = 0; begun = 0 }
 
 abbrev pub begunOf : State → State
 begunOf st = record { over = st .over; group = st .group; count = st .count; begun = st .begun + 1 }
 
--- THE WALK. The end of the body.
+-- and any of the dictionary, with the marks
+pub record Remembered (seen met : List Bool) (st : State) (t : ℕ) (v : Bytes) (seen2 met2 : List Bool) (r : State) : Type 0 where
+  pub is : (m : MsgType) (w : Past) → Stands w seen met st → said m w (field t v) ≡ Nothing → Stands (after m w (field t v)) seen2 met2 r
+  pub few : r .begun ≤ st .begun + 1
+  pub seen-long : length seen2 ≡ 128
+  pub met-long : length met2 ≡ 128
+
+-- THE WALK. The end of the body, ..
 pub record Finished (m : MsgType) (seen met : List Bool) (st : State) (r : Verdict) : Type 0 where
   pub is : (w : Past) → Stands w seen met st → r ≡ walk m w []
+
+-- .. and what is no field: a malformed part, or that end
+abbrev pub EndedBy : MsgType → Past → Item → Verdict → Type 0
+EndedBy m w (Field t s e n) r = Unit {0}
+EndedBy m w (Malformed s e n) r = r ≡ verdictBy (said m w malformed) Clean
+EndedBy m w End r = r ≡ walk m w []
+EndedBy m w NoBody r = Unit {0}
+
+pub record Ended (m : MsgType) (seen met : List Bool) (st : State) (item : Item) (r : Verdict) : Type 0 where
+  pub is : (w : Past) → Stands w seen met st → EndedBy m w item r

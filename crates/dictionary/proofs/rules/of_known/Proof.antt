@@ -10,7 +10,7 @@ returns c =
     let s = c .before .before .before .before in
     record {
       is = λ w S. said-known _ w _ _ _ (known-entry (s .pre))
-          (stops (c .before .before .rule-1 .ensures .is (w .place) _ (S .stood) (entry-belongs _ _ (s .pre .right))) (c .enum-told2 .given .1));
+          (stops (c .before .before .rule-1 .ensures .is (w .inside) _ (S .stood) (entry-belongs _ _ (s .pre .right))) (c .enum-told2 .given .1));
     }
 
 returns-2 : tie.Need-returns-2
@@ -18,7 +18,7 @@ returns-2 c =
     let s = c .before .before .before .before .before .before .before in
     record {
       is = λ w S. said-known _ w _ _ _ (known-entry (s .pre))
-          (passes (c .before .before .before .before .before .rule-1 .ensures .is (w .place) _ (S .stood) (entry-belongs _ _ (s .pre .right))) (c .before .before .before .enum-told .given .1)
+          (passes (c .before .before .before .before .before .rule-1 .ensures .is (w .inside) _ (S .stood) (entry-belongs _ _ (s .pre .right))) (c .before .before .before .enum-told .given .1)
           (stops (c .before .before .rule-4 .ensures) (c .enum-told4 .given .1)));
     }
 
@@ -27,7 +27,7 @@ returns-3 c =
     let s = c .before .before .before .before .before .before .before .before .before .before .before in
     record {
       is = λ w S. said-known _ w _ _ _ (known-entry (s .pre))
-          (passes (c .before .before .before .before .before .before .before .before .before .rule-1 .ensures .is (w .place) _ (S .stood) (entry-belongs _ _ (s .pre .right))) (c .before .before .before .before .before .before .before .enum-told .given .1)
+          (passes (c .before .before .before .before .before .before .before .before .before .rule-1 .ensures .is (w .inside) _ (S .stood) (entry-belongs _ _ (s .pre .right))) (c .before .before .before .before .before .before .before .enum-told .given .1)
           (passes (c .before .before .before .before .before .before .rule-4 .ensures) (c .before .before .before .before .enum-told3 .given .1)
           (stops (c .before .before .rule-5 .ensures .is (w .seen) (mark-seen (S .marked) (s .pre))) (c .enum-told6 .given .1))));
     }
@@ -37,7 +37,7 @@ returns-4 c =
     let s = c .before .before .before .before .before .before .before .before .before .before .before .before .before .before in
     record {
       is = λ w S. said-known _ w _ _ _ (known-entry (s .pre))
-          (passes (c .before .before .before .before .before .before .before .before .before .before .before .before .rule-1 .ensures .is (w .place) _ (S .stood) (entry-belongs _ _ (s .pre .right))) (c .before .before .before .before .before .before .before .before .before .before .enum-told .given .1)
+          (passes (c .before .before .before .before .before .before .before .before .before .before .before .before .rule-1 .ensures .is (w .inside) _ (S .stood) (entry-belongs _ _ (s .pre .right))) (c .before .before .before .before .before .before .before .before .before .before .enum-told .given .1)
           (passes (c .before .before .before .before .before .before .before .before .before .rule-4 .ensures) (c .before .before .before .before .before .before .before .enum-told3 .given .1)
           (passes (c .before .before .before .before .before .rule-5 .ensures .is (w .seen) (mark-seen (S .marked) (s .pre))) (c .before .before .before .enum-told5 .given .1)
           (stops (c .before .before .rule-6 .ensures) (c .enum-told8 .given .1)))));
@@ -48,7 +48,7 @@ returns-5 c =
     let s = c .before .before .before .before .before .before .before .before .before .before .before .before .before .before .before .before .before in
     record {
       is = λ w S. said-known _ w _ _ _ (known-entry (s .pre))
-          (passes (c .before .before .before .before .before .before .before .before .before .before .before .before .before .before .before .rule-1 .ensures .is (w .place) _ (S .stood) (entry-belongs _ _ (s .pre .right))) (c .before .before .before .before .before .before .before .before .before .before .before .before .before .enum-told .given .1)
+          (passes (c .before .before .before .before .before .before .before .before .before .before .before .before .before .before .before .rule-1 .ensures .is (w .inside) _ (S .stood) (entry-belongs _ _ (s .pre .right))) (c .before .before .before .before .before .before .before .before .before .before .before .before .before .enum-told .given .1)
           (passes (c .before .before .before .before .before .before .before .before .before .before .before .before .rule-4 .ensures) (c .before .before .before .before .before .before .before .before .before .before .enum-told3 .given .1)
           (passes (c .before .before .before .before .before .before .before .before .rule-5 .ensures .is (w .seen) (mark-seen (S .marked) (s .pre))) (c .before .before .before .before .before .before .enum-told5 .given .1)
           (passes (c .before .before .before .before .before .rule-6 .ensures) (c .before .before .before .enum-told7 .given .1)
@@ -60,12 +60,12 @@ returns-6 c =
     let s = c .before .before .before .before .before .before .before .before .before .before .before .before .before .before .before .before .before .before .before .before in
     record {
       is = λ w S. said-known _ w _ _ _ (known-entry (s .pre))
-          (passes (c .before .before .before .before .before .before .before .before .before .before .before .before .before .before .before .before .before .before .rule-1 .ensures .is (w .place) _ (S .stood) (entry-belongs _ _ (s .pre .right))) (c .before .before .before .before .before .before .before .before .before .before .before .before .before .before .before .before .enum-told .given .1)
+          (passes (c .before .before .before .before .before .before .before .before .before .before .before .before .before .before .before .before .before .before .rule-1 .ensures .is (w .inside) _ (S .stood) (entry-belongs _ _ (s .pre .right))) (c .before .before .before .before .before .before .before .before .before .before .before .before .before .before .before .before .enum-told .given .1)
           (passes (c .before .before .before .before .before .before .before .before .before .before .before .before .before .before .before .rule-4 .ensures) (c .before .before .before .before .before .before .before .before .before .before .before .before .before .enum-told3 .given .1)
           (passes (c .before .before .before .before .before .before .before .before .before .before .before .rule-5 .ensures .is (w .seen) (mark-seen (S .marked) (s .pre))) (c .before .before .before .before .before .before .before .before .before .enum-told5 .given .1)
           (passes (c .before .before .before .before .before .before .before .before .rule-6 .ensures) (c .before .before .before .before .before .before .enum-told7 .given .1)
           (passes (c .before .before .before .before .before .rule-7 .ensures .is (w .seen) (S .over)) (c .before .before .before .enum-told9 .given .1)
-          (stops (c .before .before .rule-8 .ensures .is (w .place) _ (S .stood)) (c .enum-told12 .given .1)))))));
+          (stops (c .before .before .rule-8 .ensures .is (w .inside) _ (S .stood)) (c .enum-told12 .given .1)))))));
     }
 
 returns-7 : tie.Need-returns-7
@@ -73,12 +73,12 @@ returns-7 c =
     let s = c .before .before .before .before .before .before .before .before .before .before .before .before .before .before .before .before .before .before .before .before .before in
     record {
       is = λ w S. said-known _ w _ _ _ (known-entry (s .pre))
-          (passes (c .before .before .before .before .before .before .before .before .before .before .before .before .before .before .before .before .before .before .before .rule-1 .ensures .is (w .place) _ (S .stood) (entry-belongs _ _ (s .pre .right))) (c .before .before .before .before .before .before .before .before .before .before .before .before .before .before .before .before .before .enum-told .given .1)
+          (passes (c .before .before .before .before .before .before .before .before .before .before .before .before .before .before .before .before .before .before .before .rule-1 .ensures .is (w .inside) _ (S .stood) (entry-belongs _ _ (s .pre .right))) (c .before .before .before .before .before .before .before .before .before .before .before .before .before .before .before .before .before .enum-told .given .1)
           (passes (c .before .before .before .before .before .before .before .before .before .before .before .before .before .before .before .before .rule-4 .ensures) (c .before .before .before .before .before .before .before .before .before .before .before .before .before .before .enum-told3 .given .1)
           (passes (c .before .before .before .before .before .before .before .before .before .before .before .before .rule-5 .ensures .is (w .seen) (mark-seen (S .marked) (s .pre))) (c .before .before .before .before .before .before .before .before .before .before .enum-told5 .given .1)
           (passes (c .before .before .before .before .before .before .before .before .before .rule-6 .ensures) (c .before .before .before .before .before .before .before .enum-told7 .given .1)
           (passes (c .before .before .before .before .before .before .rule-7 .ensures .is (w .seen) (S .over)) (c .before .before .before .before .enum-told9 .given .1)
-          (passes (c .before .before .before .rule-8 .ensures .is (w .place) _ (S .stood)) (c .before .enum-told11 .given .1)
+          (passes (c .before .before .before .rule-8 .ensures .is (w .inside) _ (S .stood)) (c .before .enum-told11 .given .1)
           (record { is = c .rules-9-and-10 .ensures .is (rule6-silent _ _ (sym (c .before .before .before .before .before .before .before .enum-told7 .given .1) ∙ c .before .before .before .before .before .before .before .before .before .rule-6 .ensures)) })))))));
     }
 

@@ -6,14 +6,14 @@ use Rattle.dictionary.proofs.rules.of_unknown.Statement.{statement}
 use Rattle.dictionary.proofs.rules.of_unknown.Tie as tie
 
 returns : tie.Need-returns
-returns c = record { is = λ w v S n. said-unknown _ w _ v _ (unknown-tag _ n) (stops (c .before .before .rule-1 .ensures .is (w .place) _ S (unknown-belongs _ n v)) (c .enum-told2 .given .1)) }
+returns c = record { is = λ w v S n. said-unknown _ w _ v _ (unknown-tag _ n) (stops (c .before .before .rule-1 .ensures .is (w .inside) _ S (unknown-belongs _ n v)) (c .enum-told2 .given .1)) }
 
 returns-2 : tie.Need-returns-2
 returns-2 c =
     let a = c .before in
     record {
       is = λ w v S n. said-unknown _ w _ v _ (unknown-tag _ n)
-          (passes (a .before .before .before .rule-1 .ensures .is (w .place) _ S (unknown-belongs _ n v)) (a .before .enum-told .given .1) (record { is = rw (sym (a .is-administrative .ensures) ∙ c .if1 .taken) }));
+          (passes (a .before .before .before .rule-1 .ensures .is (w .inside) _ S (unknown-belongs _ n v)) (a .before .enum-told .given .1) (record { is = rw (sym (a .is-administrative .ensures) ∙ c .if1 .taken) }));
     }
 
 returns-3 : tie.Need-returns-3
@@ -21,7 +21,7 @@ returns-3 c =
     let a = c .before in
     record {
       is = λ w v S n. said-unknown _ w _ v _ (unknown-tag _ n)
-          (passes (a .before .before .before .rule-1 .ensures .is (w .place) _ S (unknown-belongs _ n v)) (a .before .enum-told .given .1) (record { is = rw (sym (a .is-administrative .ensures) ∙ c .if1 .left) }));
+          (passes (a .before .before .before .rule-1 .ensures .is (w .inside) _ S (unknown-belongs _ n v)) (a .before .enum-told .given .1) (record { is = rw (sym (a .is-administrative .ensures) ∙ c .if1 .left) }));
     }
 
 pub of-unknown-spec : {M : Type 1} → statement M

@@ -2,12 +2,12 @@
 use borrow.Author.Needs.{needs}
 use native.Mathlib.Omega.{arith}
 use Prim.Native.Nat.{_+_, _-_}
-use mathlib.Core.Path.{refl, sym, ap, _∙_}
+use mathlib.Core.Path.{refl, ap, sym, _∙_}
 use lib.ListN.{length}
-use Rattle.dictionary.specs.Verdict.{walk}
+use Rattle.dictionary.specs.declared.groups.State.{State}
 use Rattle.table.proofs.Places.{looked, entry-is}
-use Rattle.dictionary.proofs.Walking.{At, begins, ends-with, malformed-ends, field-lies, field-step, malformed-step, end-row, never-none}
-use Rattle.dictionary.proofs.Turns.{skips, notes, begins-instance, joins-instance}
+use Rattle.dictionary.proofs.Walking.{At, begins, ends-with, ends-here, goes-on, field-lies, field-step}
+use Rattle.dictionary.proofs.Turns.{skips}
 use Rattle.dictionary.proofs.walk.walk.Statement.{statement}
 use Rattle.dictionary.proofs.walk.walk.Tie as tie
 
@@ -18,97 +18,76 @@ abbrev μ-loop : tie.MeasureT-loop
 μ-loop m body t seen₀ met₀ st₀ at₀ seen met st at = length body + 1 - at
 
 loop-holds : tie.Need-loop-holds Inv-loop μ-loop
-loop-holds c = begins _ _
+loop-holds c = begins _ _ (c .outside .ensures)
 
 returns : tie.Need-returns Inv-loop μ-loop
-returns c =
-    let A = c .before .before .before .before .before .before .before .before .before .before .before .loop .inv in
-    let P = c .before .before .before .before .before .before .place-of .ensures in
-    ends-with A _ _ _ _ _ _ _ (field-step (c .before .before .before .before .before .before .before .before .before .before .item-at .ensures) (c .before .before .before .before .before .before .before .before .item .given .1) refl) (c .before .before .before .of-unknown .ensures .is (A .past) _ (A .stands .stood) (P .absent (c .before .before .before .before .before .if1 .taken))) (c .before .enum-told2 .given .1) (c .finding .ensures)
+returns c = let a = c .before .before .before .before in ends-here (a .before .loop .inv) (a .item-at .ensures) (c .before .before .before .match .keys2) (c .ended .ensures)
+
+-- a tag that is not in the dictionary
+returns-2 : tie.Need-returns-2 Inv-loop μ-loop
+returns-2 c =
+    let p = c .before .before .before .before .before .before in
+    let a = p .before .before .before .before in
+    let A = a .before .loop .inv in
+    ends-with A (field-step (a .item-at .ensures) (p .before .before .item .given .1) refl) (c .before .before .before .of-unknown .ensures .is (A .past) _ (A .stands .stood) (p .place-of .ensures .absent (c .before .before .before .before .before .if1 .taken))) (c .before .enum-told2 .given .1) (c .finding .ensures)
 
 loop-less : tie.Need-loop-less Inv-loop μ-loop
-loop-less c = omega (arith, field-lies (c .before .before .before .before .before .before .before .before .before .before .item-at .ensures) (c .before .before .before .before .before .before .before .before .item .given .1))
+loop-less c = let p = c .before .before .before .before .before .before in let a = p .before .before .before .before in omega (arith, field-lies (a .item-at .ensures) (p .before .before .item .given .1))
 
 loop-again : tie.Need-loop-again Inv-loop μ-loop
 loop-again c =
-    let A = c .before .before .before .before .before .before .before .before .before .before .before .loop .inv in
-    let L = field-lies (c .before .before .before .before .before .before .before .before .before .before .item-at .ensures) (c .before .before .before .before .before .before .before .before .item .given .1) in
-    let u = c .before .before .before .before .before .before .place-of .ensures .absent (c .before .before .before .before .before .if1 .taken) in
-    rw (c .left .ensures) (skips A (field-step (c .before .before .before .before .before .before .before .before .before .before .item-at .ensures) (c .before .before .before .before .before .before .before .before .item .given .1) refl) (c .before .before .before .of-unknown .ensures .is (A .past) _ (A .stands .stood) u) (c .before .enum-told .given .1) (omega arith) u)
+    let p = c .before .before .before .before .before .before in
+    let a = p .before .before .before .before in
+    let A = a .before .loop .inv in
+    let l = field-lies (a .item-at .ensures) (p .before .before .item .given .1) in
+    let u = p .place-of .ensures .absent (c .before .before .before .before .before .if1 .taken) in
+    let s = c .before .before .before .of-unknown .ensures .is (A .past) _ (A .stands .stood) u in
+    let q = c .before .enum-told .given .1 in
+    goes-on A (field-step (a .item-at .ensures) (p .before .before .item .given .1) refl) s q (skips _ _ _ (A .stands) u (sym s ∙ q) (c .outside2 .ensures)) (omega (arith, ap (λ (x : State). x .begun) (c .outside2 .ensures))) (A .seen-long) (A .met-long)
 
 sub-v : tie.Need-sub-v Inv-loop μ-loop
-sub-v c = omega (arith, field-lies (c .before .before .before .before .before .before .before .item-at .ensures) (c .before .before .before .before .before .item .given .1))
+sub-v c = let p = c .before .before .before in omega (arith, field-lies (p .before .before .before .before .item-at .ensures) (p .before .before .item .given .1))
 
 part-v-start : tie.Need-part-v-start Inv-loop μ-loop
-part-v-start c = omega (arith, field-lies (c .before .before .before .before .before .before .before .item-at .ensures) (c .before .before .before .before .before .item .given .1))
+part-v-start c = let p = c .before .before .before in omega (arith, field-lies (p .before .before .before .before .item-at .ensures) (p .before .before .item .given .1))
 
 part-v-end : tie.Need-part-v-end Inv-loop μ-loop
-part-v-end c = omega (arith, field-lies (c .before .before .before .before .before .before .before .item-at .ensures) (c .before .before .before .before .before .item .given .1))
+part-v-end c = let p = c .before .before .before in omega (arith, field-lies (p .before .before .before .before .item-at .ensures) (p .before .before .item .given .1))
 
+-- a tag of the dictionary
 of-known-requires : tie.Need-of-known-requires Inv-loop μ-loop
-of-known-requires c κs = looked _ (c .before .before .before .before .before .before .before .before .before .before .before .before .table .ensures) (c .before .before .before .before .before .before .place-of .ensures) (c .before .before .before .before .before .if1 .left) (c .before .before .before .entry-of .ensures)
-
-returns-2 : tie.Need-returns-2 Inv-loop μ-loop
-returns-2 c =
-    let A = c .before .before .before .before .before .before .before .before .before .before .before .before .before .before .before .loop .inv in
-    let S = field-step (c .before .before .before .before .before .before .before .before .before .before .before .before .before .before .item-at .ensures) (c .before .before .before .before .before .before .before .before .before .before .before .before .item .given .1) (entry-is _ (c .before .before .before .before .before .before .before .before .before .before .before .before .before .before .before .before .table .ensures) (c .before .before .before .before .before .before .before .before .before .before .place-of .ensures) (c .before .before .before .before .before .before .before .before .before .if1 .left) (c .before .before .before .before .before .before .before .entry-of .ensures)) in
-    let s = c .before .before .before .of-known .ensures .is (A .past) (A .stands) in
-    ends-with A _ _ _ _ _ _ _ S s (c .before .enum-told4 .given .1) (c .finding2 .ensures)
-
-noted-requires : tie.Need-noted-requires Inv-loop μ-loop
-noted-requires c κs = looked _ (c .before .before .before .before .before .before .before .before .before .before .before .before .before .before .before .before .before .table .ensures) (c .before .before .before .before .before .before .before .before .before .before .before .place-of .ensures) (c .before .before .before .before .before .before .before .before .before .before .if1 .left) (c .before .before .before .before .before .before .before .before .entry-of .ensures) .right
-
-loop-less-2 : tie.Need-loop-less-2 Inv-loop μ-loop
-loop-less-2 c = omega (arith, field-lies (c .before .before .before .before .before .before .before .before .before .before .before .before .before .before .before .before .item-at .ensures) (c .before .before .before .before .before .before .before .before .before .before .before .before .before .before .item .given .1))
-
-loop-again-2 : tie.Need-loop-again-2 Inv-loop μ-loop
-loop-again-2 c =
-    let A = c .before .before .before .before .before .before .before .before .before .before .before .before .before .before .before .before .before .loop .inv in
-    let L = looked _ (c .before .before .before .before .before .before .before .before .before .before .before .before .before .before .before .before .before .before .table .ensures) (c .before .before .before .before .before .before .before .before .before .before .before .before .place-of .ensures) (c .before .before .before .before .before .before .before .before .before .before .before .if1 .left) (c .before .before .before .before .before .before .before .before .before .entry-of .ensures) in
-    let S = field-step (c .before .before .before .before .before .before .before .before .before .before .before .before .before .before .before .before .item-at .ensures) (c .before .before .before .before .before .before .before .before .before .before .before .before .before .before .item .given .1) (entry-is _ (c .before .before .before .before .before .before .before .before .before .before .before .before .before .before .before .before .before .before .table .ensures) (c .before .before .before .before .before .before .before .before .before .before .before .before .place-of .ensures) (c .before .before .before .before .before .before .before .before .before .before .before .if1 .left) (c .before .before .before .before .before .before .before .before .before .entry-of .ensures)) in
-    let s = c .before .before .before .before .before .of-known .ensures .is (A .past) (A .stands) in
-    let l = field-lies (c .before .before .before .before .before .before .before .before .before .before .before .before .before .before .before .before .item-at .ensures) (c .before .before .before .before .before .before .before .before .before .before .before .before .before .before .item .given .1) in
-    notes A L S s (c .before .before .before .enum-told3 .given .1) (omega arith) (c .before .before .is-inside .ensures) (c .before .if2 .taken) (c .noted .ensures)
-
-begun-requires : tie.Need-begun-requires Inv-loop μ-loop
-begun-requires c κs = omega (arith, c .before .before .before .before .before .before .before .before .before .before .before .before .before .before .before .before .before .loop .inv .few, field-lies (c .before .before .before .before .before .before .before .before .before .before .before .before .before .before .before .before .item-at .ensures) (c .before .before .before .before .before .before .before .before .before .before .before .before .before .before .item .given .1), c .before .before .before .before .before .before .before .before .before .before .before .before .before .before .before .before .before .before .before .before .pre)
-
-loop-less-3 : tie.Need-loop-less-3 Inv-loop μ-loop
-loop-less-3 c = omega (arith, field-lies (c .before .before .before .before .before .before .before .before .before .before .before .before .before .before .before .before .before .item-at .ensures) (c .before .before .before .before .before .before .before .before .before .before .before .before .before .before .before .item .given .1))
-
-loop-again-3 : tie.Need-loop-again-3 Inv-loop μ-loop
-loop-again-3 c =
-    let A = c .before .before .before .before .before .before .before .before .before .before .before .before .before .before .before .before .before .before .loop .inv in
-    let L = looked _ (c .before .before .before .before .before .before .before .before .before .before .before .before .before .before .before .before .before .before .before .table .ensures) (c .before .before .before .before .before .before .before .before .before .before .before .before .before .place-of .ensures) (c .before .before .before .before .before .before .before .before .before .before .before .before .if1 .left) (c .before .before .before .before .before .before .before .before .before .before .entry-of .ensures) in
-    let S = field-step (c .before .before .before .before .before .before .before .before .before .before .before .before .before .before .before .before .before .item-at .ensures) (c .before .before .before .before .before .before .before .before .before .before .before .before .before .before .before .item .given .1) (entry-is _ (c .before .before .before .before .before .before .before .before .before .before .before .before .before .before .before .before .before .before .before .table .ensures) (c .before .before .before .before .before .before .before .before .before .before .before .before .before .place-of .ensures) (c .before .before .before .before .before .before .before .before .before .before .before .before .if1 .left) (c .before .before .before .before .before .before .before .before .before .before .entry-of .ensures)) in
-    let s = c .before .before .before .before .before .before .of-known .ensures .is (A .past) (A .stands) in
-    let l = field-lies (c .before .before .before .before .before .before .before .before .before .before .before .before .before .before .before .before .before .item-at .ensures) (c .before .before .before .before .before .before .before .before .before .before .before .before .before .before .before .item .given .1) in
-    rw (c .begun .ensures) (begins-instance A L S s (c .before .before .before .before .enum-told3 .given .1) (omega arith) (c .before .before .before .is-inside .ensures) (c .before .before .if2 .left) (c .before .if3 .taken))
-
-loop-less-4 : tie.Need-loop-less-4 Inv-loop μ-loop
-loop-less-4 c = omega (arith, field-lies (c .before .before .before .before .before .before .before .before .before .before .before .before .before .before .before .before .item-at .ensures) (c .before .before .before .before .before .before .before .before .before .before .before .before .before .before .item .given .1))
-
-loop-again-4 : tie.Need-loop-again-4 Inv-loop μ-loop
-loop-again-4 c =
-    let A = c .before .before .before .before .before .before .before .before .before .before .before .before .before .before .before .before .before .loop .inv in
-    let L = looked _ (c .before .before .before .before .before .before .before .before .before .before .before .before .before .before .before .before .before .before .table .ensures) (c .before .before .before .before .before .before .before .before .before .before .before .before .place-of .ensures) (c .before .before .before .before .before .before .before .before .before .before .before .if1 .left) (c .before .before .before .before .before .before .before .before .before .entry-of .ensures) in
-    let S = field-step (c .before .before .before .before .before .before .before .before .before .before .before .before .before .before .before .before .item-at .ensures) (c .before .before .before .before .before .before .before .before .before .before .before .before .before .before .item .given .1) (entry-is _ (c .before .before .before .before .before .before .before .before .before .before .before .before .before .before .before .before .before .before .table .ensures) (c .before .before .before .before .before .before .before .before .before .before .before .before .place-of .ensures) (c .before .before .before .before .before .before .before .before .before .before .before .if1 .left) (c .before .before .before .before .before .before .before .before .before .entry-of .ensures)) in
-    let s = c .before .before .before .before .before .of-known .ensures .is (A .past) (A .stands) in
-    let l = field-lies (c .before .before .before .before .before .before .before .before .before .before .before .before .before .before .before .before .item-at .ensures) (c .before .before .before .before .before .before .before .before .before .before .before .before .before .before .item .given .1) in
-    joins-instance A L S s (c .before .before .before .enum-told3 .given .1) (omega arith) (c .before .before .is-inside .ensures) (c .before .if2 .left) (c .if3 .left)
+of-known-requires c κs = let p = c .before .before .before .before .before .before in looked _ (p .before .before .before .before .before .before .before .table .ensures) (p .place-of .ensures) (c .before .before .before .before .before .if1 .left) (c .before .before .before .entry-of .ensures)
 
 returns-3 : tie.Need-returns-3 Inv-loop μ-loop
 returns-3 c =
-    let A = c .before .before .before .before .before .before .loop .inv in
-    malformed-ends A (malformed-step (c .before .before .before .before .before .item-at .ensures) (c .before .before .before .enum-told5 .given .1)) (c .before .of-malformed .ensures .is _ (A .past) (A .stands .stood)) (c .finding3 .ensures)
+    let p = c .before .before .before .before .before .before .before .before .before .before in
+    let a = p .before .before .before .before in
+    let A = a .before .loop .inv in
+    let S = field-step (a .item-at .ensures) (p .before .before .item .given .1) (entry-is _ (a .before .before .before .table .ensures) (p .place-of .ensures) (c .before .before .before .before .before .before .before .before .before .if1 .left) (c .before .before .before .before .before .before .before .entry-of .ensures)) in
+    ends-with A S (c .before .before .before .of-known .ensures .is (A .past) (A .stands)) (c .before .enum-told4 .given .1) (c .finding2 .ensures)
 
-returns-4 : tie.Need-returns-4 Inv-loop μ-loop
-returns-4 c =
-    let A = c .before .before .before .before .before .before .loop .inv in
-    c .finish .ensures .is (A .past) (A .stands) ∙ sym (A .rest ∙ ap (walk _ (A .past)) (end-row (c .before .before .before .before .before .item-at .ensures) (c .before .before .before .enum-told6 .given .1)))
+remembered-requires : tie.Need-remembered-requires Inv-loop μ-loop
+remembered-requires c κs =
+    let p = c .before .before .before .before .before .before .before .before .before .before .before in
+    let a = p .before .before .before .before in
+    let A = a .before .loop .inv in
+    let l = field-lies (a .item-at .ensures) (p .before .before .item .given .1) in
+    (looked _ (a .before .before .before .table .ensures) (p .place-of .ensures) (c .before .before .before .before .before .before .before .before .before .before .if1 .left) (c .before .before .before .before .before .before .before .before .entry-of .ensures), A .seen-long, A .met-long, omega (arith, A .few, l, a .before .before .before .before .before .pre))
 
-returns-5 : tie.Need-returns-5 Inv-loop μ-loop
-returns-5 c = absurd (never-none (c .before .before .item-at .ensures) (c .enum-told7 .given .1))
+loop-less-2 : tie.Need-loop-less-2 Inv-loop μ-loop
+loop-less-2 c = let p = c .before .before .before .before .before .before .before .before .before .before .before .before in let a = p .before .before .before .before in omega (arith, field-lies (a .item-at .ensures) (p .before .before .item .given .1))
+
+loop-again-2 : tie.Need-loop-again-2 Inv-loop μ-loop
+loop-again-2 c =
+    let p = c .before .before .before .before .before .before .before .before .before .before .before .before in
+    let a = p .before .before .before .before in
+    let A = a .before .loop .inv in
+    let l = field-lies (a .item-at .ensures) (p .before .before .item .given .1) in
+    let S = field-step (a .item-at .ensures) (p .before .before .item .given .1) (entry-is _ (a .before .before .before .table .ensures) (p .place-of .ensures) (c .before .before .before .before .before .before .before .before .before .before .before .if1 .left) (c .before .before .before .before .before .before .before .before .before .entry-of .ensures)) in
+    let s = c .before .before .before .before .before .of-known .ensures .is (A .past) (A .stands) in
+    let q = c .before .before .before .enum-told3 .given .1 in
+    let R = c .remembered .ensures in
+    goes-on A S s q (R .is _ (A .past) (A .stands) (sym s ∙ q)) (omega (arith, A .few, l, R .few)) (R .seen-long) (R .met-long)
 
 pub walk-spec : {M : Type 1} → statement M
 walk-spec =
@@ -117,15 +96,18 @@ walk-spec =
     Inv-loop
     μ-loop
     (λ c κs. search needs)
+    (λ c κs. search needs)
     loop-holds
     (λ c κs. search needs)
     (λ c. search needs)
     (λ c κs. search needs)
-    (λ c κs. search needs)
-    (λ c. search needs)
-    (λ c. search needs)
-    (λ c κs. search needs)
     returns
+    (λ c κs. search needs)
+    (λ c κs. search needs)
+    (λ c. search needs)
+    (λ c. search needs)
+    (λ c κs. search needs)
+    returns-2
     (λ c κs. search needs)
     loop-less
     loop-again
@@ -139,25 +121,7 @@ walk-spec =
     (λ c. search needs)
     (λ c. search needs)
     (λ c κs. search needs)
-    returns-2
-    (λ c κs. search needs)
-    (λ c. search needs)
-    noted-requires
-    loop-less-2
-    loop-again-2
-    (λ c. search needs)
-    begun-requires
-    loop-less-3
-    loop-again-3
-    (λ c. search needs)
-    loop-less-4
-    loop-again-4
-    (λ c. search needs)
-    (λ c κs. search needs)
-    (λ c κs. search needs)
     returns-3
-    (λ c. search needs)
-    (λ c κs. search needs)
-    returns-4
-    (λ c. search needs)
-    returns-5)
+    remembered-requires
+    loop-less-2
+    loop-again-2)

@@ -1,8 +1,8 @@
 -- Rule 1 at a part: outside groups, at one that ends the group, at one that begins an instance, at another member.
 use borrow.Author.Needs.{needs}
-use Rattle.dictionary.proofs.Groups.{rule1-outside, rule1-ends, rule1-begins, rule1-goes-on}
-use Rattle.dictionary.proofs.rules.rule_1.Statement.{statement}
-use Rattle.dictionary.proofs.rules.rule_1.Tie as tie
+use Rattle.dictionary.proofs.Ending.{rule1-outside, rule1-ends, rule1-begins, rule1-goes-on}
+use Rattle.dictionary.proofs.groups.rule_1.Statement.{statement}
+use Rattle.dictionary.proofs.groups.rule_1.Tie as tie
 
 returns : tie.Need-returns
 returns c = record { is = rule1-outside (c .if1 .taken) }

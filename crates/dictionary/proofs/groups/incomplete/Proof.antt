@@ -1,8 +1,8 @@
 -- Rule 1: the members that the last instance lacks.
 use borrow.Author.Needs.{needs}
-use Rattle.dictionary.proofs.Groups.{none-began, one-began}
-use Rattle.dictionary.proofs.rules.incomplete.Statement.{statement}
-use Rattle.dictionary.proofs.rules.incomplete.Tie as tie
+use Rattle.dictionary.proofs.Ending.{none-began, one-began}
+use Rattle.dictionary.proofs.groups.incomplete.Statement.{statement}
+use Rattle.dictionary.proofs.groups.incomplete.Tie as tie
 
 returns : tie.Need-returns
 returns c = record { is = none-began (c .if1 .taken) }

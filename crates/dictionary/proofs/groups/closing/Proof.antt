@@ -1,8 +1,8 @@
 -- Rule 1: the two checks at the end of a group, in their order.
 use borrow.Author.Needs.{needs}
-use Rattle.dictionary.proofs.Groups.{closing-none, closing-lacks, closing-counts, closing-miscounts}
-use Rattle.dictionary.proofs.rules.closing.Statement.{statement}
-use Rattle.dictionary.proofs.rules.closing.Tie as tie
+use Rattle.dictionary.proofs.Ending.{closing-none, closing-lacks, closing-counts, closing-miscounts}
+use Rattle.dictionary.proofs.groups.closing.Statement.{statement}
+use Rattle.dictionary.proofs.groups.closing.Tie as tie
 
 returns : tie.Need-returns
 returns c = record { is = closing-none (c .if1 .taken) }
