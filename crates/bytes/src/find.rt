@@ -1,8 +1,24 @@
 // A byte and a row of bytes looked for.
 use crate::compare::stands;
+ghost use mathlib.Core.Path.{_≡_};
 ghost use Prim.Native.Nat.{_+_, _-_, _≤_, _<_};
 ghost use lib.ListN.{length};
+ghost use Rattle.bytes.specs.Bytes.{has};
 ghost use Rattle.bytes.specs.code.Leaf.{FirstByte, Calm, Free, NextStart, Around, Searched};
+
+// Whether a byte stands among others.
+pub fn has(s: &[u8], x: u8) -> bool
+    ensures { λ r. ⌜ r ≡ has (now (s .entry)) x ⌝ }
+{
+    let mut i = 0;
+    while i < s.len() {
+        if s[i] == x {
+            return true;
+        }
+        i += 1;
+    }
+    false
+}
 
 // Whether none of the n bytes from i on is x. The loop has no way out, so the compiler compares sixteen bytes at once.
 fn calm(s: &[u8], i: usize, n: usize, x: u8) -> bool

@@ -7,6 +7,7 @@ pub use compare::matched;
 pub use compare::stands;
 pub use compare::wide;
 pub use compare::word;
+pub use find::has;
 pub use find::holds;
 pub use find::next_start;
 pub use numbers::Num;

@@ -1,6 +1,6 @@
 // The record of a session, its ranges and its changes.
+use bytes::has;
 ghost use mathlib.Core.Path.{_≡_};
-ghost use Rattle.bytes.specs.Bytes.{has};
 ghost use Rattle.moves.specs.Session.{turned, stringTo, compID, numbered, inRange};
 ghost use Rattle.moves.specs.Held.{sessionOf, held, with};
 ghost use Rattle.moves.specs.code.Plan.{changed};
@@ -29,19 +29,6 @@ pub struct Record {
     pub sent: u64,
 }
 
-fn has_bar(s: &[u8]) -> bool
-    ensures { λ r. ⌜ r ≡ has (now (s .entry)) 1 ⌝ }
-{
-    let mut i = 0;
-    while i < s.len() {
-        if s[i] == 1 {
-            return true;
-        }
-        i += 1;
-    }
-    false
-}
-
 // Whether bytes are a string: 1 to so many, none of them `|`.
 pub fn is_string(s: &[u8], most: usize) -> bool
     ensures { λ r. ⌜ r ≡ stringTo most (now (s .entry)) ⌝ }
@@ -52,7 +39,7 @@ pub fn is_string(s: &[u8], most: usize) -> bool
     if most < s.len() {
         return false;
     }
-    !has_bar(s)
+    !has(s, 1)
 }
 
 pub fn is_comp_id(c: &[u8]) -> bool
