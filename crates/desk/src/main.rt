@@ -1,16 +1,14 @@
 // The desk: worked cases from its input, one a line, each written back with what the library says of it.
-// `verdict BODY` asks for the verdict on a body, `read BYTES` for one reading; the lines of a played session are in played.rt.
+// `verdict BODY` asks for the verdict on a body, `read BYTES` for one reading; the lines of a played session are those of crates/replay.
 // `|` is the byte 1; a line that begins with # is a heading.
-mod letters;
-mod played;
-
 use dictionary::Verdict;
 use frame::Reading;
 use moves::Record;
+use print::begins;
+use print::behind;
+use print::find;
 use print::print_bytes;
 use print::print_count;
-ghost use Prim.Native.Nat.{_≤_};
-ghost use lib.ListN.{length};
 
 // The byte 1 for `|`.
 fn soh(c: u8) -> u8 {
@@ -72,45 +70,6 @@ fn read(bytes: &[u8]) {
     }
 }
 
-// The line begins with these bytes.
-fn begins(line: &[u8], word: &[u8]) -> bool {
-    if line.len() < word.len() {
-        return false;
-    }
-    let mut i = 0;
-    while i < word.len() {
-        if line[i] != word[i] {
-            return false;
-        }
-        i += 1;
-    }
-    true
-}
-
-// Where a byte stands next, from a place on; or the end.
-fn find(s: &[u8], at: usize, byte: u8) -> usize
-    requires { ⌜ at ≤ length (now s) ⌝ }
-    ensures { λ r. ⌜ (at ≤ r) × (r ≤ length (now (s .entry))) ⌝ }
-{
-    let mut i = at;
-    while i < s.len() {
-        if s[i] == byte {
-            return i;
-        }
-        i += 1;
-    }
-    i
-}
-
-// What stands behind the first space.
-fn behind<'a>(s: &'a [u8]) -> &'a [u8] {
-    let k = find(s, 0, b' ');
-    if k == s.len() {
-        return &s[k..];
-    }
-    &s[k + 1..]
-}
-
 // Answers one line; a played session goes on with the record that this returns.
 fn answer(r: Record, line: &[u8]) -> Record {
     print_case(line);
@@ -123,11 +82,11 @@ fn answer(r: Record, line: &[u8]) -> Record {
         return r;
     }
     io::write_all(1, b"\n");
-    played::play(r, line)
+    replay::play(r, line)
 }
 
 fn answer_all(s: &[u8]) {
-    let mut r = played::nobody();
+    let mut r = replay::nobody();
     let mut at = 0;
     while at < s.len() {
         let end = find(s, at, b'\n');
@@ -149,5 +108,5 @@ fn main() {
     let n = io::read_full(0, &mut buf);
     unbar(&mut buf);
     answer_first(&buf, n);
-    letters::letters();
+    samples::letters();
 }

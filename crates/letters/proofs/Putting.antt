@@ -6,11 +6,13 @@ use mathlib.Core.Path.{_≡_, refl, sym, ap, _∙_, subst}
 use mathlib.Core.Bool.{Bool, cond, _&&_}
 use mathlib.Core.List.{List, [], _∷_, _++_, append-nil, append-assoc}
 use mathlib.Core.Option.{Option, some}
-use lib.ListN.{length}
+use lib.ListN.{length, take}
+use lib.Seq.{length-take-le}
 use Rattle.bytes.specs.Bytes.{Bytes, fix, decimal}
 use Rattle.frame.specs.Stream.{joined}
 use Rattle.fields.specs.Field.{firstField}
 use Rattle.table.specs.Dictionary.{code35, fields}
+use Rattle.calendar.specs.Time.{utc}
 use Rattle.writer.specs.Message.{Value, absent, bytes, own, order, written}
 use Rattle.writer.specs.Reply as Reply
 use Rattle.writer.specs.Wrote.{Wrote}
@@ -21,9 +23,10 @@ use Rattle.moves.specs.Session.{fresh}
 use Rattle.moves.specs.Seen.{repeated}
 use Rattle.moves.specs.Moves as Words
 use Rattle.moves.specs.Moves.{letter, #}
-use Rattle.moves.specs.code.Plan.{lettersOf, behind}
+use Rattle.moves.specs.code.Plan.{lettersOf, behind, Ready}
 use Rattle.letters.specs.code.Put.{bytesOf, AllPut, rejectOf, logonOf, Sending}
 use Rattle.letters.specs.code.Fit.{FitId, FitLogon}
+use Rattle.moves.specs.declared.record.Record.{Record}
 use Rattle.moves.specs.declared.plan.Letter.{Letter}
 use Rattle.moves.specs.declared.plan.Letter.the-variants.{Nothing, Heartbeat, Echo, Logon, Ask, Reject, Fill, Logout, Test}
 use Rattle.letters.proofs.Replying.{was-put}
@@ -133,3 +136,15 @@ pub both-letters : (ours peers stamp body : Bytes) (n : ℕ) (f g : Letter) {d d
     → Wrote d₁ d₂ a to (joined (bytesOf ours peers stamp (lettersOf body m g))) → Wrote d d₂ 0 to (joined (bytesOf ours peers stamp (lettersOf body n f ++ lettersOf body (behind n f) g)))
 both-letters ours peers stamp body n f g {d₁ = d₁} {d₂ = d₂} {a = a} {to = to} e v w =
     both-put ours peers stamp (lettersOf body n f) (lettersOf body (behind n f) g) v (subst (λ (k : ℕ). Wrote d₁ d₂ a to (joined (bytesOf ours peers stamp (lettersOf body k g)))) e w)
+
+-- FROM THE RECORD, at a time
+pub sending : (r : Record) → Ready r → length (r .ours) ≡ 11 → length (r .peer) ≡ 11 → (stamp buf : Bytes) → length stamp ≡ 24 → 512 ≤ length buf
+    → Sending (take (r .oursLen) (r .ours)) (take (r .peerLen) (r .peer)) (r .next) 187 stamp buf
+sending r R e f stamp buf l b =
+    let x = length-take-le (r .oursLen) (r .ours) (omega (arith, R .ours)) in
+    let y = length-take-le (r .peerLen) (r .peer) (omega (arith, R .peer)) in
+    record { ours-short = omega (arith, R .ours); peers-short = omega (arith, R .peer); number = omega (arith, R .next); stamped = omega arith; room = omega arith }
+
+pub at-time : (ours peers : Bytes) (ls : List (ℕ × Words.Letter)) (t : ℕ) {d d′ stamp : Bytes} {len : ℕ} → stamp ≡ utc t
+    → Wrote d d′ 0 len (joined (bytesOf ours peers stamp ls)) → Wrote d d′ 0 len (joined (bytesOf ours peers (utc t) ls))
+at-time ours peers ls t {d = d} {d′ = d′} {len = len} e w = subst (λ (x : Bytes). Wrote d d′ 0 len (joined (bytesOf ours peers x ls))) e w

@@ -1,9 +1,11 @@
 // The messages of a plan, put into the buffer one behind the other.
+use calendar::utc;
 use dictionary::type_of;
 use fields::Place;
 use fields::first_field;
 use fields::type_field;
 use moves::Letter;
+use moves::Record;
 use moves::next_after;
 use moves::number_in;
 use table::Named;
@@ -18,16 +20,30 @@ ghost use mathlib.Core.Path.{_≡_};
 ghost use mathlib.Core.List.{_++_};
 ghost use mathlib.Core.Option.{some};
 ghost use Prim.Native.Nat.{_+_, _≤_, _<_};
-ghost use lib.ListN.{length};
+ghost use lib.ListN.{length, take};
 ghost use mathlib.Core.Bool.{cond};
 ghost use Rattle.bytes.specs.Bytes.{Bytes, fix};
 ghost use Rattle.frame.specs.Stream.{joined};
 ghost use Rattle.fields.specs.Field.{firstField};
+ghost use Rattle.calendar.specs.Time.{utc, limit};
 ghost use Rattle.writer.specs.Reply.{optional, heartbeat};
 ghost use Rattle.writer.specs.Wrote.{Wrote};
 ghost use Rattle.moves.specs.Seen.{repeated};
-ghost use Rattle.letters.specs.code.Put.{rejectOf, logonOf, bytesOf, AllPut, Sending};
-ghost use Rattle.moves.specs.code.Plan.{lettersOf, behind};
+ghost use Rattle.letters.specs.code.Put.{Repeats, rejectOf, logonOf, bytesOf, AllPut, Sending};
+ghost use Rattle.moves.specs.code.Plan.{lettersOf, behind, Ready};
+
+// Where the type of a body lies, if it is one that a Reject can repeat.
+fn named_type(body: &[u8]) -> Place
+    ensures { λ r. ⌜ Repeats (now (body .entry)) r ⌝ }
+{
+    let Place::At { start, end } = type_field(body) else {
+        return Place::Absent;
+    };
+    match type_of(&body[start..end]) {
+        Named::Of(_) => Place::At { start, end },
+        Named::Other => Place::Absent,
+    }
+}
 
 // A Reject of the message whose body this is.
 fn put_reject(
@@ -46,8 +62,9 @@ fn put_reject(
     ensures bytes { λ r. ⌜ Wrote (now (buf .entry)) (now (buf .exit)) at r (rejectOf (now (us .entry)) (now (them .entry)) n (now (stamp .entry)) (now (body .entry)) reason tag) ⌝ }
     ensures room { λ r. ⌜ r ≤ at + 173 ⌝ }
 {
+    let place = named_type(body);
     let refused = number_in(body, 34, 1);
-    let Place::At { start, end } = type_field(body) else {
+    let Place::At { start, end } = place else {
         return reject(
             buf,
             at,
@@ -63,23 +80,7 @@ fn put_reject(
         );
     };
     let v = &body[start..end];
-    let named = type_of(v);
-    match named {
-        Named::Of(_) => reject(buf, at, us, them, n, stamp, refused, tag, true, v, reason),
-        Named::Other => reject(
-            buf,
-            at,
-            us,
-            them,
-            n,
-            stamp,
-            refused,
-            tag,
-            false,
-            b"",
-            reason,
-        ),
-    }
+    reject(buf, at, us, them, n, stamp, refused, tag, true, v, reason)
 }
 
 // A Heartbeat with the 112 of a Test Request.
@@ -165,7 +166,7 @@ fn put(
 }
 
 // Two messages, one behind the other, from the next number out on.
-pub fn put_both(
+fn put_both(
     first: Letter,
     second: Letter,
     buf: &mut [u8],
@@ -183,4 +184,35 @@ pub fn put_both(
     let m = next_after(first, n);
     let a = put(first, buf, 0, us, them, n, stamp, body);
     put(second, buf, a, us, them, m, stamp, body)
+}
+
+// The same at a time, between the CompIDs of a record and from its next number out on.
+pub fn stamped(
+    r: Record,
+    first: Letter,
+    second: Letter,
+    body: &[u8],
+    time: u64,
+    buf: &mut [u8],
+) -> usize
+    requires { ⌜ Ready r ⌝ }
+    requires { ⌜ (512 ≤ length (now buf)) × (time < limit) × AllPut (lettersOf (now body) (r .next) first ++ lettersOf (now body) (behind (r .next) first) second) ⌝ }
+    ensures bytes { λ n. ⌜ Wrote (now (buf .entry)) (now (buf .exit)) 0 n (joined (bytesOf (take (r .oursLen) (r .ours)) (take (r .peerLen) (r .peer)) (utc time) (lettersOf (now (body .entry)) (r .next) first ++ lettersOf (now (body .entry)) (behind (r .next) first) second))) ⌝ }
+    ensures room { λ n. ⌜ n ≤ 512 ⌝ }
+{
+    let stamp = utc(time);
+    let ours = r.ours;
+    let o = r.oursLen;
+    let peer = r.peer;
+    let p = r.peerLen;
+    put_both(
+        first,
+        second,
+        buf,
+        &ours[..o],
+        &peer[..p],
+        r.next,
+        &stamp,
+        body,
+    )
 }

@@ -3,6 +3,4 @@ pub mod Readings
 pub mod Ranges
 pub mod Types
 pub mod Numbering
-pub mod Deciding
-pub mod Choosing
 pub mod EachRule

@@ -1,18 +1,24 @@
-// The moves of a session: its record, what is seen of a frame's body, and the plan that the rules make of it.
+// What a session's moves are made of: its record, what is seen of a frame's body, and the plan that a rule makes of it.
 mod plan;
 mod reads;
 mod record;
-mod rules;
-mod serving;
 
 pub use plan::Letter;
 pub use plan::Plan;
+pub use plan::accepting;
 pub use plan::beating;
 pub use plan::closing;
+pub use plan::counting;
+pub use plan::delivering;
+pub use plan::expecting;
 pub use plan::is_quiet;
 pub use plan::next_after;
 pub use plan::saying;
+pub use reads::holds;
+pub use reads::holds_at;
 pub use reads::is_clean;
+pub use reads::is_there;
+pub use reads::number_at;
 pub use reads::number_in;
 pub use reads::type_in;
 pub use record::Record;
@@ -22,6 +28,3 @@ pub use record::in_range;
 pub use record::is_comp_id;
 pub use record::is_string;
 pub use record::turned;
-pub use rules::active;
-pub use rules::strange_tag;
-pub use rules::waiting;

@@ -1,25 +1,20 @@
 // A plan, played: its messages put into the buffer, the record changed, the answer given.
 use crate::Answer;
 use crate::Answered;
-use calendar::utc;
-use letters::put_both;
-use moves::Letter;
+use letters::stamped;
 use moves::Plan;
 use moves::Record;
 use moves::changed;
 use moves::is_quiet;
 use moves::next_after;
 ghost use mathlib.Core.Path.{_≡_};
-ghost use mathlib.Core.List.{_++_};
 ghost use mathlib.Core.Bool.{cond};
 ghost use Prim.Native.Nat.{_≤_, _<_};
-ghost use lib.ListN.{length, take};
-ghost use Rattle.frame.specs.Stream.{joined};
-ghost use Rattle.calendar.specs.Time.{utc, limit};
-ghost use Rattle.writer.specs.Wrote.{Wrote};
+ghost use lib.ListN.{length};
+ghost use Rattle.calendar.specs.Time.{limit};
 ghost use Rattle.moves.specs.Held.{sessionOf};
-ghost use Rattle.moves.specs.code.Plan.{lettersOf, behind, planned, Ready};
-ghost use Rattle.letters.specs.code.Put.{bytesOf, AllPut};
+ghost use Rattle.moves.specs.code.Plan.{planned, Ready};
+ghost use Rattle.letters.specs.code.Put.{AllPut};
 ghost use Rattle.session.specs.declared.Answer.the-variants as Answer;
 ghost use Rattle.session.specs.Held.{Leaves};
 ghost use Rattle.session.specs.code.Played.{outcomeOf};
@@ -41,37 +36,6 @@ pub fn answer_of(delivered: bool) -> Answer
         return Answer::Delivered;
     }
     Answer::Done
-}
-
-// The messages of a plan, from the record as it was.
-fn stamped(
-    r: Record,
-    first: Letter,
-    second: Letter,
-    body: &[u8],
-    time: u64,
-    buf: &mut [u8],
-) -> usize
-    requires { ⌜ Ready r ⌝ }
-    requires { ⌜ (512 ≤ length (now buf)) × (time < limit) × AllPut (lettersOf (now body) (r .next) first ++ lettersOf (now body) (behind (r .next) first) second) ⌝ }
-    ensures bytes { λ n. ⌜ Wrote (now (buf .entry)) (now (buf .exit)) 0 n (joined (bytesOf (take (r .oursLen) (r .ours)) (take (r .peerLen) (r .peer)) (utc time) (lettersOf (now (body .entry)) (r .next) first ++ lettersOf (now (body .entry)) (behind (r .next) first) second))) ⌝ }
-    ensures room { λ n. ⌜ n ≤ 512 ⌝ }
-{
-    let stamp = utc(time);
-    let ours = r.ours;
-    let o = r.oursLen;
-    let peer = r.peer;
-    let p = r.peerLen;
-    put_both(
-        first,
-        second,
-        buf,
-        &ours[..o],
-        &peer[..p],
-        r.next,
-        &stamp,
-        body,
-    )
 }
 
 // A plan, carried out: its messages are put, and the record changed. One that writes nothing needs no time in words.

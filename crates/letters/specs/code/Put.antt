@@ -1,11 +1,14 @@
 -- The messages of a plan as the code puts them into the buffer. Only the code needs these: nothing here states document 01.
-use Prim.Native.Nat.{ℕ, _+_, _≤_}
+use Prim.Native.Nat.{ℕ, _+_, _-_, _≤_}
+use mathlib.Core.Path.{_≡_}
 use mathlib.Core.List.{List, [], _∷_}
-use lib.ListN.{length}
+use lib.ListN.{length, take, drop}
 use Rattle.bytes.specs.Bytes.{Bytes}
 use Rattle.fields.specs.Field.{firstField}
+use Rattle.fields.specs.declared.Place.{Place}
+use Rattle.fields.specs.declared.Place.the-variants.{At, Absent}
 use Rattle.dictionary.specs.Verdict.{msgType}
-use Rattle.writer.specs.Message.{Value}
+use Rattle.writer.specs.Message.{Value, absent, bytes}
 use Rattle.writer.specs.Reply as Reply
 use Rattle.moves.specs.Words.{_otherwise_}
 use Rattle.moves.specs.Seen.{repeated, numberIn, codeOf}
@@ -21,6 +24,12 @@ bytesOf ours peers time (x ∷ xs) = letter ours peers (x .0) time (x .1) ∷ by
 abbrev pub AllPut : List (ℕ × Letter) → Type 0
 AllPut [] = Unit {0}
 AllPut (x ∷ xs) = (x .0 ≤ 999_999_999) × FitLetter (x .1) × AllPut xs
+
+-- where the type lies that a Reject of a body repeats, if it repeats one
+abbrev pub Repeats : Bytes → Place → Type 0
+Repeats body (At start end) =
+    (start ≤ end) × (end ≤ length body) × (length (take (end - start) (drop start body)) ≤ 2) × (repeated (codeOf (msgType body)) ≡ bytes (take (end - start) (drop start body)))
+Repeats body Absent = repeated (codeOf (msgType body)) ≡ absent
 
 -- the two messages that are put by values of the body, from ours to peers as number n
 module _ (ours peers : Bytes) (n : ℕ) (stamp body : Bytes) where
