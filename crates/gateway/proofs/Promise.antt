@@ -27,8 +27,9 @@ use Rattle.writer.specs.Call as Written
 use Rattle.writer.specs.Promise.{MessageOf, CallPromise}
 use Rattle.writer.specs.declared.Written.{Written}
 use Rattle.writer.specs.declared.Written.the-variants.{Message, Unfit, Short}
+use Rattle.replies.proofs.Promise as Replies
 use Rattle.writer.proofs.Promise as Writer
-use Rattle.writer.proofs.Joined.{joined-frames}
+use Rattle.message.proofs.Joined.{joined-frames}
 use Rattle.moves.specs.Words.{if_then_else_}
 use Rattle.moves.specs.Session.{Session, code, compID, inRange, fresh, turned}
 use Rattle.session.specs.Refusals.{No, numbers}
@@ -280,5 +281,6 @@ promise =
       fields = Fields.promise;
       verdicts = Dictionary.promise;
       writing = Writer.promise;
+      replies = Replies.promise;
       session = Session.promise;
     }

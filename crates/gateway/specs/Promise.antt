@@ -15,6 +15,7 @@ use Rattle.frame.specs.Promise.{ExactlyOne}
 use Rattle.line.specs.Promise as Line
 use Rattle.fields.specs.Promise as Fields
 use Rattle.dictionary.specs.Promise as Dictionary
+use Rattle.replies.specs.Promise as Replies
 use Rattle.writer.specs.Promise as Writer
 use Rattle.moves.specs.Session.{code, inRange}
 use Rattle.moves.specs.Held.{sessionOf}
@@ -101,6 +102,8 @@ pub record Promise : Type 0 where
   pub fields : Fields.Promise
   -- what a clean verdict says of a body, and which findings there are
   pub verdicts : Dictionary.Promise
+  -- the writer call, and the replies of a session
   pub writing : Writer.Promise
+  pub replies : Replies.Promise
   -- the delivered frame, the four slips, ranges over every run of calls, W1 to W12
   pub session : Session.Promise

@@ -3,7 +3,7 @@
 use Prim.Native.Nat.{ℕ, _+_, _≤_, _<_}
 use native.Mathlib.Omega.{arith}
 use mathlib.Core.Path.{_≡_, refl, sym, ap, _∙_, subst}
-use mathlib.Core.Bool.{Bool, cond, _&&_}
+use mathlib.Core.Bool.{Bool, cond}
 use mathlib.Core.List.{List, [], _∷_, _++_, append-nil, append-assoc}
 use mathlib.Core.Option.{Option, some}
 use lib.ListN.{length, take}
@@ -32,7 +32,7 @@ use Rattle.moves.specs.declared.plan.Letter.the-variants.{Nothing, Heartbeat, E
 use Rattle.letters.proofs.Replying.{was-put}
 use Rattle.letters.proofs.Carried.{logon-seconds}
 
--- A LOGON with 98=0, a number as 108 and 1137=9 is that of the writer's replies
+-- A LOGON with 98=0, a number as 108 and 1137=9 is that of the replies
 pub plain-logon : (ours peers : Bytes) (n : ℕ) (stamp : Bytes) (k : ℕ) (reset : Value) → letter ours peers n stamp (Words.Logon (bytes (fix "0")) (bytes (decimal k)) (bytes (fix "9")) reset) ≡ Reply.logon ours peers n stamp k reset
 unfolding written order own fields code35 Reply.logon
 plain-logon ours peers n stamp k reset = refl
@@ -72,36 +72,36 @@ module _ (ours peers stamp body d d′ : Bytes) (n at to : ℕ) (l : Letter) (S 
   alone {xs = xs} e q w h =
       (subst (Wrote d d′ at to) (sym (append-nil xs) ∙ q ∙ ap (λ (y : Letter). joined (bytesOf ours peers stamp (lettersOf body n y))) (sym e)) w, h)
 
-  pub put-beat : {id : Bytes} → id ≡ [] → l ≡ Heartbeat → Replied (sendable ours peers n stamp at 187 (length d) && echoable id) d d′ at to 187 (Reply.heartbeat ours peers n stamp absent) → Put
+  pub put-beat : {id : Bytes} → id ≡ [] → l ≡ Heartbeat → Replied ours peers n stamp (echoable id) d d′ at to (Reply.heartbeat ours peers n stamp absent) → Put
   put-beat i e R = let w = was-put S n R (rw i refl) (S .number) (S .room) in alone e refl (w .0) (w .1)
 
   pub put-echo : l ≡ Echo → Wrote d d′ at to (Reply.heartbeat ours peers n stamp (repeated (firstField 112 body))) → to ≤ at + 187 → Put
   put-echo e w h = alone e refl w h
 
-  pub put-logon : {anew : Bool} → l ≡ Logon anew → Wrote d d′ at to (logonOf ours peers (cond anew 1 n) stamp body (Reply.optional anew (fix "Y"))) → to ≤ at + 156 → Put
+  pub put-logon : {anew : Bool} → l ≡ Logon anew → Wrote d d′ at to (logonOf ours peers (cond anew 1 n) stamp body (Reply.optional anew (fix "Y"))) → to ≤ at + 187 → Put
   put-logon {anew = anew} e w h =
       let F = subst (λ (y : Letter). AllPut (lettersOf body n y)) e A in
-      alone e (ap (λ (xs : Bytes). xs ++ []) (sym (repeats ours peers stamp body (cond anew 1 n) (Reply.optional anew (fix "Y")) (F .1)))) w (omega arith)
+      alone e (ap (λ (xs : Bytes). xs ++ []) (sym (repeats ours peers stamp body (cond anew 1 n) (Reply.optional anew (fix "Y")) (F .1)))) w h
 
-  pub put-ask : {from : ℕ} → l ≡ Ask from → Replied (sendable ours peers n stamp at 148 (length d) && nineDigits from) d d′ at to 148 (Reply.resendRequest ours peers n stamp from) → Put
+  pub put-ask : {from : ℕ} → l ≡ Ask from → Replied ours peers n stamp (nineDigits from) d d′ at to (Reply.resendRequest ours peers n stamp from) → Put
   put-ask {from = from} e R =
       let F = subst (λ (y : Letter). AllPut (lettersOf body n y)) e A in
-      let w = was-put S n R (le-leb from 999_999_999 (F .1 .high)) (S .number) (omega (arith, S .room)) in alone e refl (w .0) (omega (arith, w .1))
+      let w = was-put S n R (le-leb from 999_999_999 (F .1 .high)) (S .number) (S .room) in alone e refl (w .0) (w .1)
 
-  pub put-reject : {reason tag : ℕ} → l ≡ Reject reason tag → Wrote d d′ at to (rejectOf ours peers n stamp body reason tag) → to ≤ at + 173 → Put
-  put-reject e w h = alone e refl w (omega arith)
+  pub put-reject : {reason tag : ℕ} → l ≡ Reject reason tag → Wrote d d′ at to (rejectOf ours peers n stamp body reason tag) → to ≤ at + 187 → Put
+  put-reject e w h = alone e refl w h
 
-  pub put-fill : {begin new : ℕ} → l ≡ Fill begin new → Replied (sendable ours peers begin stamp at 179 (length d) && nineDigits new) d d′ at to 179 (Reply.gapFill ours peers begin stamp new) → Put
+  pub put-fill : {begin new : ℕ} → l ≡ Fill begin new → Replied ours peers begin stamp (nineDigits new) d d′ at to (Reply.gapFill ours peers begin stamp new) → Put
   put-fill {begin = begin} {new = new} e R =
       let F = subst (λ (y : Letter). AllPut (lettersOf body n y)) e A in
-      let w = was-put S begin R (le-leb new 999_999_999 (F .1 .high)) (F .0) (omega (arith, S .room)) in alone e refl (w .0) (omega (arith, w .1))
+      let w = was-put S begin R (le-leb new 999_999_999 (F .1 .high)) (F .0) (S .room) in alone e refl (w .0) (w .1)
 
-  pub put-logout : {why : ℕ} → l ≡ Logout why → Replied (sendable ours peers n stamp at 132 (length d) && nineDigits why) d d′ at to 132 (Reply.logout ours peers n stamp why) → Put
+  pub put-logout : {why : ℕ} → l ≡ Logout why → Replied ours peers n stamp (nineDigits why) d d′ at to (Reply.logout ours peers n stamp why) → Put
   put-logout {why = why} e R =
       let F = subst (λ (y : Letter). AllPut (lettersOf body n y)) e A in
-      let w = was-put S n R (le-leb why 999_999_999 (F .1)) (S .number) (omega (arith, S .room)) in alone e refl (w .0) (omega (arith, w .1))
+      let w = was-put S n R (le-leb why 999_999_999 (F .1)) (S .number) (S .room) in alone e refl (w .0) (w .1)
 
-  pub put-test : l ≡ Test → Replied (sendable ours peers n stamp at 187 (length d) && echoable body) d d′ at to 187 (Reply.testRequest ours peers n stamp body) → Put
+  pub put-test : l ≡ Test → Replied ours peers n stamp (echoable body) d d′ at to (Reply.testRequest ours peers n stamp body) → Put
   put-test e R =
       let F = subst (λ (y : Letter). AllPut (lettersOf body n y)) e A in
       let w = was-put S n R (le-leb (length body) 64 (F .1 .short)) (S .number) (S .room) in alone e refl (w .0) (w .1)

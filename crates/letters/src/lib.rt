@@ -8,14 +8,14 @@ use moves::Letter;
 use moves::Record;
 use moves::next_after;
 use moves::number_in;
+use replies::gap_fill;
+use replies::heartbeat;
+use replies::logon;
+use replies::logout;
+use replies::reject;
+use replies::resend_request;
+use replies::test_request;
 use table::Named;
-use writer::gap_fill;
-use writer::heartbeat;
-use writer::logon;
-use writer::logout;
-use writer::reject;
-use writer::resend_request;
-use writer::test_request;
 ghost use mathlib.Core.Path.{_≡_};
 ghost use mathlib.Core.List.{_++_};
 ghost use mathlib.Core.Option.{some};
@@ -60,7 +60,7 @@ fn put_reject(
     requires { ⌜ Sending (now us) (now them) n at (now stamp) (now buf) ⌝ }
     requires { ⌜ (reason < 1_000_000_000) × (tag < 1_000_000_000) ⌝ }
     ensures bytes { λ r. ⌜ Wrote (now (buf .entry)) (now (buf .exit)) at r (rejectOf (now (us .entry)) (now (them .entry)) n (now (stamp .entry)) (now (body .entry)) reason tag) ⌝ }
-    ensures room { λ r. ⌜ r ≤ at + 173 ⌝ }
+    ensures room { λ r. ⌜ r ≤ at + 187 ⌝ }
 {
     let place = named_type(body);
     let refused = number_in(body, 34, 1);
@@ -117,7 +117,7 @@ fn put_logon(
 ) -> usize
     requires { ⌜ Sending (now us) (now them) n at (now stamp) (now buf) ⌝ }
     ensures bytes { λ r. ⌜ Wrote (now (buf .entry)) (now (buf .exit)) at r (logonOf (now (us .entry)) (now (them .entry)) (cond reset 1 n) (now (stamp .entry)) (now (body .entry)) (optional reset (fix "Y"))) ⌝ }
-    ensures room { λ r. ⌜ r ≤ at + 156 ⌝ }
+    ensures room { λ r. ⌜ r ≤ at + 187 ⌝ }
 {
     let seconds = number_in(body, 108, 0);
     if reset {

@@ -13,7 +13,7 @@ use Rattle.fields.specs.Field.{firstField}
 use Rattle.kinds.proofs.Values.{same-true, same-refl}
 use Rattle.dictionary.specs.declared.Verdict.the-variants.{Clean}
 use Rattle.dictionary.specs.Verdict.{verdict}
-use Rattle.writer.specs.Message.{absent, bytes}
+use Rattle.message.specs.Message.{absent, bytes}
 use Rattle.moves.specs.Words.{first, _when_, _otherwise_, speaks}
 use Rattle.moves.specs.Session.{Session}
 use Rattle.moves.specs.Seen.{isIt, repeated, isClean}

@@ -10,8 +10,8 @@ use Rattle.fields.specs.Field.{firstField}
 use Rattle.table.specs.declared.MsgType.{MsgType}
 use Rattle.table.specs.declared.MsgType.the-variants as MsgType
 use Rattle.dictionary.specs.Verdict.{verdict, msgType}
-use Rattle.writer.specs.Message.{Value, absent, bytes, _is_, written}
-use Rattle.writer.specs.Reply as Reply
+use Rattle.message.specs.Message.{Value, absent, bytes, _is_, written}
+use Rattle.replies.specs.Reply as Reply
 use Rattle.moves.specs.Words.{_=?_, _<?_, _≤?_, if_then_else_, _when_, first, _otherwise_, speaks}
 use Rattle.moves.specs.Session.{Session}
 use Rattle.moves.specs.Seen.{isIt, repeated, numberIn, codeOf, reasonOf, tagOf, isClean}

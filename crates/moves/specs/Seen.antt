@@ -8,7 +8,7 @@ use Rattle.table.specs.declared.MsgType.{MsgType}
 use Rattle.table.specs.Dictionary.{code35}
 use Rattle.dictionary.specs.declared.Verdict.{Verdict}
 use Rattle.dictionary.specs.declared.Verdict.the-variants.{Clean, Finding, NoBody}
-use Rattle.writer.specs.Message.{Value, absent, bytes}
+use Rattle.message.specs.Message.{Value, absent, bytes}
 use Rattle.moves.specs.Words.{_when_}
 
 -- a field is there, and its value is w

@@ -15,39 +15,19 @@ use Rattle.fields.specs.Field.{firstField}
 use Rattle.bytes.proofs.Decimals.{decimal-worth}
 use Rattle.table.specs.declared.MsgType.{MsgType}
 use Rattle.table.specs.Dictionary.{code35, administrative}
-use Rattle.writer.specs.Message.{Value, absent, number, bytes, shown, row, message, written}
+use Rattle.message.specs.Message.{Value, absent, number, bytes, shown, row, message, written}
 use Rattle.writer.specs.Tags.{tags, numeric}
 use Rattle.writer.specs.Call.{placeIn, part, valueIn, refused8, admin, Outcome, refusing, writing, fitted, writeAs, write, numbers}
-use Rattle.writer.specs.Promise.{ReadsBack, MessageOf, Ends, another-type, unfit-value, short-buffer, whole}
+use Rattle.message.specs.ReadsBack.{ReadsBack}
+use Rattle.writer.specs.Promise.{MessageOf, Ends, another-type, unfit-value, short-buffer, whole}
 use Rattle.writer.specs.declared.Values.{Values}
 use Rattle.writer.specs.declared.Written.the-variants.{Unfit, Short}
-use Rattle.writer.proofs.Rows.{Plain, plain-decimal}
-use Rattle.writer.proofs.Wholes.{bytes-take, framed-one}
-use Rattle.writer.proofs.Sizes.{body-longest}
-use Rattle.writer.proofs.ReadBack.{OfBytes, fine, written-good, written-clean, type-back, value-back, no-other}
-use Rattle.writer.proofs.Types.{named-by}
-
-pub reads-back : (m : MsgType) → administrative m ≡ true → (vs : ℕ → Value) → refused8 m vs ≡ false → ((t : ℕ) → OfBytes (shown (vs t))) → ReadsBack m vs
-reads-back m a vs ok b =
-    record {
-      frame = written-good m a vs ok b .0;
-      its-body = written-good m a vs ok b .1;
-      clean = written-clean m a vs ok b;
-      type = type-back m a vs ok b;
-      values = value-back m a vs ok b;
-      no-other = no-other m a vs ok b;
-      longest = body-longest m a vs (fine m a vs ok b);
-    }
+use Rattle.message.proofs.Wholes.{bytes-take, framed-one}
+use Rattle.message.proofs.ReadBack.{OfBytes, decimal-bytes, reads-back}
+use Rattle.writer.proofs.Tagged.{order-fine, values-back}
+use Rattle.writer.proofs.Named.{named-by}
 
 -- VALUES OF BYTES
-plain-bytes : (l : Bytes) → Plain l → Byted l
-plain-bytes [] h i = omega arith
-plain-bytes (x ∷ l) h zero = h .0 .1
-plain-bytes (x ∷ l) h (suc i) = plain-bytes l (h .1) i
-
-pub decimal-bytes : (n : ℕ) → Byted (decimal n)
-decimal-bytes n = plain-bytes (decimal n) (plain-decimal n)
-
 bytes-drop : (n : ℕ) (l : Bytes) → Byted l → Byted (drop n l)
 bytes-drop zero l h = h
 bytes-drop (suc n) [] h = h
@@ -114,6 +94,7 @@ module _ (type : Bytes) (vs : Values) (s d : Bytes) where
       let w : Bytes = written m (valueIn vs s) in
       let q : length w ≡ n = ap (λ (p : Option ℕ × List ℕ). getD (p .1) 0 0) e in
       let N = named-by type m (sym a) in
+      let R = reads-back m (N .administers) (valueIn vs s) (order-fine m (N .administers) (valueIn vs s) r) (value-bytes vs s b) in
       record {
         message = m;
         administers = N .administers;
@@ -121,7 +102,8 @@ module _ (type : Bytes) (vs : Values) (s d : Bytes) where
         front = ap (λ (k : ℕ). take k (w ++ drop (length w) d)) (sym q) ∙ take-append-seam w (drop (length w) d);
         behind = ap (λ (k : ℕ). drop k (w ++ drop (length w) d)) (sym q) ∙ drop-append-seam w (drop (length w) d) ∙ ap (λ (k : ℕ). drop k d) q;
         fits = omega (arith, q);
-        reads-back = reads-back m (N .administers) (valueIn vs s) r (value-bytes vs s b);
+        reads-back = R;
+        values = λ t h. ap (firstField t) (R .its-body) ∙ values-back m (N .administers) (valueIn vs s) r R t h;
       }
 
 -- TWO DIFFERENT SETS OF VALUES NEVER WRITE THE SAME BYTES
@@ -156,10 +138,10 @@ same-shown t vs ws s r = go (getD (vs .given) k false) (getD (ws .given) k false
     go false false m e = refl
 
 -- messages that read back and have the same bytes
-pub same-read : {m m′ : MsgType} {vs ws : ℕ → Value} → ReadsBack m vs → ReadsBack m′ ws → written m vs ≡ written m′ ws
-    → (code35 m ≡ code35 m′) × ((t : ℕ) → has tags t ≡ true → shown (vs t) ≡ shown (ws t))
+pub same-read : {m m′ : MsgType} {vs ws : ℕ → Value} (A : ReadsBack m vs) (B : ReadsBack m′ ws) → written m vs ≡ written m′ ws
+    → (code35 m ≡ code35 m′) × (A .frame .body ≡ B .frame .body)
 unfolding written
 same-read {m} {m′} {vs} {ws} A B e =
     let q = framed-one (row (message m vs)) (row (message m′ ws)) e in
     let c : some (code35 m) ≡ some (code35 m′) = sym (A .type) ∙ ap (firstField 35) q ∙ B .type in
-    (cc, λ t h. sym (A .values t h) ∙ ap (firstField t) q ∙ B .values t h)
+    (cc, A .its-body ∙ q ∙ sym (B .its-body))

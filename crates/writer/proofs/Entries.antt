@@ -12,15 +12,16 @@ use Rattle.kinds.specs.Kind.{Kind}
 use Rattle.kinds.specs.Judged.{meaning}
 use Rattle.table.specs.declared.MsgType.{MsgType}
 use Rattle.table.specs.Dictionary.{rowsOf, listed, kindIn}
-use Rattle.writer.specs.Message.{Value, absent, number, bytes, shown, tagged}
+use Rattle.message.specs.Message.{Value, absent, number, bytes, shown, tagged}
 use Rattle.writer.specs.Tags.{isNumeric}
-use Rattle.writer.specs.Call.{part, unwritable}
-use Rattle.writer.specs.Wrote.{Wrote}
-use Rattle.writer.specs.declared.fill.Entry.{Entry}
-use Rattle.writer.specs.declared.fill.Put.{Put}
-use Rattle.writer.specs.declared.fill.Put.the-variants.{At, Unfit}
+use Rattle.writer.specs.Call.{part}
+use Rattle.message.specs.Unfit.{unwritable}
+use Rattle.message.specs.Wrote.{Wrote}
+use Rattle.writer.specs.declared.types.Entry.{Entry}
+use Rattle.writer.specs.declared.types.Put.{Put}
+use Rattle.writer.specs.declared.types.Put.the-variants.{At, Unfit}
 use Rattle.writer.specs.code.Held.{Holds, valueOf, unwritten, PutText, PutOne}
-use Rattle.writer.proofs.Writes.{nothing}
+use Rattle.message.proofs.Writes.{nothing}
 use Rattle.writer.proofs.Fitness.{unwritten-empty, rejected-is, rejected-other}
 
 -- what was put for the bytes of a value was put for the value

@@ -18,18 +18,21 @@ use Rattle.table.specs.declared.MsgType.{MsgType}
 use Rattle.table.specs.Dictionary.{№453, №580, header, fields, code35, groupsOf, rowsOf, listed, kindIn, administrative}
 use Rattle.table.specs.code.Held.{agree}
 use Rattle.table.proofs.Lists.{agree-true}
-use Rattle.writer.specs.Message.{Value, absent, number, bytes, Field, _is_, own, order, field, row, valued}
+use Rattle.message.specs.Message.{Value, absent, number, bytes, Field, _is_, own, order, field, row, valued}
 use Rattle.writer.specs.Tags.{tags, isNumeric, numeric}
-use Rattle.writer.specs.Call.{placeIn, part, valueAt, valueIn, required, unfit, refused8}
-use Rattle.writer.specs.Wrote.{Wrote}
+use Rattle.writer.specs.Call.{placeIn, part, valueAt, valueIn, refused8}
+use Rattle.message.specs.Unfit.{required, unfit}
+use Rattle.message.specs.Wrote.{Wrote}
 use Rattle.writer.specs.declared.Values.{Values}
-use Rattle.writer.specs.declared.fill.Marks.{Marks}
-use Rattle.writer.specs.declared.fill.Slot.{Slot}
-use Rattle.writer.specs.declared.fill.Entry.{Entry}
-use Rattle.writer.specs.declared.fill.Put.{Put}
-use Rattle.writer.specs.code.Held.{bitOf, tagAt, Marked, sevenRows, Slots, Holds, valueOf, most, PutOne}
-use Rattle.writer.proofs.Writes.{more, reword}
-use Rattle.writer.proofs.Seven.{each, filtered-has, known}
+use Rattle.writer.specs.declared.types.Marks.{Marks}
+use Rattle.writer.specs.declared.types.Slot.{Slot}
+use Rattle.writer.specs.declared.types.Entry.{Entry}
+use Rattle.writer.specs.declared.types.Put.{Put}
+use Rattle.writer.specs.code.Held.{bitOf, tagAt, Marked, sevenRows, Slots, Holds, valueOf, PutOne}
+use Rattle.message.specs.code.Most.{most}
+use Rattle.message.proofs.Writes.{more, reword}
+use Rattle.message.proofs.Seven.{each}
+use Rattle.writer.proofs.Tagged.{not-listed}
 
 -- WHAT THE TABLES SAY AT A PLACE
 map-same : (f g : ℕ → Kind) (ts : List ℕ) (u : ℕ) → map f ts ≡ map g ts → has ts u ≡ true → f u ≡ g u
@@ -88,7 +91,7 @@ kind-own m a t h l = map-same (kindIn sevenRows) (kindIn (rowsOf m)) (order m) t
   where
     go : (b : Bool) → has (order m) t ≡ b → has (order m) t ≡ true
     go true e = e
-    go false e = absurd (false≢true (sym (filtered-has (listed (rowsOf m)) tags t (ap (λ (ts : List ℕ). has ts t) (known m a .only) ∙ e) h) ∙ l))
+    go false e = absurd (false≢true (sym (not-listed m a t h e) ∙ l))
 
 -- ONE PLACE of a call
 abbrev pub noSlot : Slot

@@ -16,9 +16,10 @@ use Rattle.kinds.proofs.Values.{same-true}
 use Rattle.table.specs.declared.MsgType.{MsgType}
 use Rattle.table.specs.Dictionary.{rowsOf, listed, kindIn}
 use Rattle.writer.specs.Tags.{isNumeric}
-use Rattle.writer.specs.Call.{rejected}
-use Rattle.writer.specs.code.Held.{unwritten, most}
-use Rattle.writer.proofs.Accepted.{kind-length}
+use Rattle.message.specs.Unfit.{rejected}
+use Rattle.writer.specs.code.Held.{unwritten}
+use Rattle.message.specs.code.Most.{most}
+use Rattle.message.proofs.Accepted.{kind-length}
 
 -- A VALUE OF A KIND
 pub unwritten-empty : (k : Kind) (v : Bytes) → length v ≡ 0 → true ≡ unwritten k v

@@ -2,15 +2,15 @@
 use Prim.Native.Nat.{ℕ, suc, _-_}
 use mathlib.Core.Path.{_≡_}
 use mathlib.Core.List.{List, [], _∷_, _++_}
-use mathlib.Core.Bool.{Bool, false, cond, not, _&&_, _||_}
+use mathlib.Core.Bool.{Bool, false, cond, _&&_}
 use mathlib.Core.Option.{Option, none, some}
 use lib.Dec.{eqb, leb, ltb}
 use lib.ListN.{length, take, drop, getD}
-use Rattle.bytes.specs.Bytes.{Bytes, byte, any, has}
-use Rattle.kinds.specs.Kind.{formed, allowed}
+use Rattle.bytes.specs.Bytes.{Bytes, any}
 use Rattle.table.specs.declared.MsgType.{MsgType}
-use Rattle.table.specs.Dictionary.{rowsOf, listed, kindIn, typeOf, administrative}
-use Rattle.writer.specs.Message.{Value, absent, number, bytes, Field, _is_, shown, valued, written}
+use Rattle.table.specs.Dictionary.{typeOf, administrative}
+use Rattle.message.specs.Message.{Value, absent, number, bytes, valued, written}
+use Rattle.message.specs.Unfit.{unfit}
 use Rattle.writer.specs.Tags.{tags, numeric}
 use Rattle.writer.specs.declared.Values.{Values}
 use Rattle.writer.specs.declared.Written.{Written}
@@ -36,24 +36,7 @@ unfoldable pub valueIn : Values → Bytes → ℕ → Value
 valueIn vs text t = valueAt vs text t (placeIn tags t)
 
 -- REFUSAL 8: "a value to write that the dictionary would reject, a required one absent, another type"
--- "a value .. that the dictionary would reject": not for this message, empty, with a `|` in it, of bad form or a bad value
-unfoldable pub rejected : MsgType → ℕ → Bytes → Bool
-rejected m t v =
-    not (listed (rowsOf m) t) || eqb (length v) 0 || has v (byte "|") || not (formed (kindIn (rowsOf m) t) v) || not (allowed (kindIn (rowsOf m) t) v)
-
--- "a required one absent"
-unfoldable pub required : MsgType → ℕ → Bool
-required m t = any (λ r. eqb (r .tag) t && r .required) (rowsOf m)
-
--- a value is unfit if it is absent and required, or there and rejected
-abbrev pub unwritable : MsgType → ℕ → Option Bytes → Bool
-unwritable m t none = required m t
-unwritable m t (some v) = rejected m t v
-
-abbrev pub unfit : MsgType → Field → Bool
-unfit m (t is v) = unwritable m t (shown v)
-
--- one of the values of a call is
+-- one of the values of a call is unfit (specs/Unfit.antt of message)
 unfoldable pub refused8 : MsgType → (ℕ → Value) → Bool
 refused8 m vs = any (unfit m) (valued vs tags)
 

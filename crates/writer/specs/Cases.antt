@@ -1,12 +1,12 @@
 -- Worked messages and calls of the writer: a Heartbeat from GW to MM, number 2, at half past nine, and cases near it.
+use Prim.Native.Nat.{ℕ}
 use mathlib.Core.Path.{_≡_}
-use mathlib.Core.List.{[], _∷_, _++_}
+use mathlib.Core.List.{List, [], _∷_, _++_}
 use mathlib.Core.Bool.{true, false}
 use lib.ListN.{replicate}
 use Rattle.bytes.specs.Bytes.{Bytes, fix}
-use Rattle.table.specs.declared.MsgType.the-variants.{TestRequest, ResendRequest, Reject, SequenceReset}
-use Rattle.writer.specs.Message.{absent, number, _is_, row, message}
-use Rattle.writer.specs.Reply.{heartbeat, values, ofTestRequest, ofGapFill}
+use Rattle.table.specs.declared.MsgType.the-variants.{Heartbeat, ResendRequest, Reject}
+use Rattle.message.specs.Message.{Value, number, bytes, Field, _is_, row, message, written, given}
 use Rattle.writer.specs.Call.{refusing, fitted, write}
 use Rattle.writer.specs.declared.Values.{Values}
 use Rattle.writer.specs.declared.Written.the-variants.{Unfit, Short}
@@ -14,8 +14,12 @@ use Rattle.writer.specs.declared.Written.the-variants.{Unfit, Short}
 abbrev pub half-past-nine : Bytes
 half-past-nine = fix "20240102-09:30:00.000000"
 
+-- the values of a message from GW to MM, and some more
+abbrev pub from-gw : List Field → ℕ → Value
+from-gw fs = given (49 is bytes (fix "GW") ∷ 56 is bytes (fix "MM") ∷ 34 is number 2 ∷ 52 is bytes half-past-nine ∷ fs)
+
 abbrev pub beat : Bytes
-beat = heartbeat (fix "GW") (fix "MM") 2 half-past-nine absent
+beat = written Heartbeat (from-gw [])
 
 -- its values for the writer call: 49, 56, 34 and 52
 abbrev pub text : Bytes
@@ -38,22 +42,14 @@ abbrev pub past-52 : Values
 past-52 = record { given = of-beat .given; numbers = of-beat .numbers; starts = of-beat .starts; ends = 2 ∷ 4 ∷ 0 ∷ 0 ∷ 29 ∷ replicate 16 0 }
 
 pub record Cases : Type 0 where
-  -- the call writes the reply
+  -- the call writes the message
   pub by-call : (buf : Bytes) → write (fix "0") of-beat text buf ≡ fitted beat buf
-  -- "(type 4: 123, 36)", "122 equal to 52"
-  pub order-4 :
-      row (message SequenceReset (ofGapFill (fix "GW") (fix "MM") 2 half-past-nine 5))
-      ≡ fix "35=4|49=GW|56=MM|34=2|43=Y|52=20240102-09:30:00.000000|122=20240102-09:30:00.000000|123=Y|36=5|"
-  -- a Test Request has a 112
-  pub with-112 :
-      row (message TestRequest (ofTestRequest (fix "GW") (fix "MM") 2 half-past-nine (fix "T1")))
-      ≡ fix "35=1|49=GW|56=MM|34=2|52=20240102-09:30:00.000000|112=T1|"
   -- 0 is a value of 16 and of 371, not an absent one
   pub zero-16 :
-      row (message ResendRequest (values (fix "GW") (fix "MM") 2 half-past-nine (7 is number 5 ∷ 16 is number 0 ∷ [])))
+      row (message ResendRequest (from-gw (7 is number 5 ∷ 16 is number 0 ∷ [])))
       ≡ fix "35=2|49=GW|56=MM|34=2|52=20240102-09:30:00.000000|7=5|16=0|"
   pub zero-371 :
-      row (message Reject (values (fix "GW") (fix "MM") 2 half-past-nine (45 is number 5 ∷ 371 is number 0 ∷ [])))
+      row (message Reject (from-gw (45 is number 5 ∷ 371 is number 0 ∷ [])))
       ≡ fix "35=3|49=GW|56=MM|34=2|52=20240102-09:30:00.000000|45=5|371=0|"
   -- refusal 8: another type, a required value absent, one that is not in the text; it stands before 9
   pub type-F : (buf : Bytes) → write (fix "F") of-beat text buf ≡ refusing Unfit buf

@@ -1,10 +1,5 @@
-pub mod Message
-pub mod Reply
 pub mod Tags
 pub mod Call
 pub mod Promise
-pub mod Whole
-pub mod Wrote
-pub mod Replied
 pub mod Cases
 pub mod code

@@ -1,10 +1,15 @@
-// The values of a message: which of them its type has and must have, whether each is fit, and their fields one behind the other.
+// The values of a message: whether each is fit, and their fields one behind the other.
 use crate::Values;
-use crate::put::put_decimal;
-use crate::put::put_text;
-use kinds::Choice;
+use crate::slots::bit;
+use crate::slots::marks_of;
+use crate::slots::slots;
+use crate::types::Admin;
+use crate::types::Entry;
+use crate::types::Put;
 use kinds::Kind;
 use kinds::judge;
+use message::put_decimal;
+use message::put_text;
 use table::MsgType;
 ghost use mathlib.Core.Path.{_≡_};
 ghost use mathlib.Core.Bool.{true, not};
@@ -13,86 +18,10 @@ ghost use lib.ListN.{length};
 ghost use Rattle.bytes.specs.Bytes.{has, decimal};
 ghost use Rattle.kinds.specs.Judged.{meaning};
 ghost use Rattle.table.specs.Dictionary.{administrative};
+ghost use Rattle.message.specs.code.Most.{most};
 ghost use Rattle.writer.specs.Tags.{isNumeric};
 ghost use Rattle.writer.specs.Call.{admin, valueIn};
-ghost use Rattle.writer.specs.code.Held.{typeIn, bitOf, Marked, Slots, Holds, valueOf, unwritten, most, PutText, PutOne, PutAll};
-
-// One of the seven administrative messages, or another type.
-pub enum Admin {
-    Is(MsgType),
-    Other,
-}
-
-// The place behind what was put, or that a value is unfit.
-pub enum Put {
-    At(usize),
-    Unfit,
-}
-
-// For each tag, by its place: whether the message has it, and whether it must.
-pub struct Marks {
-    pub own: u32,
-    pub needed: u32,
-}
-
-// A tag and the kind of its values.
-pub struct Slot(pub u64, pub Kind);
-
-// One value of a call, with what the message says of its tag.
-pub struct Entry {
-    pub tag: u64,
-    pub kind: Kind,
-    pub own: bool,
-    pub needed: bool,
-    pub given: bool,
-    pub number: u64,
-    pub start: usize,
-    pub end: usize,
-}
-
-const STRING: Kind = Kind::Text { most: 32 };
-
-const NUMBER: Kind = Kind::Number {
-    least: 0,
-    most: 999999999,
-};
-
-const COUNTED: Kind = Kind::Number {
-    least: 1,
-    most: 999999999,
-};
-
-// The tags in the order in which they are written; the place of a tag is also its place in `Values` and its bit in `Marks`.
-const SLOTS: [Slot; 21] = [
-    Slot(49, STRING),
-    Slot(56, STRING),
-    Slot(34, COUNTED),
-    Slot(43, Kind::Flag),
-    Slot(52, Kind::Time),
-    Slot(122, Kind::Time),
-    Slot(112, Kind::Text { most: 64 }),
-    Slot(7, COUNTED),
-    Slot(16, NUMBER),
-    Slot(45, COUNTED),
-    Slot(371, NUMBER),
-    Slot(372, STRING),
-    Slot(373, NUMBER),
-    Slot(1409, NUMBER),
-    Slot(58, Kind::Text { most: 256 }),
-    Slot(123, Kind::Flag),
-    Slot(36, COUNTED),
-    Slot(98, Kind::OneOf(Choice::Zero)),
-    Slot(108, Kind::Number { least: 1, most: 60 }),
-    Slot(1137, Kind::OneOf(Choice::Nine)),
-    Slot(141, Kind::Flag),
-];
-
-// The one function that names the table: whoever looks into it takes it into a local, once.
-fn slots() -> [Slot; 21]
-    ensures { λ r. ⌜ Slots r ⌝ }
-{
-    SLOTS
-}
+ghost use Rattle.writer.specs.code.Held.{typeIn, Holds, valueOf, unwritten, PutText, PutOne, PutAll};
 
 // The message that a type names.
 pub fn admin_of(v: &[u8]) -> Admin
@@ -124,75 +53,6 @@ pub fn admin_of(v: &[u8]) -> Admin
         return Admin::Is(MsgType::Logon);
     }
     Admin::Other
-}
-
-// The tags that each message has and must have, as bits at their places: the header 0 to 5, of which 43 and 122 may be absent; 112 6; 7 and 16
-// 7 and 8; 45, 371, 372 and 373 9 to 12; 1409 13; 58 14; 123 and 36 15 and 16; 98, 108, 1137 and 141 17 to 20.
-const HEADER: u32 = 63;
-
-const ALWAYS: u32 = 23;
-
-const OF_0: Marks = Marks {
-    own: HEADER + 64,
-    needed: ALWAYS,
-};
-
-const OF_1: Marks = Marks {
-    own: HEADER + 64,
-    needed: ALWAYS + 64,
-};
-
-const OF_2: Marks = Marks {
-    own: HEADER + 128 + 256,
-    needed: ALWAYS + 128 + 256,
-};
-
-const OF_3: Marks = Marks {
-    own: HEADER + 512 + 1024 + 2048 + 4096 + 16384,
-    needed: ALWAYS + 512,
-};
-
-const OF_4: Marks = Marks {
-    own: HEADER + 32768 + 65536,
-    needed: ALWAYS + 65536,
-};
-
-const OF_5: Marks = Marks {
-    own: HEADER + 8192 + 16384,
-    needed: ALWAYS,
-};
-
-const OF_A: Marks = Marks {
-    own: HEADER + 131072 + 262144 + 524288 + 1048576,
-    needed: ALWAYS + 131072 + 262144 + 524288,
-};
-
-const NONE: Marks = Marks { own: 0, needed: 0 };
-
-// The marks of a message.
-fn marks_of(m: MsgType) -> Marks
-    requires { ⌜ administrative m ≡ true ⌝ }
-    ensures { λ r. ⌜ Marked m r ⌝ }
-{
-    match m {
-        MsgType::Heartbeat => OF_0,
-        MsgType::TestRequest => OF_1,
-        MsgType::ResendRequest => OF_2,
-        MsgType::Reject => OF_3,
-        MsgType::SequenceReset => OF_4,
-        MsgType::Logout => OF_5,
-        MsgType::Logon => OF_A,
-        MsgType::OrderCancelRequest => NONE,
-        MsgType::TradeCaptureReportRequest => NONE,
-    }
-}
-
-// The bit of a place.
-fn bit(marks: u32, k: usize) -> bool
-    requires { ⌜ k < 21 ⌝ }
-    ensures { λ r. ⌜ r ≡ bitOf marks k ⌝ }
-{
-    (marks >> (k as u32)) % 2 == 1
 }
 
 // Whether there is a `|` among the bytes.

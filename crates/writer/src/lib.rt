@@ -1,29 +1,22 @@
-// The writer: one administrative message from its values, and the replies of a session.
+// The writer: one administrative message from its values.
 mod fill;
-mod put;
-mod replies;
+mod slots;
+mod types;
 
-use fill::Admin;
-use fill::Put;
 use fill::admin_of;
 use fill::put_values;
-use put::frame_length;
-use put::put_frame;
-use put::put_text;
-pub use replies::gap_fill;
-pub use replies::heartbeat;
-pub use replies::logon;
-pub use replies::logout;
-pub use replies::reject;
-pub use replies::resend_request;
-pub use replies::test_request;
+use message::frame_length;
+use message::put_frame;
+use message::put_text;
 use table::MsgType;
+use types::Admin;
+use types::Put;
 ghost use mathlib.Core.Path.{_≡_};
 ghost use mathlib.Core.Bool.{true};
 ghost use Prim.Native.Nat.{_≤_};
 ghost use lib.ListN.{length};
 ghost use Rattle.table.specs.Dictionary.{code35, administrative};
-ghost use Rattle.writer.specs.Message.{framed};
+ghost use Rattle.message.specs.Message.{framed};
 ghost use Rattle.writer.specs.Call.{fitted, valueIn, Writes};
 ghost use Rattle.writer.specs.code.Held.{PutBody};
 

@@ -6,8 +6,8 @@ use mathlib.Core.Option.{Option}
 use lib.ListN.{length}
 use Rattle.bytes.specs.Bytes.{Bytes, fix, has, decimal, Byted}
 use Rattle.table.specs.declared.MsgType.{MsgType}
-use Rattle.writer.specs.Message.{Value, absent, number, bytes}
-use Rattle.writer.specs.Reply.{optional}
+use Rattle.message.specs.Message.{Value, absent, number, bytes}
+use Rattle.replies.specs.Reply.{optional}
 use Rattle.moves.specs.Seen.{repeated, codeOf}
 use Rattle.moves.specs.Moves.{Letter, Heartbeat, Logon, ResendRequest, Reject, GapFill, Logout, TestRequest}
 

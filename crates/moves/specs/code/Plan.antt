@@ -10,8 +10,8 @@ use Rattle.table.specs.declared.MsgType.{MsgType}
 use Rattle.table.specs.declared.MsgType.the-variants as MsgType
 use Rattle.dictionary.specs.declared.Verdict.{Verdict}
 use Rattle.dictionary.specs.Verdict.{msgType}
-use Rattle.writer.specs.Message.{absent}
-use Rattle.writer.specs.Reply.{optional}
+use Rattle.message.specs.Message.{absent}
+use Rattle.replies.specs.Reply.{optional}
 use Rattle.moves.specs.Words.{first, _otherwise_}
 use Rattle.moves.specs.Session.{Session}
 use Rattle.moves.specs.Seen.{isIt, repeated, numberIn, codeOf, reasonOf, tagOf}

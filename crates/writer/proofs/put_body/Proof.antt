@@ -5,7 +5,7 @@ use denote.Ref.{now}
 use mathlib.Core.Path.{ap}
 use lib.ListN.{length}
 use Rattle.writer.specs.Call.{valueIn}
-use Rattle.writer.proofs.Sizes.{one-byte}
+use Rattle.message.proofs.Sizes.{one-byte}
 use Rattle.writer.proofs.Calls.{body-put}
 use Rattle.writer.proofs.put_body.Statement.{statement}
 use Rattle.writer.proofs.put_body.Tie as tie

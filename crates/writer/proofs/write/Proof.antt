@@ -7,8 +7,8 @@ use lib.ListN.{length}
 use lib.Seq.{length-take-le}
 use Rattle.writer.specs.Call.{valueIn}
 use Rattle.writer.specs.code.Held.{typeIn}
-use Rattle.writer.proofs.Writes.{front-of}
-use Rattle.writer.proofs.Types.{named-by}
+use Rattle.message.proofs.Writes.{front-of}
+use Rattle.writer.proofs.Named.{named-by}
 use Rattle.writer.proofs.Calls.{body-told, other-type, unfit-values, fit-values}
 use Rattle.writer.proofs.write.Statement.{statement}
 use Rattle.writer.proofs.write.Tie as tie

@@ -1,5 +1,5 @@
 -- How the code holds the writer's tags and values, and what it puts for them. Only the code needs these: nothing here states document 01.
-use Prim.Native.Nat.{ℕ, _+_, _/_, _%_, _^_, _≤_, _<_, max}
+use Prim.Native.Nat.{ℕ, _+_, _/_, _%_, _^_, _≤_, _<_}
 use mathlib.Core.Path.{_≡_}
 use mathlib.Core.List.{List, [], _∷_, _++_, map}
 use mathlib.Core.Bool.{Bool, true, false, cond, not, _||_}
@@ -13,17 +13,18 @@ use Rattle.kinds.specs.Judged.{meaning}
 use Rattle.table.specs.declared.MsgType.{MsgType}
 use Rattle.table.specs.declared.MsgType.the-variants.{Heartbeat, ResendRequest, Reject, SequenceReset, Logout, Logon}
 use Rattle.table.specs.Dictionary.{Row, header, fields, rowsOf, listed, kindIn}
-use Rattle.writer.specs.Message.{Value, absent, bytes, _is_, field, row, valued, message}
+use Rattle.message.specs.Message.{Value, absent, bytes, _is_, field, row, valued, message}
 use Rattle.writer.specs.Tags.{tags, isNumeric}
-use Rattle.writer.specs.Call.{part, required, unfit, refused8}
-use Rattle.writer.specs.Wrote.{Wrote}
-use Rattle.writer.specs.declared.fill.Admin.{Admin}
-use Rattle.writer.specs.declared.fill.Admin.the-variants.{Is, Other}
-use Rattle.writer.specs.declared.fill.Put.{Put}
-use Rattle.writer.specs.declared.fill.Put.the-variants.{At, Unfit}
-use Rattle.writer.specs.declared.fill.Marks.{Marks}
-use Rattle.writer.specs.declared.fill.Slot.{Slot}
-use Rattle.writer.specs.declared.fill.Entry.{Entry}
+use Rattle.writer.specs.Call.{part, refused8}
+use Rattle.message.specs.Unfit.{required, unfit}
+use Rattle.message.specs.Wrote.{Wrote}
+use Rattle.writer.specs.declared.types.Admin.{Admin}
+use Rattle.writer.specs.declared.types.Admin.the-variants.{Is, Other}
+use Rattle.writer.specs.declared.types.Put.{Put}
+use Rattle.writer.specs.declared.types.Put.the-variants.{At, Unfit}
+use Rattle.writer.specs.declared.types.Marks.{Marks}
+use Rattle.writer.specs.declared.types.Slot.{Slot}
+use Rattle.writer.specs.declared.types.Entry.{Entry}
 
 -- THE TYPE
 abbrev pub typeIn : Admin → Option MsgType
@@ -61,19 +62,6 @@ valueOf e s = cond (e .given) (cond (isNumeric (meaning (e .kind))) (Value.numbe
 -- the bytes of a value of a kind are not to be written: rejected, but for the message
 unfoldable pub unwritten : Kind → Bytes → Bool
 unwritten k v = eqb (length v) 0 || has v 1 || not (formed k v) || not (allowed k v)
-
--- how long a value of a kind can be
-abbrev pub longest : List Bytes → ℕ
-longest [] = 0
-longest (w ∷ l) = max (length w) (longest l)
-
-abbrev pub most : Kind → ℕ
-most (text n) = n
-most (number a to b) = 9
-most Y/N = 1
-most time = longest shapes
-most day = 8
-most (among l) = longest l
 
 -- what is put for a value: its field, or nothing but the answer that it is unfit
 abbrev pub PutText : Kind → ℕ → Bytes → Bytes → Bytes → ℕ → Put → Type 0

@@ -5,7 +5,7 @@ use mathlib.Core.Path.{refl}
 use Rattle.table.specs.declared.MsgType.the-variants.{Heartbeat, TestRequest, ResendRequest, Reject, SequenceReset, Logout, Logon}
 use Rattle.table.specs.Dictionary.{code35, typeOf, administrative}
 use Rattle.writer.specs.Call.{admin}
-use Rattle.writer.proofs.Types.{typed, type-other, type-long}
+use Rattle.writer.proofs.Named.{typed, type-other, type-long}
 use Rattle.writer.proofs.fill.admin_of.Statement.{statement}
 use Rattle.writer.proofs.fill.admin_of.Tie as tie
 

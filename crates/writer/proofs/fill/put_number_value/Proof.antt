@@ -7,7 +7,7 @@ use lib.Seq.{length-take-le}
 use Rattle.bytes.specs.Bytes.{Bytes}
 use Rattle.kinds.specs.Judged.{meaning}
 use Rattle.writer.specs.code.Held.{PutText}
-use Rattle.writer.proofs.Writes.{front-of, few-digits}
+use Rattle.message.proofs.Writes.{front-of, few-digits}
 use Rattle.writer.proofs.Fitness.{unwritten-large}
 use Rattle.writer.proofs.fill.put_number_value.Statement.{statement}
 use Rattle.writer.proofs.fill.put_number_value.Tie as tie

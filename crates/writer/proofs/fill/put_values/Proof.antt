@@ -9,13 +9,14 @@ use lib.ListN.{length, take}
 use Rattle.bytes.specs.Bytes.{any}
 use Rattle.table.specs.declared.MsgType.{MsgType}
 use Rattle.table.specs.Dictionary.{administrative}
-use Rattle.writer.specs.Message.{row, valued}
+use Rattle.message.specs.Message.{row, valued}
 use Rattle.writer.specs.Tags.{tags}
-use Rattle.writer.specs.Call.{valueIn, unfit, refused8}
-use Rattle.writer.specs.Wrote.{Wrote}
+use Rattle.writer.specs.Call.{valueIn, refused8}
+use Rattle.message.specs.Unfit.{unfit}
+use Rattle.message.specs.Wrote.{Wrote}
 use Rattle.writer.specs.code.Held.{tagAt, Marked}
-use Rattle.writer.proofs.Writes.{nothing, reword}
-use Rattle.writer.proofs.Sizes.{first-short}
+use Rattle.message.proofs.Writes.{nothing, reword}
+use Rattle.writer.proofs.Tagged.{first-short}
 use Rattle.writer.proofs.Filling.{slot-bounds, put-here, told, put-further, fit-further, unfit-here, all-put}
 use Rattle.writer.proofs.fill.put_values.Statement.{statement}
 use Rattle.writer.proofs.fill.put_values.Tie as tie

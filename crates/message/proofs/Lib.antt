@@ -1,0 +1,11 @@
+pub mod Writes
+pub mod Leftward
+pub mod Rows
+pub mod Frames
+pub mod Wholes
+pub mod Joined
+pub mod Accepted
+pub mod Seven
+pub mod Clean
+pub mod Sizes
+pub mod ReadBack

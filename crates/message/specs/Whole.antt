@@ -1,0 +1,27 @@
+-- One good frame and its body, by computation: what the session's definitions ask of the bytes of a frame. And good frames, one behind the other.
+use Prim.Native.Nat.{_-_}
+use mathlib.Core.List.{List, [], _∷_}
+use mathlib.Core.Bool.{Bool, not, _&&_, _||_}
+use lib.ListN.{length, take, drop}
+use Rattle.bytes.specs.Bytes.{Bytes, byte, starts, same}
+use Rattle.frame.specs.Frame.{fixt, Good}
+use Rattle.fields.specs.Field.{behind, isBody}
+use Rattle.message.specs.Message.{framed}
+
+-- m occurs in s
+abbrev pub occurs : Bytes → Bytes → Bool
+occurs m [] = starts m []
+occurs m (x ∷ s) = starts m (x ∷ s) || occurs m s
+
+-- between `8=FIXT.1.1|9=n|` and the seven bytes `10=ddd|`
+unfoldable pub bodyIn : Bytes → Bytes
+bodyIn f = let rest = behind (byte "|") (behind (byte "|") f) in take (length rest - 7) rest
+
+-- exactly one good frame: a body, with what belongs around it, and no second start mark
+unfoldable pub good : Bytes → Bool
+good f = isBody (bodyIn f) && same f (framed (bodyIn f)) && not (occurs (fixt .mark) (drop 1 f))
+
+-- messages one behind the other
+abbrev pub AllGood : List Bytes → Type 0
+AllGood [] = Unit {0}
+AllGood (m ∷ ms) = Good fixt m × AllGood ms

@@ -1,0 +1,5 @@
+pub mod Reply
+pub mod Replied
+pub mod Promise
+pub mod Cases
+pub mod code
