@@ -1,7 +1,5 @@
 pub mod Bodies
 pub mod Readings
-pub mod Records
-pub mod Keeping
-pub mod Filling
+pub mod Calls
 pub mod OneOutcome
 pub mod Promise

@@ -44,13 +44,14 @@ use Rattle.session.specs.declared.Refusal.{Refusal}
 use Rattle.session.specs.declared.Refusal.the-variants.{SessionClosed, NotLogon, BadLogon, NumbersSpent, BufferShort, TimePast, BadValue, NotOneFrame, BadRecord}
 use Rattle.moves.specs.declared.record.Status.the-variants.{Closed}
 use Rattle.session.proofs.Promise as Session
-use Rattle.gateway.specs.Numbers.{refusalOf, valueOf}
+use Rattle.border.specs.Numbers.{refusalOf, valueOf}
 use Rattle.gateway.specs.Border.{readNumber, readWords, ReadOut, PutOut, DropOut, BodyOut, its-body, no-frame, FieldOut, FirstOut, VerdictOut}
-use Rattle.gateway.specs.Record.{compIDsOf, wordsOf, saved, recordIn}
-use Rattle.gateway.specs.Calls.{Left, LeftByReconnect, LeftByNew, LeftByWrite, leftBy, unread, replyLength, replyFrom, stepFrom, stepOut, tickOut, logoutOut, testRequestOut, reconnectFrom, reconnectOut, newFrom, newIf, newOut, valuesOf, writeOut, WriteOut}
+use Rattle.border.specs.Record.{compIDsOf, wordsOf, saved, recordIn}
+use Rattle.border.specs.Values.{valuesOf}
+use Rattle.gateway.specs.Calls.{Left, LeftByReconnect, LeftByNew, LeftByWrite, leftBy, unread, replyLength, replyFrom, stepFrom, stepOut, tickOut, logoutOut, testRequestOut, reconnectFrom, reconnectOut, newFrom, newIf, newOut, writeOut, WriteOut}
 use Rattle.gateway.specs.Promise.{Answers, Ranged, Refused, Replied, Leaves, outLength, Lasts, Promise}
 use Rattle.gateway.proofs.OneOutcome.{read-one, body-one, field-one, first-one, verdict-one, put-one, drop-one}
-use Rattle.gateway.proofs.Keeping.{loaded-saves, saved-loads, closed-words, held-bytes, new-loads}
+use Rattle.border.proofs.Keeping.{loaded-saves, saved-loads, closed-words, held-bytes, new-loads}
 
 -- ANSWERS
 -- what is a function of its input

@@ -17,7 +17,7 @@ use Rattle.fields.specs.declared.Place.{Place}
 use Rattle.dictionary.specs.Verdict.{verdict}
 use Rattle.dictionary.specs.Verdict as Verdict
 use Rattle.dictionary.specs.declared.Verdict.{Verdict}
-use Rattle.gateway.specs.Numbers.{refusalOf, inWords, anyOf}
+use Rattle.border.specs.Numbers.{refusalOf, inWords, anyOf}
 use Rattle.gateway.specs.Border.{ReadOut, part, FieldOut, FirstOut, VerdictOut}
 
 pub read-frame : {s : Bytes} {x : Reading} {p n : ℕ} → x ≡ Frame p n → Reads fixt s (numbers x) → ReadOut s 0 (p ∷ n ∷ [])

@@ -17,7 +17,7 @@ use Rattle.fields.specs.declared.Item.{Item}
 use Rattle.fields.specs.declared.Item.the-variants.{Field, Malformed, End, NoBody}
 use Rattle.dictionary.specs.Verdict.{verdict}
 use Rattle.dictionary.specs.Verdict as Verdict
-use Rattle.gateway.specs.Numbers.{refusalOf, inWords, anyOf}
+use Rattle.border.specs.Numbers.{refusalOf, inWords, anyOf}
 
 -- fixgw_version: 1.1.0
 abbrev pub version : ℕ

@@ -1,23 +1,23 @@
 -- The C border of writing and of the session's calls: for each call the relation between what it is given and all that it answers and leaves.
-use Prim.Native.Nat.{ℕ, zero, suc, _+_, _*_}
+use Prim.Native.Nat.{ℕ}
 use mathlib.Core.Path.{_≡_}
-use mathlib.Core.List.{List, [], _∷_, _++_, map}
-use mathlib.Core.Bool.{Bool, true, false, not}
+use mathlib.Core.List.{List, [], _∷_}
+use mathlib.Core.Bool.{Bool, true, false}
 use mathlib.Core.Option.{Option, none, some}
 use lib.Dec.{eqb}
-use lib.ListN.{length, getD}
+use lib.ListN.{length}
 use Rattle.bytes.specs.Bytes.{Bytes}
 use Rattle.frame.specs.Stream.{joined}
 use Rattle.writer.specs.Call as Writer
-use Rattle.writer.specs.declared.Values.{Values}
 use Rattle.session.specs.Refusals.{No, numbers}
 use Rattle.moves.specs.Held.{sessionOf, with}
 use Rattle.session.specs.Held.{recordOf}
 use Rattle.session.specs.Calls.{Outcome, step, tick, logout, test-request, new, reconnect}
 use Rattle.moves.specs.declared.record.Record.{Record}
 use Rattle.session.specs.declared.Refusal.the-variants.{BadRecord}
-use Rattle.gateway.specs.Numbers.{refusalOf, valueOf}
-use Rattle.gateway.specs.Record.{compIDsOf, wordsOf, saved, recordIn}
+use Rattle.border.specs.Numbers.{refusalOf, valueOf}
+use Rattle.border.specs.Record.{compIDsOf, wordsOf, saved, recordIn}
+use Rattle.border.specs.Values.{valuesOf}
 
 -- THE CALLS ON A RECORD, each with all that it leaves: the number returned, the words, the out words, the buffer.
 -- Where no record lies in the bytes and words it is refusal 11, "record breaks its ranges", and all is "unchanged".
@@ -109,24 +109,7 @@ newOut ids words us them = newIf ids words us them (eqb (length words) 24)
 abbrev pub NewOut : Bytes → List ℕ → Bytes → Bytes → ℕ → Bytes → List ℕ → Type 0
 NewOut ids words us them r ids′ words′ = record { number = r; ids = ids′; words = words′ } ≡ newOut ids words us them
 
--- WRITING. The k-th of the writer's tags has the words 3k, 3k + 1 and 3k + 2: {given, a, b}. A number is a; bytes lie in the text from a to b.
-abbrev pub upTo : ℕ → List ℕ
-upTo zero = []
-upTo (suc n) = upTo n ++ (n ∷ [])
-
--- the word j of each place
-abbrev pub ofEach : ℕ → List ℕ → List ℕ
-ofEach j words = map (λ k. getD words (3 * k + j) 0) (upTo 21)
-
-unfoldable pub valuesOf : List ℕ → Values
-valuesOf words =
-    record {
-      given = map (λ w. not (eqb w 0)) (ofEach 0 words);
-      numbers = ofEach 1 words;
-      starts = ofEach 1 words;
-      ends = ofEach 2 words;
-    }
-
+-- WRITING, from the values that lie in words
 pub record LeftByWrite : Type 0 where
   pub number : ℕ
   pub out : List ℕ

@@ -23,8 +23,9 @@ use Rattle.session.specs.Promise as Session
 use Rattle.moves.specs.declared.record.Record.{Record}
 use Rattle.moves.specs.declared.record.Status.the-variants.{Closed}
 use Rattle.gateway.specs.Border.{ReadOut, PutOut, DropOut, BodyOut, FieldOut, FirstOut, VerdictOut}
-use Rattle.gateway.specs.Record.{recordIn}
-use Rattle.gateway.specs.Calls.{Left, LeftByNew, LeftByReconnect, LeftByWrite, valuesOf, WriteOut, NewOut, ReconnectOut, StepOut, TickOut, LogoutOut, TestRequestOut}
+use Rattle.border.specs.Record.{recordIn}
+use Rattle.border.specs.Values.{valuesOf}
+use Rattle.gateway.specs.Calls.{Left, LeftByNew, LeftByReconnect, LeftByWrite, WriteOut, NewOut, ReconnectOut, StepOut, TickOut, LogoutOut, TestRequestOut}
 
 -- ANSWERS. "Whatever bytes, numbers or session record a call is given, it ends, stays inside its memory and answers." That a call ends and stays inside
 -- its memory is proved with its code, of which nothing is asked; its answer, and all that it leaves, is exactly one.

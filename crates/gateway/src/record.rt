@@ -1,176 +1,137 @@
-// The session's record as it crosses the border: 24 bytes for the CompIDs with their lengths, and 24 words.
-use moves::Record;
-use moves::Status;
-use session::Answer;
-use session::refusal_number;
-ghost use mathlib.Core.Path.{_≡_};
-ghost use lib.ListN.{length, replicate};
-ghost use Rattle.moves.specs.Session.{code};
-ghost use Rattle.session.specs.Refusals.{numbers};
-ghost use Rattle.gateway.specs.Numbers.{refusalOf, valueOf};
-ghost use Rattle.gateway.specs.Record.{wordsOf, saved, spare, statusOf, statusIn, recordWith};
-ghost use Rattle.gateway.specs.code.Held.{statusHeld};
+// The calls on a session's record, which lies in bytes and words of the host's.
+use border::StatusWord;
+use border::delivered;
+use border::load;
+use border::number_of;
+use border::save;
+use border::save_new;
+use border::status_in;
+ghost use Rattle.gateway.specs.Calls.{NewOut, ReconnectOut, StepOut, TickOut, LogoutOut, TestRequestOut};
 
-// A status, if the words are a record's.
-pub enum StatusWord {
-    Is(Status),
-    Other,
-}
-
-fn status_of(n: u64) -> StatusWord
-    ensures { λ r. ⌜ statusHeld r ≡ statusOf n ⌝ }
-{
-    match n {
-        0 => StatusWord::Is(Status::Waiting),
-        1 => StatusWord::Is(Status::Active),
-        2 => StatusWord::Is(Status::Closed),
-        _ => StatusWord::Other,
-    }
-}
-
-// Whether the words that are kept for later are zero.
-fn is_spare(words: &[u64]) -> bool
-    ensures { λ r. ⌜ r ≡ spare (now (words .entry)) ⌝ }
-{
-    let mut i = 6;
-    while i < words.len() {
-        if words[i] != 0 {
-            return false;
-        }
-        i += 1;
-    }
-    true
-}
-
-// The status of a record; none where the words are not 24, of this version, with zeros behind the six that are used.
-pub fn status_in(words: &[u64]) -> StatusWord
-    ensures { λ r. ⌜ statusHeld r ≡ statusIn (now (words .entry)) ⌝ }
+// The record of a new session between two CompIDs; refusal 11 leaves one that is Closed and has none.
+#[no_mangle]
+pub extern "C" fn fixgw_new(ids: &mut [u8; 24], words: &mut [u64], us: &[u8], them: &[u8]) -> u32
+    ensures { λ r. ⌜ NewOut (now (ids .entry)) (now (words .entry)) (now (us .entry)) (now (them .entry)) r (now (ids .exit)) (now (words .exit)) ⌝ }
 {
     if words.len() != 24 {
-        return StatusWord::Other;
+        return 11;
     }
-    if words[0] != 1 {
-        return StatusWord::Other;
-    }
-    if !is_spare(words) {
-        return StatusWord::Other;
-    }
-    status_of(words[1])
+    let left = session::new(us, them);
+    let answer = left.answer;
+    save_new(ids, words, left.after);
+    number_of(answer)
 }
 
-fn status_number(st: Status) -> u64
-    ensures { λ r. ⌜ r ≡ code st ⌝ }
+// A reconnect: the status becomes Waiting.
+#[no_mangle]
+pub extern "C" fn fixgw_reconnect(ids: &[u8; 24], words: &mut [u64]) -> u32
+    ensures { λ r. ⌜ ReconnectOut (now (ids .entry)) (now (words .entry)) r (now (words .exit)) ⌝ }
 {
-    match st {
-        Status::Waiting => 0,
-        Status::Active => 1,
-        Status::Closed => 2,
-    }
+    let named = status_in(words);
+    let StatusWord::Is(status) = named else {
+        return 11;
+    };
+    let r = load(ids, words, status);
+    let left = session::reconnect(r);
+    let answer = left.answer;
+    save(words, left.after);
+    number_of(answer)
 }
 
-// A CompID's length, which is a byte.
-fn length_of(b: u8) -> usize
-    ensures { λ r. ⌜ r ≡ b ⌝ }
+// A step: one frame moves the record on, and the reply stands at the front of the buffer.
+#[no_mangle]
+pub extern "C" fn fixgw_step(
+    ids: &[u8; 24],
+    words: &mut [u64],
+    frame: &[u8],
+    time: u64,
+    buf: &mut [u8],
+    out: &mut [u64; 2],
+) -> u32
+    ensures { λ r. ⌜ StepOut (now (ids .entry)) (now (words .entry)) (now (frame .entry)) time (now (buf .entry)) r (now (words .exit)) (now (out .exit)) (now (buf .exit)) ⌝ }
 {
-    b as usize
+    let named = status_in(words);
+    let StatusWord::Is(status) = named else {
+        *out = [0, 0];
+        return 11;
+    };
+    let r = load(ids, words, status);
+    let left = session::step(r, frame, time, buf);
+    let answer = left.answer;
+    save(words, left.after);
+    *out = [delivered(answer), left.len as u64];
+    number_of(answer)
 }
 
-pub fn load(ids: &[u8; 24], words: &[u64], status: Status) -> Record
-    requires { ⌜ length (now words) ≡ 24 ⌝ }
-    ensures { λ r. ⌜ r ≡ recordWith (now (ids .entry)) (now (words .entry)) status ⌝ }
+// A tick: a Heartbeat, if one is due, stands at the front of the buffer.
+#[no_mangle]
+pub extern "C" fn fixgw_tick(
+    ids: &[u8; 24],
+    words: &mut [u64],
+    time: u64,
+    buf: &mut [u8],
+    out: &mut [u64; 1],
+) -> u32
+    ensures { λ r. ⌜ TickOut (now (ids .entry)) (now (words .entry)) time (now (buf .entry)) r (now (words .exit)) (now (out .exit)) (now (buf .exit)) ⌝ }
 {
-    let o = length_of(ids[0]);
-    let p = length_of(ids[12]);
-    Record {
-        ours: [
-            ids[1],
-            ids[2],
-            ids[3],
-            ids[4],
-            ids[5],
-            ids[6],
-            ids[7],
-            ids[8],
-            ids[9],
-            ids[10],
-            ids[11],
-        ],
-        oursLen: o,
-        peer: [
-            ids[13],
-            ids[14],
-            ids[15],
-            ids[16],
-            ids[17],
-            ids[18],
-            ids[19],
-            ids[20],
-            ids[21],
-            ids[22],
-            ids[23],
-        ],
-        peerLen: p,
-        status,
-        expected: words[2],
-        next: words[3],
-        heartbeat: words[4],
-        sent: words[5],
-    }
+    let named = status_in(words);
+    let StatusWord::Is(status) = named else {
+        *out = [0];
+        return 11;
+    };
+    let r = load(ids, words, status);
+    let left = session::tick(r, time, buf);
+    let answer = left.answer;
+    save(words, left.after);
+    *out = [left.len as u64];
+    number_of(answer)
 }
 
-// The state of a record into its words; the others stay.
-pub fn save(words: &mut [u64], r: Record)
-    requires { ⌜ length (now words) ≡ 24 ⌝ }
-    ensures { λ _. ⌜ now (words .exit) ≡ saved (now (words .entry)) r ⌝ }
+// The venue's own Logout stands at the front of the buffer, and the record is Closed.
+#[no_mangle]
+pub extern "C" fn fixgw_logout(
+    ids: &[u8; 24],
+    words: &mut [u64],
+    time: u64,
+    buf: &mut [u8],
+    out: &mut [u64; 1],
+) -> u32
+    ensures { λ r. ⌜ LogoutOut (now (ids .entry)) (now (words .entry)) time (now (buf .entry)) r (now (words .exit)) (now (out .exit)) (now (buf .exit)) ⌝ }
 {
-    let st = r.status;
-    words[1] = status_number(st);
-    words[2] = r.expected;
-    words[3] = r.next;
-    words[4] = r.heartbeat;
-    words[5] = r.sent;
+    let named = status_in(words);
+    let StatusWord::Is(status) = named else {
+        *out = [0];
+        return 11;
+    };
+    let r = load(ids, words, status);
+    let left = session::logout(r, time, buf);
+    let answer = left.answer;
+    save(words, left.after);
+    *out = [left.len as u64];
+    number_of(answer)
 }
 
-fn zero(words: &mut [u64])
-    ensures { λ _. ⌜ now (words .exit) ≡ replicate (length (now (words .entry))) 0 ⌝ }
+// The venue's own Test Request with this 112 stands at the front of the buffer.
+#[no_mangle]
+pub extern "C" fn fixgw_test_request(
+    ids: &[u8; 24],
+    words: &mut [u64],
+    id: &[u8],
+    time: u64,
+    buf: &mut [u8],
+    out: &mut [u64; 1],
+) -> u32
+    ensures { λ r. ⌜ TestRequestOut (now (ids .entry)) (now (words .entry)) (now (id .entry)) time (now (buf .entry)) r (now (words .exit)) (now (out .exit)) (now (buf .exit)) ⌝ }
 {
-    let mut i = 0;
-    while i < words.len() {
-        words[i] = 0;
-        i += 1;
-    }
-}
-
-// All words of a new record.
-pub fn save_new(words: &mut [u64], r: Record)
-    requires { ⌜ length (now words) ≡ 24 ⌝ }
-    ensures { λ _. ⌜ now (words .exit) ≡ wordsOf r ⌝ }
-{
-    zero(words);
-    words[0] = 1;
-    save(words, r);
-}
-
-// The number of an answer: the refusal, or 0.
-pub fn number_of(a: Answer) -> u32
-    ensures { λ r. ⌜ r ≡ refusalOf (numbers a) ⌝ }
-{
-    match a {
-        Answer::Done => 0,
-        Answer::Delivered => 0,
-        Answer::NothingDue => 0,
-        Answer::Refused(k) => refusal_number(k),
-    }
-}
-
-// Whether it delivers the frame, 1 or 0.
-pub fn delivered(a: Answer) -> u64
-    ensures { λ r. ⌜ r ≡ valueOf (numbers a) ⌝ }
-{
-    match a {
-        Answer::Done => 0,
-        Answer::Delivered => 1,
-        Answer::NothingDue => 0,
-        Answer::Refused(_) => 0,
-    }
+    let named = status_in(words);
+    let StatusWord::Is(status) = named else {
+        *out = [0];
+        return 11;
+    };
+    let r = load(ids, words, status);
+    let left = session::test_request(r, id, time, buf);
+    let answer = left.answer;
+    save(words, left.after);
+    *out = [left.len as u64];
+    number_of(answer)
 }

@@ -1,0 +1,4 @@
+pub mod Numbers
+pub mod Record
+pub mod Values
+pub mod code
