@@ -3,7 +3,7 @@
 use Prim.Native.Nat.{ℕ, zero, suc, _+_, _≤_, _<_}
 use mathlib.Core.Path.{_≡_, refl, sym, ap, _∙_, subst}
 use mathlib.Core.List.{List, [], _∷_, _++_}
-use mathlib.Core.Bool.{Bool, true, false, cond, _&&_}
+use mathlib.Core.Bool.{Bool, true, false, cond, _&&_, false≢true}
 use mathlib.Core.Option.{Option, none, some, Option·some-injective, Option·none-ne-some}
 use native.Mathlib.Omega.{arith}
 use borrow.Author.Tests.{eq-eqb, eqb-true}
@@ -17,11 +17,9 @@ use Rattle.moves.specs.Held.{held, sessionOf, with}
 use Rattle.moves.specs.declared.record.Record.{Record}
 use Rattle.moves.specs.declared.record.Status.{Status}
 use Rattle.moves.specs.declared.record.Status.the-variants.{Waiting, Active, Closed}
-use Rattle.border.proofs.Records.{status-is}
+use Rattle.border.proofs.Records.{status-read}
 use Rattle.border.specs.Record.{eleven, compIDsOf, state, wordsOf, saved, statusOf, spare, statusIf, statusIn, recordWith, recordIf, recordIn}
-use Rattle.border.specs.code.Held.{statusHeld}
-use Rattle.border.specs.declared.record.StatusWord.{StatusWord}
-use Rattle.border.specs.declared.record.StatusWord.the-variants.{Is, Other}
+use Rattle.border.specs.code.Held.{found, statusHeld}
 
 -- A LIST element by element
 front-of : (w : List ℕ) (j : ℕ) → j < length w → drop j w ≡ getD w j 0 ∷ drop (suc j) w
@@ -134,7 +132,7 @@ module _ (ids : Bytes) (words : List ℕ) where
       let v : getD (saved words z) 0 0 ≡ 1 = ap (λ (w : List ℕ). getD w 0 0) h ∙ K .versioned in
       let p : spare (saved words z) ≡ true = ap spare h ∙ K .spared in
       let n : statusOf (getD (saved words z) 1 0) ≡ some (s .status) = ap (λ (w : List ℕ). statusOf (getD w 1 0)) h ∙ its-status (s .status) in
-      ap (recordIf ids (saved words z)) (sym (status-is (saved words z) l v p) ∙ n)
+      ap (recordIf ids (saved words z)) (sym (status-read (saved words z) l v p) ∙ n)
       ∙ ap (λ (w : List ℕ). some (recordWith ids w (s .status))) h
       ∙ ap some (sym (ap (λ (x : Record). with x s) (L .1)))
 
@@ -151,29 +149,30 @@ module _ (ids : Bytes) (words : List ℕ) where
       let L = loaded-with r e .1 in
       (subst (λ (x : Record). Byted (held (x .oursLen) (x .ours))) (sym L) (bytes-held (getD ids 0 0) (eleven 1 ids) (bytes-eleven 1 ids B)), subst (λ (x : Record). Byted (held (x .peerLen) (x .peer))) (sym L) (bytes-held (getD ids 12 0) (eleven 13 ids) (bytes-eleven 13 ids B)))
 
--- WHAT WAS READ is what lies there
-abbrev its : StatusWord → Option Status
-its (Is st) = some st
-its Other = none
+-- WHAT THE CODE LOADS is what lies there
+module _ (words : List ℕ) where
+  its-found : found (statusIn words) ≡ true → statusIn words ≡ some (statusHeld (statusIn words))
+  its-found = go (statusIn words)
+    where
+      go : (o : Option Status) → found o ≡ true → o ≡ some (statusHeld o)
+      go none e = absurd (false≢true e)
+      go (some st) e = refl
 
-its-held : (o : Option Status) → its (statusHeld o) ≡ o
-its-held none = refl
-its-held (some st) = refl
+  pub record-length : found (statusIn words) ≡ true → length words ≡ 24
+  record-length e = kept-is words (statusHeld (statusIn words)) (its-found e) .long
 
-module _ (words : List ℕ) {x y : StatusWord} (read : x ≡ statusHeld (statusIn words)) (is : x ≡ y) where
-  found : its y ≡ statusIn words
-  found = ap its (sym is ∙ read) ∙ its-held (statusIn words)
+  pub no-record : (ids : Bytes) → found (statusIn words) ≡ false → none ≡ recordIn ids words
+  no-record ids = go (statusIn words)
+    where
+      go : (o : Option Status) → found o ≡ false → none ≡ recordIf ids words o
+      go none e = refl
+      go (some st) e = absurd (false≢true (sym e))
 
--- no record
-pub no-record : (ids : Bytes) (words : List ℕ) {x : StatusWord} → x ≡ statusHeld (statusIn words) → x ≡ Other → none ≡ recordIn ids words
-no-record ids words read is = ap (recordIf ids words) (found words read is)
-
--- one, and its words are 24
-pub held-length : (words : List ℕ) {x : StatusWord} {st : Status} → x ≡ statusHeld (statusIn words) → x ≡ Is st → length words ≡ 24
-held-length words {st = st} read is = kept-is words st (sym (found words read is)) .long
-
-pub a-record : (ids : Bytes) (words : List ℕ) {x : StatusWord} {st : Status} {r : Record} → x ≡ statusHeld (statusIn words) → x ≡ Is st → r ≡ recordWith ids words st → some r ≡ recordIn ids words
-a-record ids words read is e = ap some e ∙ ap (recordIf ids words) (found words read is)
+  pub a-record : (ids : Bytes) {ours peer : Bytes} {o p : ℕ} {st : Status} → found (statusIn words) ≡ true → ours ≡ eleven 1 ids → o ≡ getD ids 0 0 → peer ≡ eleven 13 ids → p ≡ getD ids 12 0 → st ≡ statusHeld (statusOf (getD words 1 0)) → some (record { ours = ours; oursLen = o; peer = peer; peerLen = p; status = st; expected = getD words 2 0; next = getD words 3 0; heartbeat = getD words 4 0; sent = getD words 5 0 }) ≡ recordIn ids words
+  a-record ids h a b c d e =
+      let f = its-found h in
+      let s = ap statusHeld (kept-is words (statusHeld (statusIn words)) f .numbered) in
+      rw (a, b, c, d, e) (ap (λ (z : Status). some (recordWith ids words z)) s ∙ ap (recordIf ids words) (sym f))
 
 -- a new session's record is loaded again
 pub new-loads : (r : Record) → length (r .ours) ≡ 11 → length (r .peer) ≡ 11 → recordIn (compIDsOf r) (wordsOf r) ≡ some r

@@ -1,8 +1,8 @@
--- The record as bytes and words, for the code that loads and saves it: the status that the words hold, the loops over them, a new record's words.
+-- The record as bytes and words, for the code that loads and saves it: whether the words are a record's, the loops over them, a new record's words.
 -- Assumes nothing.
 use Prim.Native.Nat.{ℕ, zero, suc, _+_, _≤_, _<_}
 use mathlib.Core.Path.{_≡_, refl, sym, ap, _∙_}
-use mathlib.Core.List.{List, [], _∷_, _++_, append-nil}
+use mathlib.Core.List.{List, [], _∷_, _++_, map, append-nil}
 use mathlib.Core.Bool.{Bool, true, false, _&&_}
 use native.Mathlib.Numerals.{add-one}
 use native.Mathlib.Omega.{arith}
@@ -12,39 +12,65 @@ use lib.ListN.{length, getD, set, drop, replicate, length-replicate, drop-of-len
 use lib.Seq.{drop-cons, set-at}
 use Rattle.bytes.specs.Bytes.{Bytes, all}
 use Rattle.moves.specs.declared.record.Record.{Record}
-use Rattle.moves.specs.declared.record.Status.{Status}
-use Rattle.border.specs.Record.{eleven, wordsOf, saved, spare, statusOf, statusIn, recordWith}
-use Rattle.border.specs.code.Held.{statusHeld}
-use Rattle.border.specs.declared.record.StatusWord.the-variants.{Other}
+use Rattle.moves.specs.declared.record.Status.the-variants.{Closed}
+use Rattle.border.specs.Record.{eleven, wordsOf, saved, spare, statusOf, statusIf, statusIn}
+use Rattle.border.specs.code.Held.{found, statusHeld}
 
--- no status has a number but 0, 1 and 2
-pub no-status : (n : ℕ) → (n ≡ 0 → ⊥) → (n ≡ 1 → ⊥) → (n ≡ 2 → ⊥) → Other ≡ statusHeld (statusOf n)
-no-status zero a b c = absurd (a refl)
-no-status (suc zero) a b c = absurd (b refl)
-no-status (suc (suc zero)) a b c = absurd (c refl)
-no-status (suc (suc (suc n))) a b c = refl
+-- A STATUS has a number up to 2
+pub third-status : (n : ℕ) → (n ≡ 0 → ⊥) → (n ≡ 1 → ⊥) → Closed ≡ statusHeld (statusOf n)
+third-status zero a b = absurd (a refl)
+third-status (suc zero) a b = absurd (b refl)
+third-status (suc (suc zero)) a b = refl
+third-status (suc (suc (suc n))) a b = refl
 
--- THE STATUS that the words hold, test by test
+known : (n : ℕ) → n ≤ 2 → found (statusOf n) ≡ true
+known zero h = refl
+known (suc zero) h = refl
+known (suc (suc zero)) h = refl
+known (suc (suc (suc n))) h = absurd (omega (arith, h))
+
+strange : (n : ℕ) → 2 < n → found (statusOf n) ≡ false
+strange zero h = absurd (omega (arith, h))
+strange (suc zero) h = absurd (omega (arith, h))
+strange (suc (suc zero)) h = absurd (omega (arith, h))
+strange (suc (suc (suc n))) h = refl
+
+-- WHETHER THE WORDS ARE A RECORD'S, test by test
 module _ (words : List ℕ) where
-  pub other-length : (length words ≡ 24 → ⊥) → Other ≡ statusHeld (statusIn words)
+  pub other-length : (length words ≡ 24 → ⊥) → false ≡ found (statusIn words)
   unfolding statusIn
   other-length h = rw (ne-eqb (length words) 24 h)
 
-  pub other-version : length words ≡ 24 → (getD words 0 0 ≡ 1 → ⊥) → Other ≡ statusHeld (statusIn words)
+  pub other-version : length words ≡ 24 → (getD words 0 0 ≡ 1 → ⊥) → false ≡ found (statusIn words)
   unfolding statusIn
   other-version e h = rw (e, ne-eqb (getD words 0 0) 1 h)
 
-  pub not-spare : length words ≡ 24 → getD words 0 0 ≡ 1 → spare words ≡ false → Other ≡ statusHeld (statusIn words)
+  status-is : length words ≡ 24 → getD words 0 0 ≡ 1 → statusIf words (spare words) ≡ statusIn words
   unfolding statusIn
-  not-spare e f h = rw (e, f, h)
+  status-is e f = rw (e, f)
 
-  pub status-is : length words ≡ 24 → getD words 0 0 ≡ 1 → spare words ≡ true → statusOf (getD words 1 0) ≡ statusIn words
-  unfolding statusIn
-  status-is e f h = rw (e, f, h)
+  pub other-status : length words ≡ 24 → getD words 0 0 ≡ 1 → 2 < getD words 1 0 → false ≡ found (statusIn words)
+  other-status e f h = go (spare words) ∙ ap found (status-is e f)
+    where
+      go : (b : Bool) → false ≡ found (statusIf words b)
+      go true = sym (strange (getD words 1 0) h)
+      go false = refl
 
--- what is loaded, with the lengths that were read
-pub loaded-is : (ids : Bytes) (words : List ℕ) (st : Status) {o p : ℕ} → o ≡ getD ids 0 0 → p ≡ getD ids 12 0 → record { ours = eleven 1 ids; oursLen = o; peer = eleven 13 ids; peerLen = p; status = st; expected = getD words 2 0; next = getD words 3 0; heartbeat = getD words 4 0; sent = getD words 5 0 } ≡ recordWith ids words st
-loaded-is ids words st e f = rw (e, f)
+  pub by-spare : length words ≡ 24 → getD words 0 0 ≡ 1 → getD words 1 0 ≤ 2 → spare words ≡ found (statusIn words)
+  by-spare e f h = go (spare words) ∙ ap found (status-is e f)
+    where
+      go : (b : Bool) → b ≡ found (statusIf words b)
+      go true = sym (known (getD words 1 0) h)
+      go false = refl
+
+  pub status-read : length words ≡ 24 → getD words 0 0 ≡ 1 → spare words ≡ true → statusOf (getD words 1 0) ≡ statusIn words
+  status-read e f h = sym (ap (statusIf words) h) ∙ status-is e f
+
+-- eleven bytes as the code reads them
+pub eleven-is : (l : Bytes) (k : ℕ) → getD l k 0 ∷ getD l (k + 1) 0 ∷ getD l (k + 2) 0 ∷ getD l (k + 3) 0 ∷ getD l (k + 4) 0 ∷ getD l (k + 5) 0 ∷ getD l (k + 6) 0 ∷ getD l (k + 7) 0 ∷ getD l (k + 8) 0 ∷ getD l (k + 9) 0 ∷ getD l (k + 10) 0 ∷ [] ≡ eleven k l
+eleven-is l k =
+    let e : k ≡ k + 0 = omega arith in
+    ap (λ (j : ℕ). getD l j 0 ∷ map (λ i. getD l (k + i) 0) (1 ∷ 2 ∷ 3 ∷ 4 ∷ 5 ∷ 6 ∷ 7 ∷ 8 ∷ 9 ∷ 10 ∷ [])) e
 
 -- THE CODE'S LOOPS over the words: those kept for later are zero, and a new record's are made so
 abbrev pub zeroWord : ℕ → Bool

@@ -5,9 +5,8 @@ mod values;
 
 pub use answer::delivered;
 pub use answer::number_of;
-pub use record::StatusWord;
+pub use record::is_record;
 pub use record::load;
 pub use record::save;
 pub use record::save_new;
-pub use record::status_in;
 pub use values::values_of;

@@ -3,27 +3,12 @@ use moves::Record;
 use moves::Status;
 ghost use Prim.Native.Nat.{_≤_};
 ghost use mathlib.Core.Path.{_≡_};
+ghost use mathlib.Core.Bool.{true};
+ghost use mathlib.Core.Option.{some};
 ghost use lib.ListN.{length, replicate};
 ghost use Rattle.moves.specs.Session.{code};
-ghost use Rattle.border.specs.Record.{compIDsOf, wordsOf, saved, spare, statusOf, statusIn, recordWith};
-ghost use Rattle.border.specs.code.Held.{statusHeld};
-
-// A status, if the words are a record's.
-pub enum StatusWord {
-    Is(Status),
-    Other,
-}
-
-fn status_of(n: u64) -> StatusWord
-    ensures { λ r. ⌜ r ≡ statusHeld (statusOf n) ⌝ }
-{
-    match n {
-        0 => StatusWord::Is(Status::Waiting),
-        1 => StatusWord::Is(Status::Active),
-        2 => StatusWord::Is(Status::Closed),
-        _ => StatusWord::Other,
-    }
-}
+ghost use Rattle.border.specs.Record.{eleven, compIDsOf, wordsOf, saved, spare, statusOf, statusIn, recordIn};
+ghost use Rattle.border.specs.code.Held.{found, statusHeld};
 
 // Whether the words that are kept for later are zero.
 fn is_spare(words: &[u64]) -> bool
@@ -39,20 +24,31 @@ fn is_spare(words: &[u64]) -> bool
     true
 }
 
-// The status of a record; none where the words are not 24, of this version, with zeros behind the six that are used.
-pub fn status_in(words: &[u64]) -> StatusWord
-    ensures { λ r. ⌜ r ≡ statusHeld (statusIn (now (words .entry))) ⌝ }
+// Whether the words are a record's: 24, of this version, with a status, and zeros behind the six that are used.
+pub fn is_record(words: &[u64]) -> bool
+    ensures { λ r. ⌜ r ≡ found (statusIn (now (words .entry))) ⌝ }
 {
     if words.len() != 24 {
-        return StatusWord::Other;
+        return false;
     }
     if words[0] != 1 {
-        return StatusWord::Other;
+        return false;
     }
-    if !is_spare(words) {
-        return StatusWord::Other;
+    if words[1] > 2 {
+        return false;
     }
-    status_of(words[1])
+    is_spare(words)
+}
+
+// The status by its number, which is at most 2.
+fn status_of(n: u64) -> Status
+    ensures { λ r. ⌜ r ≡ statusHeld (statusOf n) ⌝ }
+{
+    match n {
+        0 => Status::Waiting,
+        1 => Status::Active,
+        _ => Status::Closed,
+    }
 }
 
 fn status_number(st: Status) -> u64
@@ -72,43 +68,36 @@ fn length_of(b: u8) -> usize
     b as usize
 }
 
-// The record that lies in the bytes and words, with the status that was found there.
-pub fn load(ids: &[u8; 24], words: &[u64], status: Status) -> Record
-    requires { ⌜ length (now words) ≡ 24 ⌝ }
-    ensures { λ r. ⌜ r ≡ recordWith (now (ids .entry)) (now (words .entry)) status ⌝ }
+fn eleven_from(ids: &[u8; 24], at: usize) -> [u8; 11]
+    requires { ⌜ at ≤ 13 ⌝ }
+    ensures { λ r. ⌜ r ≡ eleven at (now (ids .entry)) ⌝ }
 {
-    let o = length_of(ids[0]);
-    let p = length_of(ids[12]);
+    [
+        ids[at],
+        ids[at + 1],
+        ids[at + 2],
+        ids[at + 3],
+        ids[at + 4],
+        ids[at + 5],
+        ids[at + 6],
+        ids[at + 7],
+        ids[at + 8],
+        ids[at + 9],
+        ids[at + 10],
+    ]
+}
+
+// The record that lies in the bytes and words.
+pub fn load(ids: &[u8; 24], words: &[u64]) -> Record
+    requires { ⌜ found (statusIn (now words)) ≡ true ⌝ }
+    ensures { λ r. ⌜ some r ≡ recordIn (now (ids .entry)) (now (words .entry)) ⌝ }
+{
     Record {
-        ours: [
-            ids[1],
-            ids[2],
-            ids[3],
-            ids[4],
-            ids[5],
-            ids[6],
-            ids[7],
-            ids[8],
-            ids[9],
-            ids[10],
-            ids[11],
-        ],
-        oursLen: o,
-        peer: [
-            ids[13],
-            ids[14],
-            ids[15],
-            ids[16],
-            ids[17],
-            ids[18],
-            ids[19],
-            ids[20],
-            ids[21],
-            ids[22],
-            ids[23],
-        ],
-        peerLen: p,
-        status,
+        ours: eleven_from(ids, 1),
+        oursLen: length_of(ids[0]),
+        peer: eleven_from(ids, 13),
+        peerLen: length_of(ids[12]),
+        status: status_of(words[1]),
         expected: words[2],
         next: words[3],
         heartbeat: words[4],

@@ -21,24 +21,16 @@ use Rattle.session.specs.Held.{answeredBy, Leaves, answeredNew}
 use Rattle.session.specs.Calls.{keeping, step, tick, logout, test-request, new, reconnect}
 use Rattle.moves.specs.declared.record.Record.{Record}
 use Rattle.session.specs.declared.Answered.{Answered}
-use Rattle.moves.specs.declared.record.Status.{Status}
 use Rattle.moves.specs.declared.record.Status.the-variants.{Closed}
 use Rattle.session.specs.declared.Refusal.the-variants.{BadRecord}
 use Rattle.session.specs.declared.Answer.the-variants.{Done, Refused}
 use Rattle.border.specs.Numbers.{refusalOf, valueOf}
-use Rattle.border.specs.Record.{compIDsOf, wordsOf, saved, statusIn, recordWith, recordIn}
+use Rattle.border.specs.Record.{compIDsOf, wordsOf, saved, recordIn}
 use Rattle.border.specs.Values.{valuesOf}
-use Rattle.border.specs.code.Held.{statusHeld}
-use Rattle.border.specs.declared.record.StatusWord.{StatusWord}
-use Rattle.border.specs.declared.record.StatusWord.the-variants.{Is, Other}
-use Rattle.border.proofs.Keeping.{no-record, a-record}
 use Rattle.gateway.specs.Calls.{unread, stepFrom, stepOut, replyFrom, tickOut, logoutOut, testRequestOut, reconnectFrom, reconnectOut, newIf, newOut, writeFrom, writeOut}
 
 -- NO RECORD lies in the bytes and words
-module _ (ids : Bytes) (words : List ℕ) {x : StatusWord} (read : x ≡ statusHeld (statusIn words)) (is : x ≡ Other) where
-  none-lies : none ≡ recordIn ids words
-  none-lies = no-record ids words read is
-
+module _ (ids : Bytes) (words : List ℕ) (none-lies : none ≡ recordIn ids words) where
   pub step-unread : (frame : Bytes) (time : ℕ) (buf : Bytes) → unread words (0 ∷ 0 ∷ []) buf ≡ stepOut ids words frame time buf
   unfolding stepOut
   step-unread frame time buf = ap (stepFrom words frame time buf) none-lies
@@ -60,10 +52,7 @@ module _ (ids : Bytes) (words : List ℕ) {x : StatusWord} (read : x ≡ statusH
   reconnect-unread = ap (reconnectFrom words) none-lies
 
 -- ONE LIES THERE, and what a call left of it is saved
-module _ (ids : Bytes) (words : List ℕ) {x : StatusWord} {st : Status} {r : Record} (read : x ≡ statusHeld (statusIn words)) (is : x ≡ Is st) (loaded : r ≡ recordWith ids words st) where
-  one-lies : some r ≡ recordIn ids words
-  one-lies = a-record ids words read is loaded
-
+module _ (ids : Bytes) (words : List ℕ) {r : Record} (one-lies : some r ≡ recordIn ids words) where
   module _ {a : Answered} {n : ℕ} {words′ : List ℕ} (numbered : n ≡ refusalOf (numbers (a .answer))) (saves : words′ ≡ saved words (a .after)) where
     pub step-left : (frame : Bytes) (time : ℕ) (buf : Bytes) {buf′ : Bytes} {d : ℕ} → d ≡ valueOf (numbers (a .answer)) → Leaves r (step (sessionOf r) frame time buf) a buf′ → record { number = n; words = words′; out = d ∷ a .len ∷ []; buffer = buf′ } ≡ stepOut ids words frame time buf
     unfolding stepOut

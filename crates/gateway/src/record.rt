@@ -1,11 +1,10 @@
 // The calls on a session's record, which lies in bytes and words of the host's.
-use border::StatusWord;
 use border::delivered;
+use border::is_record;
 use border::load;
 use border::number_of;
 use border::save;
 use border::save_new;
-use border::status_in;
 ghost use Rattle.gateway.specs.Calls.{NewOut, ReconnectOut, StepOut, TickOut, LogoutOut, TestRequestOut};
 
 // The record of a new session between two CompIDs; refusal 11 leaves one that is Closed and has none.
@@ -27,11 +26,10 @@ pub extern "C" fn fixgw_new(ids: &mut [u8; 24], words: &mut [u64], us: &[u8], th
 pub extern "C" fn fixgw_reconnect(ids: &[u8; 24], words: &mut [u64]) -> u32
     ensures { λ r. ⌜ ReconnectOut (now (ids .entry)) (now (words .entry)) r (now (words .exit)) ⌝ }
 {
-    let named = status_in(words);
-    let StatusWord::Is(status) = named else {
+    if !is_record(words) {
         return 11;
-    };
-    let r = load(ids, words, status);
+    }
+    let r = load(ids, words);
     let left = session::reconnect(r);
     let answer = left.answer;
     save(words, left.after);
@@ -50,12 +48,11 @@ pub extern "C" fn fixgw_step(
 ) -> u32
     ensures { λ r. ⌜ StepOut (now (ids .entry)) (now (words .entry)) (now (frame .entry)) time (now (buf .entry)) r (now (words .exit)) (now (out .exit)) (now (buf .exit)) ⌝ }
 {
-    let named = status_in(words);
-    let StatusWord::Is(status) = named else {
+    if !is_record(words) {
         *out = [0, 0];
         return 11;
-    };
-    let r = load(ids, words, status);
+    }
+    let r = load(ids, words);
     let left = session::step(r, frame, time, buf);
     let answer = left.answer;
     save(words, left.after);
@@ -74,12 +71,11 @@ pub extern "C" fn fixgw_tick(
 ) -> u32
     ensures { λ r. ⌜ TickOut (now (ids .entry)) (now (words .entry)) time (now (buf .entry)) r (now (words .exit)) (now (out .exit)) (now (buf .exit)) ⌝ }
 {
-    let named = status_in(words);
-    let StatusWord::Is(status) = named else {
+    if !is_record(words) {
         *out = [0];
         return 11;
-    };
-    let r = load(ids, words, status);
+    }
+    let r = load(ids, words);
     let left = session::tick(r, time, buf);
     let answer = left.answer;
     save(words, left.after);
@@ -98,12 +94,11 @@ pub extern "C" fn fixgw_logout(
 ) -> u32
     ensures { λ r. ⌜ LogoutOut (now (ids .entry)) (now (words .entry)) time (now (buf .entry)) r (now (words .exit)) (now (out .exit)) (now (buf .exit)) ⌝ }
 {
-    let named = status_in(words);
-    let StatusWord::Is(status) = named else {
+    if !is_record(words) {
         *out = [0];
         return 11;
-    };
-    let r = load(ids, words, status);
+    }
+    let r = load(ids, words);
     let left = session::logout(r, time, buf);
     let answer = left.answer;
     save(words, left.after);
@@ -123,12 +118,11 @@ pub extern "C" fn fixgw_test_request(
 ) -> u32
     ensures { λ r. ⌜ TestRequestOut (now (ids .entry)) (now (words .entry)) (now (id .entry)) time (now (buf .entry)) r (now (words .exit)) (now (out .exit)) (now (buf .exit)) ⌝ }
 {
-    let named = status_in(words);
-    let StatusWord::Is(status) = named else {
+    if !is_record(words) {
         *out = [0];
         return 11;
-    };
-    let r = load(ids, words, status);
+    }
+    let r = load(ids, words);
     let left = session::test_request(r, id, time, buf);
     let answer = left.answer;
     save(words, left.after);

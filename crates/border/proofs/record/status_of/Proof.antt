@@ -1,5 +1,5 @@
--- `status_of`: the three numbers, and no other.
-use Rattle.border.proofs.Records.{no-status}
+-- `status_of`: the first two numbers, and all others.
+use Rattle.border.proofs.Records.{third-status}
 use Rattle.border.proofs.record.status_of.Statement.{statement}
 use Rattle.border.proofs.record.status_of.Tie as tie
 
@@ -10,11 +10,7 @@ returns-2 : tie.Need-returns-2
 returns-2 c = rw (c .match .keys2)
 
 returns-3 : tie.Need-returns-3
-returns-3 c = rw (c .match .keys3)
-
-returns-4 : tie.Need-returns-4
-returns-4 c =
-    no-status _ (c .match .rest .0 .0 .1) (c .match .rest .0 .1) (c .match .rest .1)
+returns-3 c = third-status _ (c .match .rest .0 .1) (c .match .rest .1)
 
 pub status-of-spec : {M : Type 1} → statement M
-status-of-spec = tie.close (tie.spec returns returns-2 returns-3 returns-4)
+status-of-spec = tie.close (tie.spec returns returns-2 returns-3)

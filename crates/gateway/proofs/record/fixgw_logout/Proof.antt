@@ -1,39 +1,39 @@
 -- `fixgw_logout`: no record in the words, or the venue's own Logout.
 use borrow.Author.Needs.{needs}
+use borrow.Author.Tests.{not-true, not-false}
+use mathlib.Core.Path.{refl, sym, _∙_}
+use Rattle.border.proofs.Keeping.{no-record, record-length}
 use Rattle.gateway.proofs.record.fixgw_logout.Statement.{statement}
 use Rattle.gateway.proofs.record.fixgw_logout.Tie as tie
-use Rattle.border.proofs.Keeping.{held-length}
 use Rattle.gateway.proofs.Calls.{logout-unread, logout-left}
 
 returns : tie.Need-returns
 returns c =
-    let a = c .before .before .before .before .before .before .before .args in
-    logout-unread (a .ids .now) (a .words .now) (c .before .before .before .status-in .ensures) (c .before .enum-told .given .1) (a .time) (a .buf .now)
+    let a = c .before .before .before .before .before .before .args in
+    logout-unread (a .ids .now) (a .words .now) (no-record (a .words .now) (a .ids .now) (sym (c .before .before .is-record .ensures) ∙ not-true _ (c .before .if1 .taken))) (a .time) (a .buf .now)
 
 load-requires : tie.Need-load-requires
-load-requires c κs = held-length _ (c .before .before .before .before .status-in .ensures) (c .before .before .named .given .1)
+load-requires c κs = sym (c .before .before .is-record .ensures) ∙ not-false _ (c .before .if1 .left)
 
 save-requires : tie.Need-save-requires
-save-requires c κs = held-length _ (c .before .before .before .before .before .before .before .before .before .before .status-in .ensures) (c .before .before .before .before .before .before .before .before .named .given .1)
+save-requires c κs = record-length (c .before .before .before .before .before .before .before .before .before .before .before .before .args .words .now) (sym (c .before .before .before .before .before .before .before .before .is-record .ensures) ∙ not-false _ (c .before .before .before .before .before .before .before .if1 .left))
 
 returns-2 : tie.Need-returns-2
 returns-2 c =
-    let a = c .before .before .before .before .before .before .before .before .before .before .before .before .before .before .before .before .before .before .before .args in
-    logout-left (a .ids .now) (a .words .now) (c .before .before .before .before .before .before .before .before .before .before .before .before .before .before .before .status-in .ensures) (c .before .before .before .before .before .before .before .before .before .before .before .before .before .named .given .1) (c .before .before .before .before .before .before .before .before .before .before .load .ensures) (c .number-of .ensures) (c .before .before .before .before .save .ensures) (a .time) (a .buf .now) (c .before .before .before .before .before .before .before .before .logout .ensures)
+    let a = c .before .before .before .before .before .before .before .before .before .before .before .before .before .before .before .before .before .args in
+    logout-left (a .ids .now) (a .words .now) (c .before .before .before .before .before .before .before .before .before .before .load .ensures) (c .number-of .ensures) (c .before .before .before .before .save .ensures) (a .time) (a .buf .now) (c .before .before .before .before .before .before .before .before .logout .ensures)
 
 pub fixgw-logout-spec : {M : Type 1} → statement M
 fixgw-logout-spec =
     tie.close
     (tie.spec
-    (λ c κs. search needs)
-    (λ c. search needs)
-    (λ c. search needs)
-    (λ c. search needs)
+    (λ c κs. tt)
+    (λ c. refl)
     returns
     load-requires
-    (λ c κs. search needs)
+    (λ c κs. tt)
     save-requires
-    (λ c κs. search needs)
+    (λ c κs. tt)
     (λ c. search needs)
     (λ c. search needs)
     returns-2)
