@@ -20,12 +20,12 @@ pub fixgw-field-spec : {M : Type 1} → statement M
 fixgw-field-spec =
     tie.close
     (tie.spec
-    (λ c κs. search needs)
+    (λ c κs. tt)
+    (λ c. c .match .keys1)
     (λ c. search needs)
-    (λ c. search needs)
-    (λ c. search needs)
-    (λ c. search needs)
-    (λ c. search needs)
+    (λ c. c .match .keys2)
+    (λ c. c .match .keys3)
+    (λ c. c .match .keys4)
     returns
     returns-2
     returns-3

@@ -1,5 +1,4 @@
 -- `fixgw_first_field`: no body, or the case of the place, in words.
-use borrow.Author.Needs.{needs}
 use mathlib.Core.Path.{sym, _∙_}
 use Rattle.gateway.proofs.body.fixgw_first_field.Statement.{statement}
 use Rattle.gateway.proofs.body.fixgw_first_field.Tie as tie
@@ -19,10 +18,10 @@ pub fixgw-first-field-spec : {M : Type 1} → statement M
 fixgw-first-field-spec =
     tie.close
     (tie.spec
-    (λ c κs. search needs)
+    (λ c κs. tt)
     returns
-    (λ c κs. search needs)
-    (λ c. search needs)
-    (λ c. search needs)
+    (λ c κs. tt)
+    (λ c. c .match .keys1)
+    (λ c. c .match .keys2)
     returns-2
     returns-3)

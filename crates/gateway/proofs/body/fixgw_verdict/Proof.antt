@@ -21,12 +21,12 @@ pub fixgw-verdict-spec : {M : Type 1} → statement M
 fixgw-verdict-spec =
     tie.close
     (tie.spec
-    (λ c κs. search needs)
+    (λ c κs. tt)
+    (λ c. c .match .keys1)
+    (λ c. c .match .keys2)
     (λ c. search needs)
     (λ c. search needs)
-    (λ c. search needs)
-    (λ c. search needs)
-    (λ c. search needs)
+    (λ c. c .match .keys3)
     returns
     returns-2
     returns-3)

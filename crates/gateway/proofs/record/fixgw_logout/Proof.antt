@@ -1,5 +1,4 @@
 -- `fixgw_logout`: no record in the words, or the venue's own Logout.
-use borrow.Author.Needs.{needs}
 use borrow.Author.Tests.{not-true, not-false}
 use mathlib.Core.Path.{refl, sym, _∙_}
 use Rattle.border.proofs.Keeping.{no-record, record-length}
@@ -34,6 +33,6 @@ fixgw-logout-spec =
     (λ c κs. tt)
     save-requires
     (λ c κs. tt)
-    (λ c. search needs)
-    (λ c. search needs)
+    (λ c. c .before .before .before .words .given)
+    (λ c. c .before .before .before .before .before .before .before .buf .given)
     returns-2)

@@ -1,5 +1,4 @@
 -- `fixgw_new`: nothing is written where the words are not 24; else the record of a new session.
-use borrow.Author.Needs.{needs}
 use Rattle.gateway.proofs.record.fixgw_new.Statement.{statement}
 use Rattle.gateway.proofs.record.fixgw_new.Tie as tie
 use Rattle.gateway.proofs.Calls.{new-unwritten, new-short, new-left}
@@ -18,4 +17,10 @@ returns-2 c =
 pub fixgw-new-spec : {M : Type 1} → statement M
 fixgw-new-spec =
     tie.close
-    (tie.spec returns (λ c κs. search needs) save-new-requires (λ c κs. search needs) (λ c. search needs) returns-2)
+    (tie.spec
+    returns
+    (λ c κs. tt)
+    save-new-requires
+    (λ c κs. tt)
+    (λ c. c .before .before .words .given)
+    returns-2)

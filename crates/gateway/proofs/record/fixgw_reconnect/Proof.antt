@@ -1,5 +1,4 @@
 -- `fixgw_reconnect`: no record in the words, or a reconnect of it.
-use borrow.Author.Needs.{needs}
 use borrow.Author.Tests.{not-true, not-false}
 use mathlib.Core.Path.{refl, sym, _∙_}
 use Rattle.border.proofs.Keeping.{no-record, record-length}
@@ -34,5 +33,5 @@ fixgw-reconnect-spec =
     (λ c κs. tt)
     save-requires
     (λ c κs. tt)
-    (λ c. search needs)
+    (λ c. c .before .before .words .given)
     returns-2)

@@ -1,5 +1,4 @@
 -- `fixgw_step`: no record in the words, or a step on it.
-use borrow.Author.Needs.{needs}
 use borrow.Author.Tests.{not-true, not-false}
 use mathlib.Core.Path.{refl, sym, _∙_}
 use Rattle.border.proofs.Keeping.{no-record, record-length}
@@ -35,6 +34,6 @@ fixgw-step-spec =
     save-requires
     (λ c κs. tt)
     (λ c κs. tt)
-    (λ c. search needs)
-    (λ c. search needs)
+    (λ c. c .before .before .before .before .words .given)
+    (λ c. c .before .before .before .before .before .before .before .before .buf .given)
     returns-2)

@@ -14,4 +14,11 @@ returns-2 : tie.Need-returns-2
 returns-2 c = body-found (c .before .before .body-of .ensures) (c .before .if1 .left)
 
 pub fixgw-body-spec : {M : Type 1} → statement M
-fixgw-body-spec = tie.close (tie.spec (λ c κs. search needs) returns (λ c. search needs) sub-start returns-2)
+fixgw-body-spec =
+    tie.close
+    (tie.spec
+    (λ c κs. tt)
+    returns
+    (λ c. search needs)
+    sub-start
+    returns-2)

@@ -1,5 +1,4 @@
 -- `fixgw_read`: the case of the reading, in words.
-use borrow.Author.Needs.{needs}
 use Rattle.gateway.proofs.Readings.{read-frame, read-none}
 use Rattle.gateway.proofs.stream.fixgw_read.Statement.{statement}
 use Rattle.gateway.proofs.stream.fixgw_read.Tie as tie
@@ -12,4 +11,10 @@ returns-2 c = read-none (c .before .before .drop .given .1) (c .before .before .
 
 pub fixgw-read-spec : {M : Type 1} → statement M
 fixgw-read-spec =
-    tie.close (tie.spec (λ c κs. search needs) (λ c. search needs) (λ c. search needs) returns returns-2)
+    tie.close
+    (tie.spec
+    (λ c κs. tt)
+    (λ c. c .match .keys1)
+    (λ c. c .match .keys2)
+    returns
+    returns-2)

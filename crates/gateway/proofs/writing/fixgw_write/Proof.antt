@@ -1,5 +1,4 @@
 -- `fixgw_write`: the case of the writer's answer, in words.
-use borrow.Author.Needs.{needs}
 use Rattle.gateway.proofs.Calls.{write-left}
 use Rattle.gateway.proofs.writing.fixgw_write.Statement.{statement}
 use Rattle.gateway.proofs.writing.fixgw_write.Tie as tie
@@ -23,14 +22,14 @@ pub fixgw-write-spec : {M : Type 1} → statement M
 fixgw-write-spec =
     tie.close
     (tie.spec
-    (λ c κs. search needs)
-    (λ c κs. search needs)
-    (λ c. search needs)
-    (λ c. search needs)
-    (λ c. search needs)
-    (λ c. search needs)
+    (λ c κs. tt)
+    (λ c κs. tt)
+    (λ c. c .match .keys1)
+    (λ c. c .match .keys2)
+    (λ c. c .match .keys3)
+    (λ c. c .before .before .before .before .before .buf .given)
     returns
-    (λ c. search needs)
+    (λ c. c .before .before .before .before .buf .given)
     returns-2
-    (λ c. search needs)
+    (λ c. c .before .before .before .before .buf .given)
     returns-3)
