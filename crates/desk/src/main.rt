@@ -1,5 +1,5 @@
 // The desk: worked cases from its input, one a line, each written back with what the library says of it.
-// `verdict BODY` asks for the verdict on a body, `read BYTES` for one reading; the lines of a played session are those of crates/replay.
+// `verdict BODY` asks for the verdict on a body, `read BYTES` for one reading; the lines of a played session are those of crates/rehearsal.
 // `|` is the byte 1; a line that begins with # is a heading.
 use dictionary::Verdict;
 use frame::Reading;
@@ -82,11 +82,11 @@ fn answer(r: Record, line: &[u8]) -> Record {
         return r;
     }
     io::write_all(1, b"\n");
-    replay::play(r, line)
+    rehearsal::play(r, line)
 }
 
 fn answer_all(s: &[u8]) {
-    let mut r = replay::nobody();
+    let mut r = rehearsal::nobody();
     let mut at = 0;
     while at < s.len() {
         let end = find(s, at, b'\n');

@@ -13,11 +13,11 @@ use Rattle.frame.specs.Stream.{joined}
 use Rattle.fields.specs.Field.{firstField}
 use Rattle.table.specs.Dictionary.{code35, fields}
 use Rattle.calendar.specs.Time.{utc}
-use Rattle.writer.specs.Message.{Value, absent, bytes, own, order, written}
-use Rattle.writer.specs.Reply as Reply
-use Rattle.writer.specs.Wrote.{Wrote}
-use Rattle.writer.proofs.Writes.{chain, nothing}
-use Rattle.writer.specs.Replied.{sendable, nineDigits, echoable, Replied}
+use Rattle.message.specs.Message.{Value, absent, bytes, own, order, written}
+use Rattle.replies.specs.Reply as Reply
+use Rattle.message.specs.Wrote.{Wrote}
+use Rattle.message.proofs.Writes.{chain, nothing}
+use Rattle.replies.specs.Replied.{sendable, nineDigits, echoable, Replied}
 use borrow.Author.Tests.{le-leb}
 use Rattle.moves.specs.Session.{fresh}
 use Rattle.moves.specs.Seen.{repeated}

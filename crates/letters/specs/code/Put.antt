@@ -8,8 +8,8 @@ use Rattle.fields.specs.Field.{firstField}
 use Rattle.fields.specs.declared.Place.{Place}
 use Rattle.fields.specs.declared.Place.the-variants.{At, Absent}
 use Rattle.dictionary.specs.Verdict.{msgType}
-use Rattle.writer.specs.Message.{Value, absent, bytes}
-use Rattle.writer.specs.Reply as Reply
+use Rattle.message.specs.Message.{Value, absent, bytes}
+use Rattle.replies.specs.Reply as Reply
 use Rattle.moves.specs.Words.{_otherwise_}
 use Rattle.moves.specs.Seen.{repeated, numberIn, codeOf}
 use Rattle.moves.specs.Moves.{Letter, letter}

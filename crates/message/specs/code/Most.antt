@@ -3,7 +3,8 @@ use Prim.Native.Nat.{ℕ, max}
 use mathlib.Core.List.{List, [], _∷_}
 use lib.ListN.{length}
 use Rattle.bytes.specs.Bytes.{Bytes}
-use Rattle.kinds.specs.Kind.{Kind, text, number_to_, Y/N, time, day, among, shapes}
+use Rattle.dates.specs.Date.{shapes}
+use Rattle.kinds.specs.Kind.{Kind, text, number_to_, Y/N, time, day, among}
 
 abbrev pub longest : List Bytes → ℕ
 longest [] = 0
