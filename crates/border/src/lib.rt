@@ -6,7 +6,7 @@ mod values;
 pub use answer::delivered;
 pub use answer::number_of;
 pub use record::is_record;
+pub use record::leave;
 pub use record::load;
-pub use record::save;
 pub use record::save_new;
 pub use values::values_of;

@@ -1,12 +1,16 @@
 // The session's record as the C side keeps it: 24 bytes for the CompIDs with their lengths, and 24 words.
+use crate::answer::number_of;
 use moves::Record;
 use moves::Status;
+use session::Answered;
 ghost use Prim.Native.Nat.{_≤_};
 ghost use mathlib.Core.Path.{_≡_};
 ghost use mathlib.Core.Bool.{true};
 ghost use mathlib.Core.Option.{some};
 ghost use lib.ListN.{length, replicate};
 ghost use Rattle.moves.specs.Session.{code};
+ghost use Rattle.session.specs.Refusals.{numbers};
+ghost use Rattle.border.specs.Numbers.{refusalOf};
 ghost use Rattle.border.specs.Record.{eleven, compIDsOf, wordsOf, saved, spare, statusOf, statusIn, recordIn};
 ghost use Rattle.border.specs.code.Held.{found, statusHeld};
 
@@ -106,7 +110,7 @@ pub fn load(ids: &[u8; 24], words: &[u64]) -> Record
 }
 
 // The state of a record into its words; the others stay.
-pub fn save(words: &mut [u64], r: Record)
+fn save(words: &mut [u64], r: Record)
     requires { ⌜ length (now words) ≡ 24 ⌝ }
     ensures { λ _. ⌜ now (words .exit) ≡ saved (now (words .entry)) r ⌝ }
 {
@@ -116,6 +120,16 @@ pub fn save(words: &mut [u64], r: Record)
     words[3] = r.next;
     words[4] = r.heartbeat;
     words[5] = r.sent;
+}
+
+// What a call on a record leaves: the state into the words, and its number.
+pub fn leave(words: &mut [u64], left: Answered) -> u32
+    requires { ⌜ length (now words) ≡ 24 ⌝ }
+    ensures { λ r. ⌜ (r ≡ refusalOf (numbers (left .answer))) × (now (words .exit) ≡ saved (now (words .entry)) (left .after)) ⌝ }
+{
+    let answer = left.answer;
+    save(words, left.after);
+    number_of(answer)
 }
 
 fn zero(words: &mut [u64])

@@ -1,9 +1,9 @@
 // The calls on a session's record, which lies in bytes and words of the host's.
 use border::delivered;
 use border::is_record;
+use border::leave;
 use border::load;
 use border::number_of;
-use border::save;
 use border::save_new;
 ghost use Rattle.gateway.specs.Calls.{NewOut, ReconnectOut, StepOut, TickOut, LogoutOut, TestRequestOut};
 
@@ -29,11 +29,7 @@ pub extern "C" fn fixgw_reconnect(ids: &[u8; 24], words: &mut [u64]) -> u32
     if !is_record(words) {
         return 11;
     }
-    let r = load(ids, words);
-    let left = session::reconnect(r);
-    let answer = left.answer;
-    save(words, left.after);
-    number_of(answer)
+    leave(words, session::reconnect(load(ids, words)))
 }
 
 // A step: one frame moves the record on, and the reply stands at the front of the buffer.
@@ -52,12 +48,10 @@ pub extern "C" fn fixgw_step(
         *out = [0, 0];
         return 11;
     }
-    let r = load(ids, words);
-    let left = session::step(r, frame, time, buf);
+    let left = session::step(load(ids, words), frame, time, buf);
     let answer = left.answer;
-    save(words, left.after);
     *out = [delivered(answer), left.len as u64];
-    number_of(answer)
+    leave(words, left)
 }
 
 // A tick: a Heartbeat, if one is due, stands at the front of the buffer.
@@ -75,12 +69,9 @@ pub extern "C" fn fixgw_tick(
         *out = [0];
         return 11;
     }
-    let r = load(ids, words);
-    let left = session::tick(r, time, buf);
-    let answer = left.answer;
-    save(words, left.after);
+    let left = session::tick(load(ids, words), time, buf);
     *out = [left.len as u64];
-    number_of(answer)
+    leave(words, left)
 }
 
 // The venue's own Logout stands at the front of the buffer, and the record is Closed.
@@ -98,12 +89,9 @@ pub extern "C" fn fixgw_logout(
         *out = [0];
         return 11;
     }
-    let r = load(ids, words);
-    let left = session::logout(r, time, buf);
-    let answer = left.answer;
-    save(words, left.after);
+    let left = session::logout(load(ids, words), time, buf);
     *out = [left.len as u64];
-    number_of(answer)
+    leave(words, left)
 }
 
 // The venue's own Test Request with this 112 stands at the front of the buffer.
@@ -122,10 +110,7 @@ pub extern "C" fn fixgw_test_request(
         *out = [0];
         return 11;
     }
-    let r = load(ids, words);
-    let left = session::test_request(r, id, time, buf);
-    let answer = left.answer;
-    save(words, left.after);
+    let left = session::test_request(load(ids, words), id, time, buf);
     *out = [left.len as u64];
-    number_of(answer)
+    leave(words, left)
 }

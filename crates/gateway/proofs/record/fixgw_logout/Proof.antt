@@ -14,13 +14,14 @@ returns c =
 load-requires : tie.Need-load-requires
 load-requires c κs = sym (c .before .before .is-record .ensures) ∙ not-false _ (c .before .if1 .left)
 
-save-requires : tie.Need-save-requires
-save-requires c κs = record-length (c .before .before .before .before .before .before .before .before .before .before .before .before .args .words .now) (sym (c .before .before .before .before .before .before .before .before .is-record .ensures) ∙ not-false _ (c .before .before .before .before .before .before .before .if1 .left))
+leave-requires : tie.Need-leave-requires
+leave-requires c κs = record-length (c .before .before .before .before .before .before .before .before .before .before .before .before .before .args .words .now) (sym (c .before .before .before .before .before .before .before .before .before .is-record .ensures) ∙ not-false _ (c .before .before .before .before .before .before .before .before .if1 .left))
 
 returns-2 : tie.Need-returns-2
 returns-2 c =
-    let a = c .before .before .before .before .before .before .before .before .before .before .before .before .before .before .before .before .before .args in
-    logout-left (a .ids .now) (a .words .now) (c .before .before .before .before .before .before .before .before .before .before .load .ensures) (c .number-of .ensures) (c .before .before .before .before .save .ensures) (a .time) (a .buf .now) (c .before .before .before .before .before .before .before .before .logout .ensures)
+    let a = c .before .before .before .before .before .before .before .before .before .before .before .before .before .before .before .before .args in
+    let left = c .before .before .leave .ensures in
+    logout-left (a .ids .now) (a .words .now) (c .before .before .before .before .before .before .before .before .before .load .ensures) (left .0) (left .1) (a .time) (a .buf .now) (c .before .before .before .before .before .before .before .logout .ensures)
 
 pub fixgw-logout-spec : {M : Type 1} → statement M
 fixgw-logout-spec =
@@ -31,8 +32,7 @@ fixgw-logout-spec =
     returns
     load-requires
     (λ c κs. tt)
-    save-requires
-    (λ c κs. tt)
-    (λ c. c .before .before .before .words .given)
-    (λ c. c .before .before .before .before .before .before .before .buf .given)
+    leave-requires
+    (λ c. c .before .words .given)
+    (λ c. c .before .before .before .before .before .before .buf .given)
     returns-2)

@@ -12,15 +12,16 @@ returns c =
     reconnect-unread (a .ids .now) (a .words .now) (no-record (a .words .now) (a .ids .now) (sym (c .before .is-record .ensures) ∙ not-true _ (c .if1 .taken)))
 
 load-requires : tie.Need-load-requires
-load-requires c κs = sym (c .before .before .is-record .ensures) ∙ not-false _ (c .before .if1 .left)
+load-requires c κs = sym (c .before .before .before .is-record .ensures) ∙ not-false _ (c .before .before .if1 .left)
 
-save-requires : tie.Need-save-requires
-save-requires c κs = record-length (c .before .before .before .before .before .before .before .before .args .words .now) (sym (c .before .before .before .before .before .is-record .ensures) ∙ not-false _ (c .before .before .before .before .if1 .left))
+leave-requires : tie.Need-leave-requires
+leave-requires c κs = record-length (c .before .before .before .before .before .before .before .before .args .words .now) (sym (c .before .before .before .before .before .is-record .ensures) ∙ not-false _ (c .before .before .before .before .if1 .left))
 
 returns-2 : tie.Need-returns-2
 returns-2 c =
-    let a = c .before .before .before .before .before .before .before .before .before .before .before .before .args in
-    reconnect-left (a .ids .now) (a .words .now) (c .before .before .before .before .before .before .load .ensures) (c .number-of .ensures) (c .before .before .before .save .ensures) (c .before .before .before .before .before .reconnect .ensures)
+    let a = c .before .before .before .before .before .before .before .before .before .before .before .args in
+    let left = c .before .before .leave .ensures in
+    reconnect-left (a .ids .now) (a .words .now) (c .before .before .before .before .load .ensures) (left .0) (left .1) (c .before .before .before .reconnect .ensures)
 
 pub fixgw-reconnect-spec : {M : Type 1} → statement M
 fixgw-reconnect-spec =
@@ -31,7 +32,6 @@ fixgw-reconnect-spec =
     returns
     load-requires
     (λ c κs. tt)
-    save-requires
-    (λ c κs. tt)
-    (λ c. c .before .before .words .given)
+    leave-requires
+    (λ c. c .before .words .given)
     returns-2)
