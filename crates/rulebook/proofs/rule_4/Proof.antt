@@ -1,0 +1,23 @@
+use borrow.Author.Needs.{needs}
+use native.Mathlib.Omega.{arith}
+use Rattle.rulebook.proofs.Deciding.{deciding}
+use Rattle.rulebook.proofs.rule_4.Statement.{statement}
+use Rattle.rulebook.proofs.rule_4.Tie as tie
+
+pub rule-4-spec : {M : Type 1} → statement M
+rule-4-spec =
+    tie.close
+    (tie.spec
+    (λ c κs. search needs)
+    (λ c. search deciding)
+    (λ c κs. search needs)
+    (λ c κs. search needs)
+    (λ c κs. search needs)
+    (λ c. search deciding)
+    (λ c κs. search needs)
+    (λ c κs. search needs)
+    (λ c. search deciding)
+    (λ c κs. search needs)
+    (λ c κs. search needs)
+    (λ c κs. search needs)
+    (λ c. search deciding))

@@ -1,0 +1,19 @@
+use borrow.Author.Needs.{needs}
+use native.Mathlib.Omega.{arith}
+use Rattle.rulebook.proofs.Deciding.{deciding}
+use Rattle.rulebook.proofs.rule_5.Statement.{statement}
+use Rattle.rulebook.proofs.rule_5.Tie as tie
+
+pub rule-5-spec : {M : Type 1} → statement M
+rule-5-spec =
+    tie.close
+    (tie.spec
+    (λ c. search needs)
+    (λ c κs. search needs)
+    (λ c κs. search needs)
+    (λ c. search deciding)
+    (λ c κs. search needs)
+    (λ c κs. search needs)
+    (λ c. search deciding)
+    (λ c κs. search needs)
+    (λ c. search deciding))
