@@ -18,7 +18,7 @@ use Rattle.kinds.proofs.Values.{same-true}
 use Rattle.table.specs.declared.MsgType.{MsgType}
 use Rattle.table.specs.Dictionary.{rowsOf, listed, kindIn}
 use Rattle.message.specs.Unfit.{rejected}
-use Rattle.message.specs.code.Most.{longest, most}
+use Rattle.message.specs.code.Writable.{longest, most}
 
 pub record Accepted (m : MsgType) (t : ℕ) (v : Bytes) : Type 0 where
   pub own : listed (rowsOf m) t ≡ true

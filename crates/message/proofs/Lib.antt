@@ -9,3 +9,4 @@ pub mod Seven
 pub mod Clean
 pub mod Sizes
 pub mod ReadBack
+pub mod Fitness

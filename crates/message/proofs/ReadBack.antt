@@ -11,7 +11,7 @@ use borrow.Author.Tests.{eqb-true, eqb-false, eq-eqb, ne-eqb, ltb-true}
 use Rattle.bytes.specs.Bytes.{Bytes, all, has, decimal, Byted}
 use Rattle.frame.specs.Frame.{fixt, Good}
 use Rattle.fields.specs.Field.{firstField}
-use Rattle.bytes.proofs.Tests.{both, neither, or-last}
+use Rattle.bytes.proofs.Tests.{both, or-last}
 use Rattle.table.specs.declared.MsgType.{MsgType}
 use Rattle.dictionary.specs.declared.Verdict.the-variants.{Clean}
 use Rattle.table.specs.Dictionary.{code35, administrative}

@@ -13,7 +13,6 @@ use borrow.Author.Tests.{eqb-true, eqb-false, ne-eqb}
 use Rattle.bytes.specs.Bytes.{Bytes, fix, has, same, starts, value, decimal}
 use Rattle.bytes.proofs.Numerals.{Digits, row-digits}
 use Rattle.fields.specs.Field.{parts, firstOfParts, firstField}
-use Rattle.bytes.proofs.Numerals.{numeral-true}
 use Rattle.bytes.proofs.Decimals.{decimal-numeral, decimal-worth}
 use Rattle.kinds.proofs.Values.{same-true, same-refl}
 use Rattle.message.specs.Message.{Field, _is_, shown, tagged, row}

@@ -1,6 +1,6 @@
 -- What holds of each of the seven administrative messages, by tests that antt computes.
 use Prim.Native.Nat.{ℕ}
-use mathlib.Core.Path.{_≡_, refl, sym, ap, _∙_}
+use mathlib.Core.Path.{_≡_, refl}
 use mathlib.Core.List.{List, [], _∷_, _++_}
 use mathlib.Core.Bool.{Bool, true, false, cond, not, _&&_, _||_, false≢true}
 use mathlib.Core.Option.{some}
@@ -10,7 +10,7 @@ use lib.Dec.{eqb}
 use lib.ListN.{length}
 use native.Mathlib.Omega.{arith}
 use borrow.Author.Tests.{eqb-true, not-true}
-use Rattle.bytes.specs.Bytes.{Bytes, any, all, has, same, within, decimal}
+use Rattle.bytes.specs.Bytes.{Bytes, any, all, has, within, decimal}
 use Rattle.table.specs.Dictionary.{header, fields, №453, №580, code35, typeOf, administrative, listed, groupsOf, member, rowsOf, frameTag, inDictionary}
 use Rattle.bytes.proofs.Tests.{both, neither}
 use Rattle.dictionary.specs.Verdict.{msgType}

@@ -1,12 +1,12 @@
 -- Values of a message that are fit: absent where the message has no such field, and how long the row of the others can be.
-use Prim.Native.Nat.{ℕ, zero, suc, _+_, _≤_}
+use Prim.Native.Nat.{ℕ, _+_, _≤_}
 use native.Mathlib.Omega.{arith}
-use mathlib.Core.Path.{_≡_, refl, sym, ap, _∙_, subst}
+use mathlib.Core.Path.{_≡_, refl, sym, _∙_, subst}
 use mathlib.Core.List.{List, [], _∷_, _++_}
 use mathlib.Core.Bool.{Bool, true, false, cond, _&&_, _||_, false≢true}
 use mathlib.Core.Option.{Option, none, some}
 use lib.Dec.{eqb, leb, ltb}
-use lib.ListN.{length, take, length-append}
+use lib.ListN.{length, length-append}
 use borrow.Author.Tests.{eqb-true, eq-eqb, leb-true}
 use Rattle.bytes.specs.Bytes.{Bytes, fix, any, all, has, decimal}
 use Rattle.bytes.proofs.Tests.{both, neither, or-last}
@@ -15,7 +15,7 @@ use Rattle.table.specs.declared.MsgType.{MsgType}
 use Rattle.table.specs.Dictionary.{№453, №580, header, fields, code35, administrative, groupsOf, rowsOf, listed, kindIn}
 use Rattle.message.specs.Message.{Value, _is_, shown, tagged, row, valued, own, order, message}
 use Rattle.message.specs.Unfit.{unwritable, unfit}
-use Rattle.message.specs.code.Most.{most}
+use Rattle.message.specs.code.Writable.{most}
 use Rattle.message.proofs.Accepted.{accepted, kind-length}
 use Rattle.message.proofs.Seven.{each}
 

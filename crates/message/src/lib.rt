@@ -1,12 +1,17 @@
 // The bytes of a message, put into a buffer from a place on: bytes, digits, fields, the frame around a body. Each function answers the place behind what it wrote.
+mod fit;
+
 use bytes::checksum;
+pub use fit::is_fit;
 ghost use mathlib.Core.Path.{_≡_};
 ghost use mathlib.Core.List.{[], _∷_, _++_};
 ghost use Prim.Native.Nat.{_+_, _≤_, _<_};
-ghost use lib.ListN.{length};
+ghost use mathlib.Core.Bool.{cond};
+ghost use lib.Dec.{eqb};
+ghost use lib.ListN.{length, take};
 ghost use Rattle.bytes.specs.Bytes.{fix, decimal};
 ghost use Rattle.frame.specs.Frame.{fixt, front, trailer};
-ghost use Rattle.message.specs.Message.{number, bytes, _is_, field, framed};
+ghost use Rattle.message.specs.Message.{absent, number, bytes, _is_, field, framed};
 ghost use Rattle.message.specs.Wrote.{Wrote};
 
 pub fn put_byte(buf: &mut [u8], at: usize, b: u8) -> usize
@@ -120,6 +125,30 @@ pub fn put_number(buf: &mut [u8], at: usize, tag: u64, n: u64) -> usize
     put_byte(buf, b, 1)
 }
 
+// `tag=value|`, the value as bytes, or nothing.
+pub fn put_optional(buf: &mut [u8], at: usize, tag: u64, there: bool, v: &[u8]) -> usize
+    requires { ⌜ (tag < 100_000) × (at + length (now v) + 7 ≤ length (now buf)) ⌝ }
+    ensures bytes { λ r. ⌜ Wrote (now (buf .entry)) (now (buf .exit)) at r (field (tag is cond there (bytes (now (v .entry))) absent)) ⌝ }
+    ensures room { λ r. ⌜ r ≤ at + length (now (v .entry)) + 7 ⌝ }
+{
+    if there {
+        return put_text(buf, at, tag, v);
+    }
+    at
+}
+
+// A number's field, unless it is 0.
+pub fn put_unless_zero(buf: &mut [u8], at: usize, tag: u64, n: u64) -> usize
+    requires { ⌜ (tag < 100_000) × (n < 1_000_000_000) × (at + 16 ≤ length (now buf)) ⌝ }
+    ensures bytes { λ r. ⌜ Wrote (now (buf .entry)) (now (buf .exit)) at r (field (tag is cond (eqb n 0) absent (number n))) ⌝ }
+    ensures room { λ r. ⌜ r ≤ at + 16 ⌝ }
+{
+    if n == 0 {
+        return at;
+    }
+    put_number(buf, at, tag, n)
+}
+
 // The start mark, the body length, `|`, the body.
 fn put_front(buf: &mut [u8], at: usize, body: &[u8]) -> usize
     requires { ⌜ (length (now body) ≤ 2048) × (at + length (now body) + length (decimal (length (now body))) + 14 ≤ length (now buf)) ⌝ }
@@ -174,4 +203,13 @@ pub fn put_frame(buf: &mut [u8], at: usize, body: &[u8]) -> usize
     let a = put_front(buf, at, body);
     let sum = checksum(&buf[at..a]);
     put_trailer(buf, a, sum)
+}
+
+// The frame around the first k bytes of a body.
+pub fn put_framed(buf: &mut [u8], at: usize, body: &[u8], k: usize) -> usize
+    requires { ⌜ (k ≤ length (now body)) × (k ≤ 256) × (at + k + 25 ≤ length (now buf)) ⌝ }
+    ensures bytes { λ r. ⌜ Wrote (now (buf .entry)) (now (buf .exit)) at r (framed (take k (now (body .entry)))) ⌝ }
+    ensures room { λ r. ⌜ r ≤ at + k + 25 ⌝ }
+{
+    put_frame(buf, at, &body[..k])
 }

@@ -5,10 +5,10 @@ mod own;
 
 use head::put_head;
 use head::put_ids;
-use head::put_optional;
-use head::put_reply;
 use head::sendable;
+use message::put_framed;
 use message::put_number;
+use message::put_optional;
 use own::gap_fill_fields;
 use own::logon_fields;
 use own::reject_fields;
@@ -18,6 +18,9 @@ ghost use Rattle.message.specs.Message.{row, framed};
 ghost use Rattle.replies.specs.Reply.{optional, heartbeat, testRequest, logon, resendRequest, reject, gapFill, logout};
 ghost use Rattle.replies.specs.Replied.{nineDigits, echoable, rejectable, Replied};
 ghost use Rattle.replies.specs.code.Ranges.{echoed};
+
+// How many bytes the longest body has.
+const BODY: usize = 162;
 
 // A Heartbeat or a Test Request, by its code.
 fn echo(
@@ -39,10 +42,10 @@ fn echo(
     if 64 < id.len() {
         return at;
     }
-    let mut body = [0u8; 256];
+    let mut body = [0u8; BODY];
     let a = put_head(&mut body, code, ours, peers, n, time);
     let k = put_optional(&mut body, a, 112, there, id);
-    put_reply(buf, at, &body, k)
+    put_framed(buf, at, &body, k)
 }
 
 // The Heartbeat of a tick, or the answer to a Test Request, with its 112.
@@ -95,10 +98,10 @@ pub fn logon(
     if 999_999_999 < seconds {
         return at;
     }
-    let mut body = [0u8; 256];
+    let mut body = [0u8; BODY];
     let a = put_head(&mut body, b'A', ours, peers, n, time);
     let k = logon_fields(&mut body, a, seconds, reset);
-    put_reply(buf, at, &body, k)
+    put_framed(buf, at, &body, k)
 }
 
 // A Resend Request from the expected number on.
@@ -119,11 +122,11 @@ pub fn resend_request(
     if 999_999_999 < expected {
         return at;
     }
-    let mut body = [0u8; 256];
+    let mut body = [0u8; BODY];
     let a = put_head(&mut body, b'2', ours, peers, n, time);
     let b = put_number(&mut body, a, 7, expected);
     let k = put_number(&mut body, b, 16, 0);
-    put_reply(buf, at, &body, k)
+    put_framed(buf, at, &body, k)
 }
 
 // Whether a Reject takes these values.
@@ -164,10 +167,10 @@ pub fn reject(
     if !rejectable(refused, tag, kind, why) {
         return at;
     }
-    let mut body = [0u8; 256];
+    let mut body = [0u8; BODY];
     let a = put_head(&mut body, b'3', ours, peers, n, time);
     let k = reject_fields(&mut body, a, refused, tag, typed, kind, why);
-    put_reply(buf, at, &body, k)
+    put_framed(buf, at, &body, k)
 }
 
 // A gap fill up to the number `next`.
@@ -188,10 +191,10 @@ pub fn gap_fill(
     if 999_999_999 < next {
         return at;
     }
-    let mut body = [0u8; 256];
+    let mut body = [0u8; BODY];
     let a = put_ids(&mut body, b'4', ours, peers, n);
     let k = gap_fill_fields(&mut body, a, time, next);
-    put_reply(buf, at, &body, k)
+    put_framed(buf, at, &body, k)
 }
 
 // A Logout with its SessionStatus.
@@ -212,8 +215,8 @@ pub fn logout(
     if 999_999_999 < status {
         return at;
     }
-    let mut body = [0u8; 256];
+    let mut body = [0u8; BODY];
     let a = put_head(&mut body, b'5', ours, peers, n, time);
     let k = put_number(&mut body, a, 1409, status);
-    put_reply(buf, at, &body, k)
+    put_framed(buf, at, &body, k)
 }

@@ -1,9 +1,9 @@
 // The own fields of a Logon, a Reject and a gap fill, put behind the first ones.
-use crate::head::put_optional;
-use crate::head::put_unless_zero;
 use message::put_char;
 use message::put_number;
+use message::put_optional;
 use message::put_text;
+use message::put_unless_zero;
 ghost use Prim.Native.Nat.{_+_, _≤_, _<_};
 ghost use lib.ListN.{length};
 ghost use Rattle.bytes.specs.Bytes.{fix};

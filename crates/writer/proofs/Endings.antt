@@ -10,11 +10,11 @@ use lib.Dec.{leb, ltb}
 use lib.ListN.{length, take, drop, getD}
 use lib.Seq.{take-append-seam, drop-append-seam}
 use borrow.Author.Tests.{ltb-true, ltb-false}
-use Rattle.bytes.specs.Bytes.{Bytes, has, value, decimal, Byted}
+use Rattle.bytes.specs.Bytes.{Bytes, value, decimal, Byted}
 use Rattle.fields.specs.Field.{firstField}
 use Rattle.bytes.proofs.Decimals.{decimal-worth}
 use Rattle.table.specs.declared.MsgType.{MsgType}
-use Rattle.table.specs.Dictionary.{code35, administrative}
+use Rattle.table.specs.Dictionary.{code35}
 use Rattle.message.specs.Message.{Value, absent, number, bytes, shown, row, message, written}
 use Rattle.writer.specs.Tags.{tags, numeric}
 use Rattle.writer.specs.Call.{placeIn, part, valueIn, refused8, admin, Outcome, refusing, writing, fitted, writeAs, write, numbers}

@@ -6,7 +6,7 @@ use mathlib.Core.Bool.{Bool, true, false, cond, _&&_}
 use mathlib.Core.Option.{Option, none, some}
 use lib.Dec.{leb}
 use lib.ListN.{length, take, drop}
-use borrow.Author.Tests.{le-leb, lt-leb}
+use borrow.Author.Tests.{le-leb, lt-leb, not-false}
 use Rattle.bytes.specs.Bytes.{Bytes, decimal}
 use Rattle.kinds.specs.Kind.{Kind}
 use Rattle.kinds.specs.Judged.{meaning}
@@ -20,9 +20,11 @@ use Rattle.message.specs.Wrote.{Wrote}
 use Rattle.writer.specs.declared.types.Entry.{Entry}
 use Rattle.writer.specs.declared.types.Put.{Put}
 use Rattle.writer.specs.declared.types.Put.the-variants.{At, Unfit}
-use Rattle.writer.specs.code.Held.{Holds, valueOf, unwritten, PutText, PutOne}
+use Rattle.writer.specs.code.Held.{Holds, valueOf, PutText, PutOne}
+use Rattle.message.specs.code.Writable.{unwritten}
 use Rattle.message.proofs.Writes.{nothing}
-use Rattle.writer.proofs.Fitness.{unwritten-empty, rejected-is, rejected-other}
+use Rattle.message.proofs.Fitness.{fit-empty}
+use Rattle.writer.proofs.Fitness.{rejected-is, rejected-other}
 
 -- what was put for the bytes of a value was put for the value
 put-value : (m : MsgType) (t : ℕ) (o : Option Bytes) (w : Bytes) {k : Kind} {d d′ : Bytes} {at : ℕ} → o ≡ some w → listed (rowsOf m) t ≡ true → k ≡ kindIn (rowsOf m) t
@@ -74,7 +76,7 @@ module _ (m : MsgType) (e : Entry) (s : Bytes) (H : Holds m e) where
 
     -- a place that the text does not have
     outside : isNumeric (meaning (e .kind)) ≡ false → part s (e .start) (e .end) ≡ [] → unwritable m (e .tag) (shown value) ≡ true
-    outside i n = no-value m (e .tag) (shown value) [] (is-part g i ∙ ap some n) has-tag (H .kind has-tag) (sym (unwritten-empty (meaning (e .kind)) [] refl))
+    outside i n = no-value m (e .tag) (shown value) [] (is-part g i ∙ ap some n) has-tag (H .kind has-tag) (not-false _ (sym (fit-empty (meaning (e .kind)) [] refl)))
 
     pub backwards : isNumeric (meaning (e .kind)) ≡ false → e .end < e .start → unwritable m (e .tag) (shown value) ≡ true
     backwards i l =

@@ -29,7 +29,7 @@ use Rattle.writer.specs.declared.types.Slot.{Slot}
 use Rattle.writer.specs.declared.types.Entry.{Entry}
 use Rattle.writer.specs.declared.types.Put.{Put}
 use Rattle.writer.specs.code.Held.{bitOf, tagAt, Marked, sevenRows, Slots, Holds, valueOf, PutOne}
-use Rattle.message.specs.code.Most.{most}
+use Rattle.message.specs.code.Writable.{most}
 use Rattle.message.proofs.Writes.{more, reword}
 use Rattle.message.proofs.Seven.{each}
 use Rattle.writer.proofs.Tagged.{not-listed}

@@ -1,44 +1,25 @@
--- Whether a value is fit, test by test as the code looks at it.
+-- What holds of a value that is fit, and of one that is not.
 use Prim.Native.Nat.{ℕ, _≤_, _<_}
 use native.Mathlib.Omega.{arith}
 use mathlib.Core.Path.{_≡_, refl, ap}
-use mathlib.Core.Bool.{Bool, true, false, cond, not, _||_, false≢true}
+use mathlib.Core.Bool.{Bool, true, false, not, _||_, false≢true}
 use lib.Dec.{eqb}
 use lib.ListN.{length}
-use borrow.Author.Tests.{eq-eqb, ne-eqb, not-false}
+use borrow.Author.Tests.{not-false}
 use Rattle.bytes.specs.Bytes.{Bytes, fix, has, same, value, numeral, decimal}
 use Rattle.bytes.proofs.Tests.{neither}
 use Rattle.bytes.proofs.Numerals.{numeral-means, value-below}
 use Rattle.bytes.proofs.Decimals.{decimal-worth}
 use Rattle.kinds.specs.Kind.{Kind, text, number_to_, Y/N, time, day, among, isNumber, formed, allowed}
-use Rattle.kinds.specs.Judged.{judged}
 use Rattle.kinds.proofs.Values.{same-true}
 use Rattle.table.specs.declared.MsgType.{MsgType}
 use Rattle.table.specs.Dictionary.{rowsOf, listed, kindIn}
 use Rattle.writer.specs.Tags.{isNumeric}
 use Rattle.message.specs.Unfit.{rejected}
-use Rattle.writer.specs.code.Held.{unwritten}
-use Rattle.message.specs.code.Most.{most}
+use Rattle.message.specs.code.Writable.{most, unwritten}
 use Rattle.message.proofs.Accepted.{kind-length}
 
 -- A VALUE OF A KIND
-pub unwritten-empty : (k : Kind) (v : Bytes) → length v ≡ 0 → true ≡ unwritten k v
-unfolding unwritten
-unwritten-empty k v n = rw (eq-eqb (length v) 0 n)
-
-pub unwritten-bar : (k : Kind) (v : Bytes) {b : Bool} → (length v ≡ 0 → ⊥) → b ≡ has v 1 → b ≡ true → true ≡ unwritten k v
-unfolding unwritten
-unwritten-bar k v n e h = rw (ne-eqb (length v) 0 n, ← e, h)
-
-pub unwritten-judged : (k : Kind) (v : Bytes) {b : Bool} {j : ℕ} → (length v ≡ 0 → ⊥) → b ≡ has v 1 → b ≡ false → j ≡ judged k v → not (eqb j 0) ≡ unwritten k v
-unfolding unwritten judged
-unwritten-judged k v n e h j = rw (ne-eqb (length v) 0 n, ← e, h, j) (go (formed k v) (allowed k v))
-  where
-    go : (a b : Bool) → not (eqb (cond a (cond b 0 5) 6) 0) ≡ (not a || not b)
-    go true true = refl
-    go true false = refl
-    go false b = refl
-
 -- a value that is written is no longer than its kind allows
 pub written-short : (k : Kind) (v : Bytes) → unwritten k v ≡ false → length v ≤ most k
 unfolding unwritten

@@ -7,21 +7,21 @@ use crate::types::Admin;
 use crate::types::Entry;
 use crate::types::Put;
 use kinds::Kind;
-use kinds::judge;
+use message::is_fit;
 use message::put_decimal;
 use message::put_text;
 use table::MsgType;
 ghost use mathlib.Core.Path.{_≡_};
-ghost use mathlib.Core.Bool.{true, not};
+ghost use mathlib.Core.Bool.{true};
 ghost use Prim.Native.Nat.{_+_, _≤_, _<_};
 ghost use lib.ListN.{length};
-ghost use Rattle.bytes.specs.Bytes.{has, decimal};
+ghost use Rattle.bytes.specs.Bytes.{decimal};
 ghost use Rattle.kinds.specs.Judged.{meaning};
 ghost use Rattle.table.specs.Dictionary.{administrative};
-ghost use Rattle.message.specs.code.Most.{most};
+ghost use Rattle.message.specs.code.Writable.{most};
 ghost use Rattle.writer.specs.Tags.{isNumeric};
 ghost use Rattle.writer.specs.Call.{admin, valueIn};
-ghost use Rattle.writer.specs.code.Held.{typeIn, Holds, valueOf, unwritten, PutText, PutOne, PutAll};
+ghost use Rattle.writer.specs.code.Held.{typeIn, Holds, valueOf, PutText, PutOne, PutAll};
 
 // The message that a type names.
 pub fn admin_of(v: &[u8]) -> Admin
@@ -55,20 +55,6 @@ pub fn admin_of(v: &[u8]) -> Admin
     Admin::Other
 }
 
-// Whether there is a `|` among the bytes.
-fn has_bar(v: &[u8]) -> bool
-    ensures { λ r. ⌜ r ≡ has (now (v .entry)) 1 ⌝ }
-{
-    let mut i = 0;
-    while i < v.len() {
-        if v[i] == 1 {
-            return true;
-        }
-        i += 1;
-    }
-    false
-}
-
 // Whether values of a kind are given as numbers.
 fn is_number(kind: Kind) -> bool
     ensures { λ r. ⌜ r ≡ isNumeric (meaning kind) ⌝ }
@@ -81,19 +67,6 @@ fn is_number(kind: Kind) -> bool
         Kind::Day => false,
         Kind::OneOf(_) => false,
     }
-}
-
-// Whether the dictionary takes a value of a kind.
-fn is_fit(kind: Kind, v: &[u8]) -> bool
-    ensures { λ r. ⌜ not r ≡ unwritten (meaning kind) (now (v .entry)) ⌝ }
-{
-    if v.len() == 0 {
-        return false;
-    }
-    if has_bar(v) {
-        return false;
-    }
-    judge(kind, v) == 0
 }
 
 // The field of a value given as bytes, if it is fit.

@@ -21,14 +21,14 @@ returns-2 c = unfit-own (c .before .before .sendable .ensures) (c .before .if1 .
 put-head-requires : tie.Need-put-head-requires
 put-head-requires c κs = let P = passed (c .before .before .before .sendable .ensures) (c .before .before .if1 .left) in search needs
 
-put-reply-requires : tie.Need-put-reply-requires
-put-reply-requires c κs = let P = passed (c .before .before .before .before .before .before .before .before .before .before .sendable .ensures) (c .before .before .before .before .before .before .before .before .before .if1 .left) in search needs
+put-framed-requires : tie.Need-put-framed-requires
+put-framed-requires c κs = let P = passed (c .before .before .before .before .before .before .before .before .before .before .sendable .ensures) (c .before .before .before .before .before .before .before .before .before .if1 .left) in search needs
 
 returns-3 : tie.Need-returns-3
 returns-3 c =
     let s = c .before .before .before .before .before .before .before .before .before .before .before .before .before .before .before .before .before .before .before .args in
     put (c .before .before .before .before .before .before .before .before .before .before .before .before .before .sendable .ensures) (c .before .before .before .before .before .before .before .before .before .before .before .before .if1 .left) (le-leb _ _ (c .before .before .before .before .before .before .before .before .before .before .before .if2 .left))
-    (framed-put (headed (s .code) (now (s .ours)) (now (s .peers)) (s .n) (now (s .time))) (112 is optional (s .there) (now (s .id)) ∷ []) (c .before .before .before .before .before .before .before .before .before .put-head .ensures .0) (chain (c .before .before .before .before .before .before .put-optional .ensures .0) nothing) (omega arith) (c .before .before .put-reply .ensures .0))
+    (framed-put (headed (s .code) (now (s .ours)) (now (s .peers)) (s .n) (now (s .time))) (112 is optional (s .there) (now (s .id)) ∷ []) (c .before .before .before .before .before .before .before .before .before .put-head .ensures .0) (chain (c .before .before .before .before .before .before .put-optional .ensures .0) nothing) (omega arith) (c .before .before .put-framed .ensures .0))
     (omega arith)
 
 pub echo-spec : {M : Type 1} → statement M
@@ -43,6 +43,6 @@ echo-spec =
     (λ c. search needs)
     (λ c κs. search needs)
     (λ c. search needs)
-    put-reply-requires
+    put-framed-requires
     (λ c. search needs)
     returns-3)

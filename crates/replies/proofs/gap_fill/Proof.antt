@@ -23,15 +23,15 @@ put-ids-requires c κs = let P = passed (c .before .before .before .sendable .en
 gap-fill-fields-requires : tie.Need-gap-fill-fields-requires
 gap-fill-fields-requires c κs = let P = passed (c .before .before .before .before .before .before .sendable .ensures) (c .before .before .before .before .before .if1 .left) in search needs
 
-put-reply-requires : tie.Need-put-reply-requires
-put-reply-requires c κs = let P = passed (c .before .before .before .before .before .before .before .before .before .before .sendable .ensures) (c .before .before .before .before .before .before .before .before .before .if1 .left) in search needs
+put-framed-requires : tie.Need-put-framed-requires
+put-framed-requires c κs = let P = passed (c .before .before .before .before .before .before .before .before .before .before .sendable .ensures) (c .before .before .before .before .before .before .before .before .before .if1 .left) in search needs
 
 returns-3 : tie.Need-returns-3
 unfolding gapFill written order own fields code35
 returns-3 c =
     let s = c .before .before .before .before .before .before .before .before .before .before .before .before .before .before .before .before .before .before .args in
     put (c .before .before .before .before .before .before .before .before .before .before .before .before .before .sendable .ensures) (c .before .before .before .before .before .before .before .before .before .before .before .before .if1 .left) (le-leb _ _ (c .before .before .before .before .before .before .before .before .before .before .before .if2 .left))
-    (framed-put (ids 52 (now (s .ours)) (now (s .peers)) (s .n)) (ownOfGapFill (now (s .time)) (s .next)) (c .before .before .before .before .before .before .before .before .before .put-ids .ensures .0) (c .before .before .before .before .before .before .gap-fill-fields .ensures .0) (omega arith) (c .before .before .put-reply .ensures .0))
+    (framed-put (ids 52 (now (s .ours)) (now (s .peers)) (s .n)) (ownOfGapFill (now (s .time)) (s .next)) (c .before .before .before .before .before .before .before .before .before .put-ids .ensures .0) (c .before .before .before .before .before .before .gap-fill-fields .ensures .0) (omega arith) (c .before .before .put-framed .ensures .0))
     (omega arith)
 
 pub gap-fill-spec : {M : Type 1} → statement M
@@ -46,6 +46,6 @@ gap-fill-spec =
     (λ c. search needs)
     gap-fill-fields-requires
     (λ c. search needs)
-    put-reply-requires
+    put-framed-requires
     (λ c. search needs)
     returns-3)

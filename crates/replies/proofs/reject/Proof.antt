@@ -24,15 +24,15 @@ put-head-requires c κs = let P = passed (c .before .before .before .before .sen
 reject-fields-requires : tie.Need-reject-fields-requires
 reject-fields-requires c κs = let R = rejects (c .before .before .before .before .before .rejectable .ensures) (c .before .before .before .before .if2 .left) in search needs
 
-put-reply-requires : tie.Need-put-reply-requires
-put-reply-requires c κs = let P = passed (c .before .before .before .before .before .before .before .before .before .before .before .sendable .ensures) (c .before .before .before .before .before .before .before .before .before .before .if1 .left) in search needs
+put-framed-requires : tie.Need-put-framed-requires
+put-framed-requires c κs = let P = passed (c .before .before .before .before .before .before .before .before .before .before .before .sendable .ensures) (c .before .before .before .before .before .before .before .before .before .before .if1 .left) in search needs
 
 returns-3 : tie.Need-returns-3
 unfolding reject written order own fields code35
 returns-3 c =
     let s = c .before .before .before .before .before .before .before .before .before .before .before .before .before .before .before .before .before .before .before .before .args in
     put (c .before .before .before .before .before .before .before .before .before .before .before .before .before .before .sendable .ensures) (c .before .before .before .before .before .before .before .before .before .before .before .before .before .if1 .left) (sym (c .before .before .before .before .before .before .before .before .before .before .before .before .rejectable .ensures) ∙ not-false _ (c .before .before .before .before .before .before .before .before .before .before .before .if2 .left))
-    (framed-put (headed 51 (now (s .ours)) (now (s .peers)) (s .n) (now (s .time))) (ownOfReject (s .refused) (s .tag) (optional (s .typed) (now (s .kind))) (s .why)) (c .before .before .before .before .before .before .before .before .before .put-head .ensures .0) (c .before .before .before .before .before .before .reject-fields .ensures .0) (omega arith) (c .before .before .put-reply .ensures .0))
+    (framed-put (headed 51 (now (s .ours)) (now (s .peers)) (s .n) (now (s .time))) (ownOfReject (s .refused) (s .tag) (optional (s .typed) (now (s .kind))) (s .why)) (c .before .before .before .before .before .before .before .before .before .put-head .ensures .0) (c .before .before .before .before .before .before .reject-fields .ensures .0) (omega arith) (c .before .before .put-framed .ensures .0))
     (omega arith)
 
 pub reject-spec : {M : Type 1} → statement M
@@ -48,6 +48,6 @@ reject-spec =
     (λ c. search needs)
     reject-fields-requires
     (λ c. search needs)
-    put-reply-requires
+    put-framed-requires
     (λ c. search needs)
     returns-3)

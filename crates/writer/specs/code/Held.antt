@@ -1,14 +1,13 @@
 -- How the code holds the writer's tags and values, and what it puts for them. Only the code needs these: nothing here states document 01.
 use Prim.Native.Nat.{ℕ, _+_, _/_, _%_, _^_, _≤_, _<_}
 use mathlib.Core.Path.{_≡_}
-use mathlib.Core.List.{List, [], _∷_, _++_, map}
-use mathlib.Core.Bool.{Bool, true, false, cond, not, _||_}
+use mathlib.Core.List.{List, _++_, map}
+use mathlib.Core.Bool.{Bool, true, false, cond}
 use mathlib.Core.Option.{Option, none, some}
 use lib.Dec.{eqb}
-use lib.ListN.{length, getD}
-use Rattle.bytes.specs.Bytes.{Bytes, has}
-use Rattle.dates.specs.Date.{shapes}
-use Rattle.kinds.specs.Kind.{Kind, text, number_to_, Y/N, time, day, among, formed, allowed}
+use lib.ListN.{getD}
+use Rattle.bytes.specs.Bytes.{Bytes}
+use Rattle.kinds.specs.Kind.{Kind}
 use Rattle.kinds.specs.Judged.{meaning}
 use Rattle.table.specs.declared.MsgType.{MsgType}
 use Rattle.table.specs.declared.MsgType.the-variants.{Heartbeat, ResendRequest, Reject, SequenceReset, Logout, Logon}
@@ -17,6 +16,7 @@ use Rattle.message.specs.Message.{Value, absent, bytes, _is_, field, row, value
 use Rattle.writer.specs.Tags.{tags, isNumeric}
 use Rattle.writer.specs.Call.{part, refused8}
 use Rattle.message.specs.Unfit.{required, unfit}
+use Rattle.message.specs.code.Writable.{unwritten}
 use Rattle.message.specs.Wrote.{Wrote}
 use Rattle.writer.specs.declared.types.Admin.{Admin}
 use Rattle.writer.specs.declared.types.Admin.the-variants.{Is, Other}
@@ -58,10 +58,6 @@ pub record Holds (m : MsgType) (e : Entry) : Type 0 where
 
 abbrev pub valueOf : Entry → Bytes → Value
 valueOf e s = cond (e .given) (cond (isNumeric (meaning (e .kind))) (Value.number (e .number)) (bytes (part s (e .start) (e .end)))) absent
-
--- the bytes of a value of a kind are not to be written: rejected, but for the message
-unfoldable pub unwritten : Kind → Bytes → Bool
-unwritten k v = eqb (length v) 0 || has v 1 || not (formed k v) || not (allowed k v)
 
 -- what is put for a value: its field, or nothing but the answer that it is unfit
 abbrev pub PutText : Kind → ℕ → Bytes → Bytes → Bytes → ℕ → Put → Type 0

@@ -1,4 +1,4 @@
--- `put_reply`: the frame around the part of the array that holds the body.
+-- `put_framed`: the frame around the part of the array that holds the body.
 use borrow.Author.Needs.{needs}
 use native.Mathlib.Omega.{arith}
 use Prim.Native.Nat.{ℕ}
@@ -7,10 +7,10 @@ use mathlib.Core.Path.{sym, ap}
 use lib.ListN.{length, take}
 use lib.Seq.{length-take-le}
 use Rattle.bytes.specs.Bytes.{decimal}
 use Rattle.message.proofs.Writes.{few-digits}
 use Rattle.message.proofs.Frames.{framed-length}
-use Rattle.replies.proofs.head.put_reply.Statement.{statement}
-use Rattle.replies.proofs.head.put_reply.Tie as tie
+use Rattle.message.proofs.put_framed.Statement.{statement}
+use Rattle.message.proofs.put_framed.Tie as tie
 
 slice-aggregate-put-frame : tie.Need-slice-aggregate-put-frame
 slice-aggregate-put-frame c =
@@ -34,6 +34,6 @@ returns c =
     let w = c .before .before .put-frame .ensures in
     (w, omega (arith, w .next, framed-length (take (s .args .k) (now (s .args .body))), e, f, d))
 
-pub put-reply-spec : {M : Type 1} → statement M
-put-reply-spec =
+pub put-framed-spec : {M : Type 1} → statement M
+put-framed-spec =
     tie.close (tie.spec slice-aggregate-put-frame put-frame-requires (λ c. search needs) returns)

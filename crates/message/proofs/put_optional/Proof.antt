@@ -1,9 +1,9 @@
 -- `put_optional`: the field, or nothing.
 use borrow.Author.Needs.{needs}
 use native.Mathlib.Omega.{arith}
 use Rattle.message.proofs.Writes.{nothing}
-use Rattle.replies.proofs.head.put_optional.Statement.{statement}
-use Rattle.replies.proofs.head.put_optional.Tie as tie
+use Rattle.message.proofs.put_optional.Statement.{statement}
+use Rattle.message.proofs.put_optional.Tie as tie
 
 returns : tie.Need-returns
 returns c = (rw (c .before .before .before .before .if1 .taken) (c .before .before .put-text .ensures .0), omega arith)

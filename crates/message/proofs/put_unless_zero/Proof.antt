@@ -2,9 +2,9 @@
 use borrow.Author.Needs.{needs}
 use native.Mathlib.Omega.{arith}
 use borrow.Author.Tests.{eq-eqb, ne-eqb}
 use Rattle.message.proofs.Writes.{nothing}
-use Rattle.replies.proofs.head.put_unless_zero.Statement.{statement}
-use Rattle.replies.proofs.head.put_unless_zero.Tie as tie
+use Rattle.message.proofs.put_unless_zero.Statement.{statement}
+use Rattle.message.proofs.put_unless_zero.Tie as tie
 
 returns : tie.Need-returns
 returns c = (rw (eq-eqb _ 0 (c .if1 .taken)) nothing, omega arith)
