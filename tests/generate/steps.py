@@ -37,25 +37,26 @@ def step_unclean(r):
     yield asked_step(r, session, framed(joined(parts)))
 
 
+def slipping_step(r, session, parts, often):
+    """A step with these fields, at times with one slip among them."""
+    if chance(r, often):
+        r.choice((drop, double, replace_by_edge, put_in))(r, parts)
+    return asked_step(r, session, framed(joined(parts)))
+
+
 def step_bare_reset(r):
     """A Sequence Reset without 123=Y, clean or not, whatever its number."""
     session = Session(r, ACTIVE)
     given = {49: session.peer, 56: session.ours, 34: number_in(r, session), 36: near(r, session.expected),
              123: r.choice((None, None, b"N"))}
-    parts = message(r, b"4", given)
-    if chance(r, 0.4):
-        r.choice((drop, double, replace_by_edge, put_in))(r, parts)
-    yield asked_step(r, session, framed(joined(parts)))
+    yield slipping_step(r, session, message(r, b"4", given), 0.4)
 
 
 def step_gap_fill(r):
     session = Session(r, ACTIVE)
     n = text(session.expected)
     given = {49: session.peer, 56: session.ours, 34: n, 36: near(r, session.expected, session.expected + 1), 123: b"Y"}
-    parts = message(r, b"4", given)
-    if chance(r, 0.2):
-        r.choice((drop, double, replace_by_edge, put_in))(r, parts)
-    yield asked_step(r, session, framed(joined(parts)))
+    yield slipping_step(r, session, message(r, b"4", given), 0.2)
 
 
 def step_resend_request(r):
@@ -63,10 +64,7 @@ def step_resend_request(r):
     session = Session(r, ACTIVE)
     given = {49: session.peer, 56: session.ours, 34: text(session.expected + r.choice((0, 0, 1, 2))),
              **resend_range(r, session)}
-    parts = message(r, b"2", given)
-    if chance(r, 0.15):
-        r.choice((drop, double, replace_by_edge, put_in))(r, parts)
-    yield asked_step(r, session, framed(joined(parts)))
+    yield slipping_step(r, session, message(r, b"2", given), 0.15)
 
 
 def step_waiting(r):
