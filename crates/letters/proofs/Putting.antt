@@ -17,7 +17,7 @@ use Rattle.message.specs.Message.{Value, absent, bytes, own, order, written}
 use Rattle.replies.specs.Reply as Reply
 use Rattle.message.specs.Wrote.{Wrote}
 use Rattle.message.proofs.Writes.{chain, nothing}
-use Rattle.replies.specs.Replied.{sendable, nineDigits, echoable, Replied}
+use Rattle.replies.specs.Replied.{replyRoom, sendable, nineDigits, echoable, Replied}
 use borrow.Author.Tests.{le-leb}
 use Rattle.moves.specs.Session.{fresh}
 use Rattle.moves.specs.Seen.{repeated}
@@ -65,20 +65,20 @@ put-more (x ∷ xs) ys h k = (h .0, h .1, put-more xs ys (h .2) k)
 -- ONE MESSAGE, PUT
 module _ (ours peers stamp body d d′ : Bytes) (n at to : ℕ) (l : Letter) (S : Sending ours peers n at stamp d) (A : AllPut (lettersOf body n l)) where
   abbrev Put : Type 0
-  Put = Wrote d d′ at to (joined (bytesOf ours peers stamp (lettersOf body n l))) × (to ≤ at + 187)
+  Put = Wrote d d′ at to (joined (bytesOf ours peers stamp (lettersOf body n l))) × (to ≤ at + replyRoom)
 
   -- one message, in its words
-  alone : {xs : Bytes} {k : Letter} → l ≡ k → xs ++ [] ≡ joined (bytesOf ours peers stamp (lettersOf body n k)) → Wrote d d′ at to xs → to ≤ at + 187 → Put
+  alone : {xs : Bytes} {k : Letter} → l ≡ k → xs ++ [] ≡ joined (bytesOf ours peers stamp (lettersOf body n k)) → Wrote d d′ at to xs → to ≤ at + replyRoom → Put
   alone {xs = xs} e q w h =
       (subst (Wrote d d′ at to) (sym (append-nil xs) ∙ q ∙ ap (λ (y : Letter). joined (bytesOf ours peers stamp (lettersOf body n y))) (sym e)) w, h)
 
   pub put-beat : {id : Bytes} → id ≡ [] → l ≡ Heartbeat → Replied ours peers n stamp (echoable id) d d′ at to (Reply.heartbeat ours peers n stamp absent) → Put
   put-beat i e R = let w = was-put S n R (rw i refl) (S .number) (S .room) in alone e refl (w .0) (w .1)
 
-  pub put-echo : l ≡ Echo → Wrote d d′ at to (Reply.heartbeat ours peers n stamp (repeated (firstField 112 body))) → to ≤ at + 187 → Put
+  pub put-echo : l ≡ Echo → Wrote d d′ at to (Reply.heartbeat ours peers n stamp (repeated (firstField 112 body))) → to ≤ at + replyRoom → Put
   put-echo e w h = alone e refl w h
 
-  pub put-logon : {anew : Bool} → l ≡ Logon anew → Wrote d d′ at to (logonOf ours peers (cond anew 1 n) stamp body (Reply.optional anew (fix "Y"))) → to ≤ at + 187 → Put
+  pub put-logon : {anew : Bool} → l ≡ Logon anew → Wrote d d′ at to (logonOf ours peers (cond anew 1 n) stamp body (Reply.optional anew (fix "Y"))) → to ≤ at + replyRoom → Put
   put-logon {anew = anew} e w h =
       let F = subst (λ (y : Letter). AllPut (lettersOf body n y)) e A in
       alone e (ap (λ (xs : Bytes). xs ++ []) (sym (repeats ours peers stamp body (cond anew 1 n) (Reply.optional anew (fix "Y")) (F .1)))) w h
@@ -88,7 +88,7 @@ module _ (ours peers stamp body d d′ : Bytes) (n at to : ℕ) (l : Letter) (S 
       let F = subst (λ (y : Letter). AllPut (lettersOf body n y)) e A in
       let w = was-put S n R (le-leb from 999_999_999 (F .1 .high)) (S .number) (S .room) in alone e refl (w .0) (w .1)
 
-  pub put-reject : {reason tag : ℕ} → l ≡ Reject reason tag → Wrote d d′ at to (rejectOf ours peers n stamp body reason tag) → to ≤ at + 187 → Put
+  pub put-reject : {reason tag : ℕ} → l ≡ Reject reason tag → Wrote d d′ at to (rejectOf ours peers n stamp body reason tag) → to ≤ at + replyRoom → Put
   put-reject e w h = alone e refl w h
 
   pub put-fill : {begin new : ℕ} → l ≡ Fill begin new → Replied ours peers begin stamp (nineDigits new) d d′ at to (Reply.gapFill ours peers begin stamp new) → Put
@@ -106,7 +106,7 @@ module _ (ours peers stamp body d d′ : Bytes) (n at to : ℕ) (l : Letter) (S 
       let F = subst (λ (y : Letter). AllPut (lettersOf body n y)) e A in
       let w = was-put S n R (le-leb (length body) 64 (F .1 .short)) (S .number) (S .room) in alone e refl (w .0) (w .1)
 
-pub put-nothing : (ours peers stamp body d : Bytes) (n at : ℕ) (l : Letter) → l ≡ Nothing → Wrote d d at at (joined (bytesOf ours peers stamp (lettersOf body n l))) × (at ≤ at + 187)
+pub put-nothing : (ours peers stamp body d : Bytes) (n at : ℕ) (l : Letter) → l ≡ Nothing → Wrote d d at at (joined (bytesOf ours peers stamp (lettersOf body n l))) × (at ≤ at + replyRoom)
 put-nothing ours peers stamp body d n at l e = (rw e nothing, omega arith)
 
 -- what a message carries can be put
@@ -118,7 +118,7 @@ module _ (body : Bytes) (n : ℕ) (l : Letter) (A : AllPut (lettersOf body n l))
   reject-carried e = let F = subst (λ (y : Letter). AllPut (lettersOf body n y)) e A in (omega (arith, F .1 .reason-fits), omega (arith, F .1 .tag-fits))
 
 -- TWO MESSAGES
-pub sending-at : {ours peers stamp d d′ : Bytes} {n : ℕ} (k at : ℕ) → Sending ours peers n 187 stamp d → k ≤ 999_999_999 → at + 187 ≤ length d′ → Sending ours peers k at stamp d′
+pub sending-at : {ours peers stamp d d′ : Bytes} {n : ℕ} (k at : ℕ) → Sending ours peers n replyRoom stamp d → k ≤ 999_999_999 → at + replyRoom ≤ length d′ → Sending ours peers k at stamp d′
 sending-at k at S h room = record { ours-short = S .ours-short; peers-short = S .peers-short; number = h; stamped = S .stamped; room = room }
 
 pub first-put : (body : Bytes) (n : ℕ) (f g : Letter) → AllPut (lettersOf body n f ++ lettersOf body (behind n f) g) → AllPut (lettersOf body n f)
@@ -139,7 +139,7 @@ both-letters ours peers stamp body n f g {d₁ = d₁} {d₂ = d₂} {a = a} {to
 
 -- FROM THE RECORD, at a time
 pub sending : (r : Record) → Ready r → length (r .ours) ≡ 11 → length (r .peer) ≡ 11 → (stamp buf : Bytes) → length stamp ≡ 24 → 512 ≤ length buf
-    → Sending (take (r .oursLen) (r .ours)) (take (r .peerLen) (r .peer)) (r .next) 187 stamp buf
+    → Sending (take (r .oursLen) (r .ours)) (take (r .peerLen) (r .peer)) (r .next) replyRoom stamp buf
 sending r R e f stamp buf l b =
     let x = length-take-le (r .oursLen) (r .ours) (omega (arith, R .ours)) in
     let y = length-take-le (r .peerLen) (r .peer) (omega (arith, R .peer)) in

@@ -27,6 +27,7 @@ ghost use Rattle.frame.specs.Stream.{joined};
 ghost use Rattle.fields.specs.Field.{firstField};
 ghost use Rattle.calendar.specs.Time.{utc, limit};
 ghost use Rattle.replies.specs.Reply.{optional, heartbeat};
+ghost use Rattle.replies.specs.Replied.{replyRoom};
 ghost use Rattle.message.specs.Wrote.{Wrote};
 ghost use Rattle.moves.specs.Seen.{repeated};
 ghost use Rattle.letters.specs.code.Put.{Repeats, rejectOf, logonOf, bytesOf, AllPut, Sending};
@@ -60,7 +61,7 @@ fn put_reject(
     requires { ⌜ Sending (now us) (now them) n at (now stamp) (now buf) ⌝ }
     requires { ⌜ (reason < 1_000_000_000) × (tag < 1_000_000_000) ⌝ }
     ensures bytes { λ r. ⌜ Wrote (now (buf .entry)) (now (buf .exit)) at r (rejectOf (now (us .entry)) (now (them .entry)) n (now (stamp .entry)) (now (body .entry)) reason tag) ⌝ }
-    ensures room { λ r. ⌜ r ≤ at + 187 ⌝ }
+    ensures room { λ r. ⌜ r ≤ at + replyRoom ⌝ }
 {
     let place = named_type(body);
     let refused = number_in(body, 34, 1);
@@ -96,7 +97,7 @@ fn put_echo(
     requires { ⌜ Sending (now us) (now them) n at (now stamp) (now buf) ⌝ }
     requires { ⌜ ((v : Bytes) → firstField 112 (now body) ≡ some v → length v ≤ 64) ⌝ }
     ensures bytes { λ r. ⌜ Wrote (now (buf .entry)) (now (buf .exit)) at r (heartbeat (now (us .entry)) (now (them .entry)) n (now (stamp .entry)) (repeated (firstField 112 (now (body .entry))))) ⌝ }
-    ensures room { λ r. ⌜ r ≤ at + 187 ⌝ }
+    ensures room { λ r. ⌜ r ≤ at + replyRoom ⌝ }
 {
     let Place::At { start, end } = first_field(body, 112) else {
         return heartbeat(buf, at, us, them, n, stamp, false, b"");
@@ -117,7 +118,7 @@ fn put_logon(
 ) -> usize
     requires { ⌜ Sending (now us) (now them) n at (now stamp) (now buf) ⌝ }
     ensures bytes { λ r. ⌜ Wrote (now (buf .entry)) (now (buf .exit)) at r (logonOf (now (us .entry)) (now (them .entry)) (cond reset 1 n) (now (stamp .entry)) (now (body .entry)) (optional reset (fix "Y"))) ⌝ }
-    ensures room { λ r. ⌜ r ≤ at + 187 ⌝ }
+    ensures room { λ r. ⌜ r ≤ at + replyRoom ⌝ }
 {
     let seconds = number_in(body, 108, 0);
     if reset {
@@ -140,7 +141,7 @@ fn put(
     requires { ⌜ Sending (now us) (now them) n at (now stamp) (now buf) ⌝ }
     requires { ⌜ AllPut (lettersOf (now body) n l) ⌝ }
     ensures bytes { λ r. ⌜ Wrote (now (buf .entry)) (now (buf .exit)) at r (joined (bytesOf (now (us .entry)) (now (them .entry)) (now (stamp .entry)) (lettersOf (now (body .entry)) n l))) ⌝ }
-    ensures room { λ r. ⌜ r ≤ at + 187 ⌝ }
+    ensures room { λ r. ⌜ r ≤ at + replyRoom ⌝ }
 {
     match l {
         Letter::Nothing => at,
@@ -176,7 +177,7 @@ fn put_both(
     stamp: &[u8],
     body: &[u8],
 ) -> usize
-    requires { ⌜ (n ≤ 999_999_990) × Sending (now us) (now them) n 187 (now stamp) (now buf) ⌝ }
+    requires { ⌜ (n ≤ 999_999_990) × Sending (now us) (now them) n replyRoom (now stamp) (now buf) ⌝ }
     requires { ⌜ AllPut (lettersOf (now body) n first ++ lettersOf (now body) (behind n first) second) ⌝ }
     ensures bytes { λ r. ⌜ Wrote (now (buf .entry)) (now (buf .exit)) 0 r (joined (bytesOf (now (us .entry)) (now (them .entry)) (now (stamp .entry)) (lettersOf (now (body .entry)) n first ++ lettersOf (now (body .entry)) (behind n first) second))) ⌝ }
     ensures room { λ r. ⌜ r ≤ 374 ⌝ }

@@ -1,4 +1,4 @@
--- Administrative messages as lists of fields, and the bytes of a message.
+-- A message as a list of fields, and its bytes.
 use Prim.Native.Nat.{ℕ}
 use mathlib.Core.List.{List, [], _∷_, _++_, map}
 use mathlib.Core.Bool.{cond}

@@ -10,6 +10,7 @@ use Rattle.fields.specs.declared.Place.the-variants.{At, Absent}
 use Rattle.dictionary.specs.Verdict.{msgType}
 use Rattle.message.specs.Message.{Value, absent, bytes}
 use Rattle.replies.specs.Reply as Reply
+use Rattle.replies.specs.Replied.{replyRoom}
 use Rattle.moves.specs.Words.{_otherwise_}
 use Rattle.moves.specs.Seen.{repeated, numberIn, codeOf}
 use Rattle.moves.specs.Moves.{Letter, letter}
@@ -45,4 +46,4 @@ pub record Sending (ours peers : Bytes) (n at : ℕ) (stamp buf : Bytes) : Type 
   pub peers-short : length peers ≤ 11
   pub number : n ≤ 999_999_999
   pub stamped : length stamp ≤ 24
-  pub room : at + 187 ≤ length buf
+  pub room : at + replyRoom ≤ length buf
