@@ -1,13 +1,14 @@
 -- The kinds of values: "Kinds: 7, 34, 36, 45 are 1 to 999,999,999; 16 also 0; the other numbers (108, 371, 373, 453, 580, 1409) 0 to 999,999,999
 -- unless a list or group narrows them. .. 43, 97, 123, 141 are Y or N. 52, 60, 122 are `YYYYMMDD-HH:MM:SS`, alone or with 3 or 6 decimals; 75 is
 -- `YYYYMMDD`; Gregorian calendar, years 0001 to 9999, seconds 00 to 60 in any minute. Other values are strings of 1 to 32 bytes, none `|` (112: 64;
--- 58: 256)."
+-- 58: 256)." Document 02 adds decimals: "31 and 32 are decimals .. 64 is a date like 75."
 use Prim.Native.Nat.{ℕ}
 use mathlib.Core.List.{List, [], _∷_}
 use mathlib.Core.Bool.{Bool, true, cond, _&&_, _||_}
 use lib.ListN.{length}
 use Rattle.bytes.specs.Bytes.{Bytes, fix, any, has, same, within, value, numeral}
 use Rattle.dates.specs.Date.{isTime, isDay, goodDay, goodClock}
+use Rattle.decimals.specs.Decimal.{isDecimal, wholeOf, placesOf, inRange}
 
 pub data Kind : Type 0 where
   text : ℕ → Kind  -- a string of 1 to n bytes
@@ -15,6 +16,7 @@ pub data Kind : Type 0 where
   Y/N : Kind  -- Y or N
   time : Kind  -- YYYYMMDD-HH:MM:SS, alone or with 3 or 6 decimals
   day : Kind  -- YYYYMMDD
+  decimal : Kind  -- a whole number from 0 to 999,999,999,999,999 and 0 to 8 places
   among : List Bytes → Kind  -- one of a list
 
 infix 75 number_to_
@@ -26,10 +28,11 @@ abbrev pub kinds : List (List ℕ × Kind)
 kinds =
     (7 ∷ 34 ∷ 36 ∷ 45 ∷ []) are number 1 to 999_999_999 ∷
     (16 ∷ []) are number 0 to 999_999_999 ∷
-    (108 ∷ 371 ∷ 373 ∷ 453 ∷ 580 ∷ 1409 ∷ []) are number 0 to 999_999_999 ∷
+    (108 ∷ 371 ∷ 373 ∷ 453 ∷ 552 ∷ 580 ∷ 1409 ∷ []) are number 0 to 999_999_999 ∷
     (43 ∷ 97 ∷ 123 ∷ 141 ∷ []) are Y/N ∷
     (52 ∷ 60 ∷ 122 ∷ []) are time ∷
-    (75 ∷ []) are day ∷
+    (64 ∷ 75 ∷ []) are day ∷
+    (31 ∷ 32 ∷ []) are decimal ∷
     (112 ∷ []) are text 64 ∷
     (58 ∷ []) are text 256 ∷
     []
@@ -52,6 +55,7 @@ formed (number a to b) v = isNumber v
 formed Y/N v = same v (fix "Y") || same v (fix "N")
 formed time v = isTime v
 formed day v = isDay v
+formed decimal v = isDecimal v
 formed (among l) v = true
 
 -- The value ("ranges, lists, string length, calendar").
@@ -61,4 +65,5 @@ allowed (number a to b) v = within a b (value v)
 allowed Y/N v = true
 allowed time v = goodDay v && goodClock v
 allowed day v = goodDay v
+allowed decimal v = inRange (wholeOf v) (length (placesOf v))
 allowed (among l) v = any (λ w. same v w) l

@@ -2,10 +2,12 @@
 use bytes::digits;
 use dates::judge_day;
 use dates::judge_time;
+use decimals::Decimal;
+use decimals::read_decimal;
 ghost use mathlib.Core.Path.{_≡_};
 ghost use mathlib.Core.List.{[], _∷_};
 ghost use Rattle.bytes.specs.Bytes.{same};
-ghost use Rattle.kinds.specs.Kind.{text, number_to_, Y/N, among};
+ghost use Rattle.kinds.specs.Kind.{text, number_to_, Y/N, decimal, among};
 ghost use Rattle.kinds.specs.Judged.{choices, meaning, judged, numberOf};
 
 // A kind as the dictionary's table holds it; specs/Judged.antt says which words each case stands for.
@@ -15,10 +17,11 @@ pub enum Kind {
     Flag,
     Time,
     Day,
+    Decimal,
     OneOf(Choice),
 }
 
-// The lists of values that document 01 has.
+// The lists of values that the documents have.
 pub enum Choice {
     Zero,
     Eight,
@@ -26,6 +29,8 @@ pub enum Choice {
     D,
     OneOrTwo,
     ZeroOr54,
+    ZeroOr54Or99,
+    Matches,
     Roles,
 }
 
@@ -84,6 +89,7 @@ pub fn judge(kind: Kind, v: &[u8]) -> u32
         Kind::Flag => judge_flag(v),
         Kind::Time => judge_time(v),
         Kind::Day => judge_day(v),
+        Kind::Decimal => judge_decimal(v),
         Kind::OneOf(list) => judge_choice(v, list),
     }
 }
@@ -129,6 +135,20 @@ fn judge_flag(v: &[u8]) -> u32
     6
 }
 
+// A decimal: its form, then its range.
+fn judge_decimal(v: &[u8]) -> u32
+    ensures { λ r. ⌜ r ≡ judged decimal (now (v .entry)) ⌝ }
+{
+    match read_decimal(v) {
+        Decimal::Is {
+            whole: _,
+            places: _,
+        } => 0,
+        Decimal::OutOfRange => 5,
+        Decimal::Bad => 6,
+    }
+}
+
 // The value is one of a list; any other is 5.
 fn judge_choice(v: &[u8], list: Choice) -> u32
     ensures { λ r. ⌜ r ≡ judged (among (choices list)) (now (v .entry)) ⌝ }
@@ -140,6 +160,8 @@ fn judge_choice(v: &[u8], list: Choice) -> u32
         Choice::D => judge_one(v, b'D'),
         Choice::OneOrTwo => judge_one_or_two(v),
         Choice::ZeroOr54 => judge_zero_or_54(v),
+        Choice::ZeroOr54Or99 => judge_zero_54_or_99(v),
+        Choice::Matches => judge_match(v),
         Choice::Roles => judge_role(v),
     }
 }
@@ -172,6 +194,39 @@ fn judge_zero_or_54(v: &[u8]) -> u32
         return 0;
     }
     if is_two(v, b'5', b'4') {
+        return 0;
+    }
+    5
+}
+
+fn judge_zero_54_or_99(v: &[u8]) -> u32
+    ensures { λ r. ⌜ r ≡ judged (among (choices Choice.ZeroOr54Or99)) (now (v .entry)) ⌝ }
+{
+    if is_one(v, b'0') {
+        return 0;
+    }
+    if is_two(v, b'5', b'4') {
+        return 0;
+    }
+    if is_two(v, b'9', b'9') {
+        return 0;
+    }
+    5
+}
+
+fn judge_match(v: &[u8]) -> u32
+    ensures { λ r. ⌜ r ≡ judged (among (choices Choice.Matches)) (now (v .entry)) ⌝ }
+{
+    if is_one(v, b'2') {
+        return 0;
+    }
+    if is_one(v, b'4') {
+        return 0;
+    }
+    if is_one(v, b'7') {
+        return 0;
+    }
+    if is_two(v, b'2', b'2') {
         return 0;
     }
     5

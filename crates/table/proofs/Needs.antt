@@ -13,7 +13,7 @@ use lib.Seq.{drop-cons}
 use Rattle.bytes.specs.Bytes.{has}
 use Rattle.bytes.proofs.Tests.{both}
 use Rattle.kinds.specs.Kind.{day}
-use Rattle.table.specs.Dictionary.{Row, №453, №580, header, fields}
+use Rattle.table.specs.Dictionary.{Row, №453, №580, №552, header, fields}
 use Rattle.table.specs.code.Held.{tagCount, rowCount, agree, tagAt, allRows, rowsIn, rightRow, rightRows, InRows, lackedBy, unmet, Lacking, Marked}
 use Rattle.table.proofs.Lists.{agree-true}
 
@@ -24,7 +24,7 @@ row-at d r (x ∷ l) (y ∷ rs) h zero n = both (rightRow x y) (rightRows l rs) 
 row-at d r (x ∷ l) (y ∷ rs) h (suc k) n = row-at d r l rs (both (rightRow x y) (rightRows l rs) h .1) k (omega arith)
 
 all-long : length allRows ≡ rowCount
-unfolding allRows header fields №453 №580
+unfolding allRows header fields №453 №580 №552
 all-long = refl
 
 -- one row further, or a tag that was not met

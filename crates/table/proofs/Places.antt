@@ -9,19 +9,19 @@ use mathlib.Core.Logic.{inl, inr}
 use lib.Dec.{eqb}
 use lib.ListN.{length, getD, drop, length-map}
 use Rattle.bytes.specs.Bytes.{Bytes, any, all, has, same}
-use Rattle.kinds.specs.Kind.{Kind, text, number_to_, Y/N, time, day, among}
+use Rattle.kinds.specs.Kind.{Kind, text, number_to_, Y/N, time, day, decimal, among}
 use Rattle.kinds.specs.Judged.{meaning}
 use Rattle.kinds.proofs.Values.{same-true}
-use Rattle.table.specs.Dictionary.{Group, №453, №580, groups, walked, header, fields, listed, kindIn, member, rowsOf, frameTag}
-use Rattle.table.specs.code.Held.{tagCount, allRows, tags, tagAt, Placed, index, bitOf, isNumeric, kindFor, written, sameAll, agree, rightIn, rightOf, right, entryOf, Table, Two, Right, Looked}
+use Rattle.table.specs.Dictionary.{Group, №453, №580, №552, groups, theTen, header, fields, listed, kindIn, member, rowsOf, frameTag}
+use Rattle.table.specs.code.Held.{tagCount, allRows, tags, tagAt, Placed, index, bitOf, isNumeric, kindFor, written, sameAll, agree, rightIn, rightOf, right, entryOf, Table, Three, Right, Looked}
 use Rattle.table.specs.declared.MsgType.{MsgType}
 use Rattle.table.specs.declared.lines.Entry.{Entry}
 use Rattle.table.specs.declared.lines.Line.{Line}
-use Rattle.table.proofs.Lists.{agree-true, all-walked}
+use Rattle.table.proofs.Lists.{agree-true, all-ten}
 use Rattle.bytes.proofs.Tests.{both, all-at, map-at, has-next}
 
 pub tags-long : length tags ≡ tagCount
-unfolding allRows tags header fields №453 №580
+unfolding allRows tags header fields №453 №580 №552
 tags-long = refl
 
 pub entry-tag : (t : List Line) (d : Line) (i : ℕ) → Table t → i < tagCount → getD t i d .0 ≡ tagAt i
@@ -38,7 +38,7 @@ place-next t d i x T h n =
     has-next tags i x (omega (arith, tags-long)) (λ e. n (entry-tag t d i T h ∙ e))
 
 pub place-none : (i x : ℕ) → i ≡ tagCount → has tags x ≡ has (drop i tags) x → Placed x i
-unfolding allRows tags header fields №453 №580
+unfolding allRows tags header fields №453 №580 №552
 place-none i x e h = record { within = omega arith; there = λ k. absurd (omega arith); absent = λ k. h ∙ ap (λ (n : ℕ). has (drop n tags) x) e }
 
 -- no two places have the same tag
@@ -57,7 +57,7 @@ in-place-at i (x ∷ l) h zero n = eqb-true (placeIn tags x) i (both (eqb (place
 in-place-at i (x ∷ l) h (suc k) n = in-place-at (1 + i) l (both (eqb (placeIn tags x) i) _ h .1) k (omega arith) ∙ omega arith
 
 in-place : inPlace 0 tags ≡ true
-unfolding inPlace placeIn allRows tags header fields №453 №580
+unfolding inPlace placeIn allRows tags header fields №453 №580 №552
 in-place = refl
 
 back : (p : ℕ) → p < tagCount → placeIn tags (tagAt p) ≡ p
@@ -75,7 +75,8 @@ kindFrom (h ∷ l) =
     (cond (eqb (getD h 0 0) 2) Y/N
     (cond (eqb (getD h 0 0) 3) time
     (cond (eqb (getD h 0 0) 4) day
-    (among l)))))
+    (cond (eqb (getD h 0 0) 6) decimal
+    (among l))))))
 
 from-written : (k : Kind) → kindFrom (written k) ≡ k
 unfolding kindFrom
@@ -84,6 +85,7 @@ from-written (number a to b) = refl
 from-written Y/N = refl
 from-written time = refl
 from-written day = refl
+from-written decimal = refl
 from-written (among l) = refl
 
 sameAll-true : (k l : List Bytes) → sameAll k l ≡ true → k ≡ l
@@ -101,12 +103,19 @@ or-not false b h e = absurd (false≢true e)
 
 in-message : (e : Entry) → right e ≡ true → (m : MsgType) → rightIn e m ≡ true
 unfolding right
-in-message e h = all-walked (rightIn e) (both (all (rightIn e) walked) _ h .0)
+in-message e h = all-ten (rightIn e) (both (all (rightIn e) theTen) _ h .0)
 
-in-groups : (e : Entry) → right e ≡ true → (g : Group) → Two g → rightOf e g ≡ true
+in-groups : (e : Entry) → right e ≡ true → (g : Group) → Three g → rightOf e g ≡ true
 unfolding right
-in-groups e h g (inl x) = rw x (both (rightOf e №453) _ (both (all (rightOf e) groups) _ (both (all (rightIn e) walked) _ h .1) .0) .0)
-in-groups e h g (inr x) = rw x (both (rightOf e №580) _ (both (rightOf e №453) _ (both (all (rightOf e) groups) _ (both (all (rightIn e) walked) _ h .1) .0) .1) .0)
+in-groups e h g three =
+    let all-three = both (all (rightOf e) groups) _ (both (all (rightIn e) theTen) _ h .1) .0 in
+    let later = both (rightOf e №453) _ all-three .1 in
+    one three (both (rightOf e №453) _ all-three .0) (both (rightOf e №580) _ later .0) (both (rightOf e №552) _ (both (rightOf e №580) _ later .1) .0)
+  where
+    one : Three g → rightOf e №453 ≡ true → rightOf e №580 ≡ true → rightOf e №552 ≡ true → rightOf e g ≡ true
+    one (inl x) a b c = rw x a
+    one (inr (inl x)) a b c = rw x b
+    one (inr (inr x)) a b c = rw x c
 
 module _ (e : Entry) (h : right e ≡ true) (m : MsgType) where
   out : Bool
@@ -133,7 +142,7 @@ right-is : (e : Entry) → right e ≡ true → Right e
 unfolding right rightOf out mem kin num
 right-is e h =
     let g = in-groups e h in
-    let h2 = both (all (rightOf e) groups) _ (both (all (rightIn e) walked) _ h .1) .1 in
+    let h2 = both (all (rightOf e) groups) _ (both (all (rightIn e) theTen) _ h .1) .1 in
     let h3 = both (agree (bitOf (e .marks) 28) (listed header (e .tag))) _ h2 .1 in
     let h4 = both (agree (bitOf (e .marks) 29) (frameTag (e .tag))) _ h3 .1 in
     record {

@@ -1,4 +1,4 @@
--- "The dictionary is one fixed table of tags with their kinds and messages. Y required, N optional."
+-- "The dictionary is one fixed table of tags with their kinds and messages. Y required, N optional." Document 02 adds the Trade Capture Report (AE).
 use Prim.Native.Nat.{ℕ}
 use Prim.Native.String.{String}
 use mathlib.Core.List.{List, [], _∷_, _++_}
@@ -11,7 +11,7 @@ use Rattle.kinds.specs.Kind.{Kind, text, number_to_, among, kindOf}
 use Rattle.table.specs.declared.MsgType.{MsgType}
 use Rattle.table.specs.declared.Named.{Named}
 use Rattle.table.specs.declared.Named.the-variants.{Of, Other}
-use Rattle.table.specs.declared.MsgType.the-variants.{Heartbeat, TestRequest, ResendRequest, Reject, SequenceReset, Logout, Logon, OrderCancelRequest, TradeCaptureReportRequest}
+use Rattle.table.specs.declared.MsgType.the-variants.{Heartbeat, TestRequest, ResendRequest, Reject, SequenceReset, Logout, Logon, OrderCancelRequest, TradeCaptureReportRequest, TradeCaptureReport}
 
 pub record Row : Type 0 where
   pub tag : ℕ
@@ -56,28 +56,30 @@ abbrev pub group_N : Group → Row
 group_N g = row (g .counter) (number 1 to (g .most)) false
 
 -- "Group 453, 1 to 8 times: 448 Y, 447 {D} Y, 452 {1, 3, 12, 17, 76} Y. Group 580, once or twice: 75 Y, 60 N." (They stand first, since the
--- lines of F and AD name them.)
+-- lines of F, AD and AE name them.)
 unfoldable pub №453 : Group
 №453 = record { counter = 453; most = 8; members = 448 Y ∷ 447 of "D" Y ∷ 452 of "1,3,12,17,76" Y ∷ [] }
 
 unfoldable pub №580 : Group
 №580 = record { counter = 580; most = 2; members = 75 Y ∷ 60 N ∷ [] }
 
+-- "group 552, exactly once, of 54 and, both optional, 1427 and group 453": a group in a group is a member row that is the count of one
+unfoldable pub №552 : Group
+№552 = record { counter = 552; most = 1; members = 54 of "1,2" Y ∷ 1427 N ∷ group №453 N ∷ [] }
+
 abbrev pub groups : List Group
-groups = №453 ∷ №580 ∷ []
+groups = №453 ∷ №580 ∷ №552 ∷ []
 
 -- "Header: 35 Y, 49 Y, 56 Y, 34 Y, 52 Y, 43 N, 97 N, 122 N, 1128 {9} N."
 unfoldable pub header : List Row
 header = 35 Y ∷ 49 Y ∷ 56 Y ∷ 34 Y ∷ 52 Y ∷ 43 N ∷ 97 N ∷ 122 N ∷ 1128 of "9" N ∷ []
 
--- The nine message types, in the document's order: those that a Reject's 372 may name, ..
-abbrev pub theNine : List MsgType
-theNine =
-    Heartbeat ∷ TestRequest ∷ ResendRequest ∷ Reject ∷ SequenceReset ∷ Logout ∷ Logon ∷ OrderCancelRequest ∷ TradeCaptureReportRequest ∷ []
+-- The nine message types, in the document's order, and "AE as a tenth type, walked as AD and F are". A Reject's 372 may name any of them.
+abbrev pub theTen : List MsgType
+theTen =
+    Heartbeat ∷ TestRequest ∷ ResendRequest ∷ Reject ∷ SequenceReset ∷ Logout ∷ Logon ∷ OrderCancelRequest ∷ TradeCaptureReportRequest ∷ TradeCaptureReport ∷ []
 
--- .. and those that are walked: what stands behind `35=`, and the fields of each.
-abbrev pub walked : List MsgType
-walked = theNine
+-- What stands behind `35=`, and the fields of each.
 
 unfoldable pub code35 : MsgType → Bytes
 code35 Heartbeat = fix "0"
@@ -89,6 +91,7 @@ code35 Logout = fix "5"
 code35 Logon = fix "A"
 code35 OrderCancelRequest = fix "F"
 code35 TradeCaptureReportRequest = fix "AD"
+code35 TradeCaptureReport = fix "AE"
 
 unfoldable pub fields : MsgType → List Row
 fields Heartbeat = 112 N ∷ []
@@ -101,14 +104,16 @@ fields Logon = 98 of "0" Y ∷ 108 from 1 to 60 Y ∷ 1137 of "9" Y ∷ 141 N �
 fields OrderCancelRequest = 11 Y ∷ 41 Y ∷ 54 of "1,2" Y ∷ 48 Y ∷ 22 of "8" Y ∷ 60 Y ∷ group №453 N ∷ []
 fields TradeCaptureReportRequest =
     568 Y ∷ 569 of "0" Y ∷ 263 of "0" N ∷ 828 of "0,54" N ∷ group №453 N ∷ 22 of "8" Y ∷ 48 Y ∷ group №580 Y ∷ 58 N ∷ 1041 N ∷ []
+fields TradeCaptureReport =
+    571 Y ∷ 828 of "0,54,99" Y ∷ 60 Y ∷ 32 Y ∷ 31 Y ∷ 64 N ∷ 574 of "2,4,7,22" Y ∷ 48 Y ∷ 22 of "8" Y ∷ group №552 Y ∷ []
 
--- "MsgType outside the nine": the one of the nine that a value of 35 names, if it does
+-- "MsgType outside the nine", which are ten now: the one of them that a value of 35 names, if it does
 abbrev pub typeAmong : List MsgType → Bytes → Option MsgType
 typeAmong [] v = none
 typeAmong (m ∷ ms) v = cond (same v (code35 m)) (some m) (typeAmong ms v)
 
 unfoldable pub typeOf : Bytes → Option MsgType
-typeOf v = typeAmong walked v
+typeOf v = typeAmong theTen v
 
 -- the code's answer for it, and what such an answer stands for
 abbrev pub named : Option MsgType → Named
@@ -119,9 +124,9 @@ abbrev pub typeIs : Named → Option MsgType
 typeIs (Of m) = some m
 typeIs Other = none
 
--- AD and F are application messages, the others administrative
+-- AD and F are application messages, and AE is "walked as AD and F are"; the others are administrative
 unfoldable pub administrative : MsgType → Bool
-administrative m = not (same (code35 m) (fix "AD") || same (code35 m) (fix "F"))
+administrative m = not (same (code35 m) (fix "AD") || same (code35 m) (fix "F") || same (code35 m) (fix "AE"))
 
 -- What the lines say of a tag.
 abbrev pub listed : List Row → ℕ → Bool
@@ -140,7 +145,8 @@ abbrev pub allMembers : List Group → List Row
 allMembers [] = []
 allMembers (g ∷ gs) = g .members ++ allMembers gs
 
--- the groups of a message are those whose count field it lists, or one of its groups does, three levels down (in document 01 none does)
+-- "A group may hold groups, which hold fields again, down to three levels": the groups of a message are those whose count field it lists, or one of
+-- its groups does, three levels down
 abbrev pub deeper : List Row → List Group → List Group
 deeper rows gs = groupsAmong groups (rows ++ allMembers gs)
 
@@ -160,4 +166,4 @@ abbrev pub frameTag : ℕ → Bool
 frameTag t = has (8 ∷ 9 ∷ 10 ∷ []) t
 
 unfoldable pub inDictionary : ℕ → Bool
-inDictionary t = frameTag t || any (λ m. listed (rowsOf m) t) walked
+inDictionary t = frameTag t || any (λ m. listed (rowsOf m) t) theTen

@@ -1,6 +1,6 @@
 // The dictionary as data: the message types, and the constant table and rows that are held to the document's lists.
 
-// The nine message types.
+// The ten message types.
 pub enum MsgType {
     Heartbeat,
     TestRequest,
@@ -11,9 +11,10 @@ pub enum MsgType {
     Logon,
     OrderCancelRequest,
     TradeCaptureReportRequest,
+    TradeCaptureReport,
 }
 
-// One of the nine message types, or another.
+// One of the ten message types, or another.
 pub enum Named {
     Of(MsgType),
     Other,

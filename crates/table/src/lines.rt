@@ -4,7 +4,7 @@ use kinds::Choice;
 use kinds::Kind;
 ghost use mathlib.Core.Path.{_≡_};
 ghost use Prim.Native.Nat.{_<_};
-ghost use Rattle.table.specs.code.Held.{tagCount, tagAt, entryOf, kindFor, Table, Placed};
+ghost use Rattle.table.specs.code.Held.{tagCount, tagAt, entryOf, tradeTypes, kindFor, Table, Placed};
 
 // A tag's line of the dictionary: the number of its kind; the messages that have it outside groups; and the group that has it as a member.
 pub struct Entry {
@@ -41,7 +41,9 @@ const IN_F: u32 = 128;
 
 const IN_AD: u32 = 256;
 
-const IN_ALL: u32 = 511;
+const IN_AE: u32 = 512;
+
+const IN_ALL: u32 = 1023;
 
 const HEADER: u32 = IN_ALL + 268435456;
 
@@ -52,9 +54,11 @@ const COUNT: u32 = 1073741824;
 const FIRST: u32 = 2147483648;
 
 // The messages that have a group.
-const WITH_453: u32 = IN_F + IN_AD;
+const WITH_453: u32 = IN_F + IN_AD + IN_AE;
 
 const WITH_580: u32 = IN_AD;
+
+const WITH_552: u32 = IN_AE;
 
 // The kinds of values by their numbers.
 const STRING: u32 = 0;
@@ -91,9 +95,33 @@ const ONE_OR_TWO: u32 = 15;
 
 const ZERO_OR_54: u32 = 16;
 
-const ROLES: u32 = 17;
+const ONCE: u32 = 17;
 
-// The kind of an entry's values in a message. (In document 01 a tag has the same kind in all of its messages.)
+const DECIMAL: u32 = 18;
+
+const MATCHES: u32 = 19;
+
+const ROLES: u32 = 20;
+
+// The list of 828, which has one value more in a Trade Capture Report than in the request for it.
+fn trade_types(m: MsgType) -> Choice
+    ensures { λ r. ⌜ r ≡ tradeTypes m ⌝ }
+{
+    match m {
+        MsgType::Heartbeat => Choice::ZeroOr54,
+        MsgType::TestRequest => Choice::ZeroOr54,
+        MsgType::ResendRequest => Choice::ZeroOr54,
+        MsgType::Reject => Choice::ZeroOr54,
+        MsgType::SequenceReset => Choice::ZeroOr54,
+        MsgType::Logout => Choice::ZeroOr54,
+        MsgType::Logon => Choice::ZeroOr54,
+        MsgType::OrderCancelRequest => Choice::ZeroOr54,
+        MsgType::TradeCaptureReportRequest => Choice::ZeroOr54,
+        MsgType::TradeCaptureReport => Choice::ZeroOr54Or99,
+    }
+}
+
+// The kind of an entry's values in a message. (828 apart, a tag has the same kind in all of its messages.)
 pub fn kind_of(e: Entry, m: MsgType) -> Kind
     ensures { λ r. ⌜ r ≡ kindFor m (e .kind) ⌝ }
 {
@@ -121,7 +149,10 @@ pub fn kind_of(e: Entry, m: MsgType) -> Kind
         NINE => Kind::OneOf(Choice::Nine),
         D => Kind::OneOf(Choice::D),
         ONE_OR_TWO => Kind::OneOf(Choice::OneOrTwo),
-        ZERO_OR_54 => Kind::OneOf(Choice::ZeroOr54),
+        ZERO_OR_54 => Kind::OneOf(trade_types(m)),
+        ONCE => Kind::Number { least: 1, most: 1 },
+        DECIMAL => Kind::Decimal,
+        MATCHES => Kind::OneOf(Choice::Matches),
         _ => Kind::OneOf(Choice::Roles),
     }
 }
@@ -148,7 +179,7 @@ pub fn entry_of(line: Line) -> Entry
 }
 
 // How many tags there are.
-pub const TAGS: usize = 44;
+pub const TAGS: usize = 51;
 
 // The tags of the frame, then those of the lists below as they come; a line's place is also the place of its tag's mark.
 const TABLE: [Line; TAGS] = [
@@ -181,21 +212,28 @@ const TABLE: [Line; TAGS] = [
     Line(141, FLAG, IN_A, 0, 0),
     Line(11, STRING, IN_F, 0, 0),
     Line(41, STRING, IN_F, 0, 0),
-    Line(54, ONE_OR_TWO, IN_F, 0, 0),
-    Line(48, STRING, IN_F + IN_AD, 0, 0),
-    Line(22, EIGHT, IN_F + IN_AD, 0, 0),
-    Line(60, TIME, IN_F, WITH_580, 580),
-    Line(453, UP_TO_8, WITH_453 + COUNT, 0, 0),
+    Line(54, ONE_OR_TWO, IN_F + FIRST, WITH_552, 552),
+    Line(48, STRING, IN_F + IN_AD + IN_AE, 0, 0),
+    Line(22, EIGHT, IN_F + IN_AD + IN_AE, 0, 0),
+    Line(60, TIME, IN_F + IN_AE, WITH_580, 580),
+    Line(453, UP_TO_8, IN_F + IN_AD + COUNT, WITH_552, 552),
     Line(568, STRING, IN_AD, 0, 0),
     Line(569, ZERO, IN_AD, 0, 0),
     Line(263, ZERO, IN_AD, 0, 0),
-    Line(828, ZERO_OR_54, IN_AD, 0, 0),
+    Line(828, ZERO_OR_54, IN_AD + IN_AE, 0, 0),
     Line(580, UP_TO_2, WITH_580 + COUNT, 0, 0),
     Line(1041, STRING, IN_AD, 0, 0),
     Line(448, STRING, FIRST, WITH_453, 453),
     Line(447, D, 0, WITH_453, 453),
     Line(452, ROLES, 0, WITH_453, 453),
     Line(75, DAY, FIRST, WITH_580, 580),
+    Line(571, STRING, IN_AE, 0, 0),
+    Line(32, DECIMAL, IN_AE, 0, 0),
+    Line(31, DECIMAL, IN_AE, 0, 0),
+    Line(64, DAY, IN_AE, 0, 0),
+    Line(574, MATCHES, IN_AE, 0, 0),
+    Line(552, ONCE, WITH_552 + COUNT, 0, 0),
+    Line(1427, STRING, 0, WITH_552, 552),
 ];
 
 // The one function that names the table: whoever looks into it takes it into a local, once.

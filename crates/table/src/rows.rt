@@ -71,6 +71,21 @@ const ROWS: [u8; AT_END] = [
     // group 580: 75, 60
     Y + 43,
     32,
+    // AE: 571, 828, 60, 32, 31, 64, 574, 48, 22, 552
+    Y + 44,
+    Y + 37,
+    Y + 32,
+    Y + 45,
+    Y + 46,
+    47,
+    Y + 48,
+    Y + 30,
+    Y + 31,
+    Y + 49,
+    // group 552: 54, 1427, 453
+    Y + 29,
+    50,
+    33,
 ];
 
 fn rows() -> [u8; AT_END]
@@ -102,7 +117,11 @@ const AT_453: usize = AT_AD + 10;
 
 const AT_580: usize = AT_453 + 3;
 
-const AT_END: usize = AT_580 + 2;
+const AT_AE: usize = AT_580 + 2;
+
+const AT_552: usize = AT_AE + 10;
+
+const AT_END: usize = AT_552 + 3;
 
 // The place of the first required tag of some rows that is not marked, or the number of tags.
 fn lacking(t: &[u8; AT_END], marks: &[bool; 128], from: usize, to: usize) -> usize
@@ -156,6 +175,7 @@ pub fn lacking_own(marks: &[bool; 128], m: MsgType) -> usize
         MsgType::Logon => lacking(&t, marks, AT_A, AT_F),
         MsgType::OrderCancelRequest => lacking(&t, marks, AT_F, AT_AD),
         MsgType::TradeCaptureReportRequest => lacking(&t, marks, AT_AD, AT_453),
+        MsgType::TradeCaptureReport => lacking(&t, marks, AT_AE, AT_552),
     }
 }
 
@@ -167,5 +187,8 @@ pub fn lacking_member(marks: &[bool; 128], group: u32) -> usize
     if group == 453 {
         return lacking(&t, marks, AT_453, AT_580);
     }
-    lacking(&t, marks, AT_580, AT_END)
+    if group == 580 {
+        return lacking(&t, marks, AT_580, AT_AE);
+    }
+    lacking(&t, marks, AT_552, AT_END)
 }

@@ -24,7 +24,10 @@ returns-5 : tie.Need-returns-5
 returns-5 c = c .judge-day .ensures ∙ day-judged (now (c .before .before .before .before .args .v)) ∙ sym (ap (λ (k : Kind). judged (meaning k) (now (c .before .before .before .before .args .v))) (c .before .enum-told3 .given .1))
 
 returns-6 : tie.Need-returns-6
-returns-6 c = c .judge-choice .ensures ∙ sym (ap (λ (k : Kind). judged (meaning k) (now (c .before .before .before .before .before .args .v))) (c .before .before .kind3 .given .1))
+returns-6 c = c .judge-decimal .ensures ∙ sym (ap (λ (k : Kind). judged (meaning k) (now (c .before .before .before .before .args .v))) (c .before .enum-told4 .given .1))
+
+returns-7 : tie.Need-returns-7
+returns-7 c = c .judge-choice .ensures ∙ sym (ap (λ (k : Kind). judged (meaning k) (now (c .before .before .before .before .before .args .v))) (c .before .before .kind3 .given .1))
 
 pub judge-spec : {M : Type 1} → statement M
 judge-spec =
@@ -42,9 +45,12 @@ judge-spec =
     (λ c κs. search needs)
     (λ c. search needs)
     (λ c κs. search needs)
+    (λ c. search needs)
+    (λ c κs. search needs)
     returns
     returns-2
     returns-3
     returns-4
     returns-5
-    returns-6)
+    returns-6
+    returns-7)

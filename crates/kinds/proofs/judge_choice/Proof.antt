@@ -27,12 +27,22 @@ returns-6 : tie.Need-returns-6
 returns-6 c = c .judge-zero-or-54 .ensures ∙ sym (ap (λ (l : Choice). judged (among (choices l)) (now (c .before .before .before .before .args .v))) (c .before .enum-told6 .given .1))
 
 returns-7 : tie.Need-returns-7
-returns-7 c = c .judge-role .ensures ∙ sym (ap (λ (l : Choice). judged (among (choices l)) (now (c .before .before .before .before .args .v))) (c .before .enum-told7 .given .1))
+returns-7 c = c .judge-zero-54-or-99 .ensures ∙ sym (ap (λ (l : Choice). judged (among (choices l)) (now (c .before .before .before .before .args .v))) (c .before .enum-told7 .given .1))
+
+returns-8 : tie.Need-returns-8
+returns-8 c = c .judge-match .ensures ∙ sym (ap (λ (l : Choice). judged (among (choices l)) (now (c .before .before .before .before .args .v))) (c .before .enum-told8 .given .1))
+
+returns-9 : tie.Need-returns-9
+returns-9 c = c .judge-role .ensures ∙ sym (ap (λ (l : Choice). judged (among (choices l)) (now (c .before .before .before .before .args .v))) (c .before .enum-told9 .given .1))
 
 pub judge-choice-spec : {M : Type 1} → statement M
 judge-choice-spec =
     tie.close
     (tie.spec
+    (λ c. search needs)
+    (λ c κs. search needs)
+    (λ c. search needs)
+    (λ c κs. search needs)
     (λ c. search needs)
     (λ c κs. search needs)
     (λ c. search needs)
@@ -53,4 +63,6 @@ judge-choice-spec =
     returns-4
     returns-5
     returns-6
-    returns-7)
+    returns-7
+    returns-8
+    returns-9)

@@ -8,18 +8,19 @@ use mathlib.Core.Option.{Option, none, some}
 use lib.Dec.{eqb, leb, ltb}
 use lib.ListN.{length, take, drop, getD}
 use Rattle.bytes.specs.Bytes.{Bytes, any, all, has, same}
-use Rattle.kinds.specs.Kind.{Kind, text, number_to_, Y/N, time, day, among}
+use Rattle.kinds.specs.Kind.{Kind, text, number_to_, Y/N, time, day, decimal, among}
 use Rattle.kinds.specs.Judged.{meaning}
 use Rattle.kinds.specs.declared.Kind as Code
-use Rattle.kinds.specs.declared.Kind.the-variants.{Text, Number, Flag, Time, Day, OneOf}
-use Rattle.kinds.specs.declared.Choice.the-variants.{Zero, Eight, Nine, D, OneOrTwo, ZeroOr54, Roles}
-use Rattle.table.specs.Dictionary.{Row, Group, groups, №453, №580, walked, header, fields, listed, kindIn, member, rowsOf, frameTag}
+use Rattle.kinds.specs.declared.Kind.the-variants.{Text, Number, Flag, Time, Day, Decimal, OneOf}
+use Rattle.kinds.specs.declared.Choice.{Choice}
+use Rattle.kinds.specs.declared.Choice.the-variants.{Zero, Eight, Nine, D, OneOrTwo, ZeroOr54, ZeroOr54Or99, Matches, Roles}
+use Rattle.table.specs.Dictionary.{Row, Group, groups, №453, №580, №552, theTen, header, fields, listed, kindIn, member, rowsOf, frameTag}
 use Rattle.table.specs.declared.MsgType.{MsgType}
-use Rattle.table.specs.declared.MsgType.the-variants.{Heartbeat, TestRequest, ResendRequest, Reject, SequenceReset, Logout, Logon, OrderCancelRequest, TradeCaptureReportRequest}
+use Rattle.table.specs.declared.MsgType.the-variants.{Heartbeat, TestRequest, ResendRequest, Reject, SequenceReset, Logout, Logon, OrderCancelRequest, TradeCaptureReportRequest, TradeCaptureReport}
 use Rattle.table.specs.declared.lines.Entry.{Entry}
 use Rattle.table.specs.declared.lines.Line.{Line}
 
--- THE TABLE. All rows of the document's lists, in its order, ..
+-- THE TABLE. All rows of the documents' lists, those of document 02 last, ..
 unfoldable pub allRows : List Row
 allRows =
     header ++
@@ -33,7 +34,9 @@ allRows =
     fields OrderCancelRequest ++
     fields TradeCaptureReportRequest ++
     №453 .members ++
-    №580 .members
+    №580 .members ++
+    fields TradeCaptureReport ++
+    №552 .members
 
 -- .. and the dictionary's tags, those of the frame first and then as the rows have them, each once: the place of a tag here is the place of its
 -- entry and of its mark.
@@ -46,10 +49,10 @@ tags = once (8 ∷ 9 ∷ 10 ∷ []) (map (λ (r : Row). r .tag) allRows)
 
 -- how many there are of both
 abbrev pub rowCount : ℕ
-rowCount = 48
+rowCount = 61
 
 abbrev pub tagCount : ℕ
-tagCount = 44
+tagCount = 51
 
 abbrev pub tagAt : ℕ → ℕ
 tagAt p = getD tags p 0
@@ -71,10 +74,11 @@ index Logout = 5
 index Logon = 6
 index OrderCancelRequest = 7
 index TradeCaptureReportRequest = 8
+index TradeCaptureReport = 9
 
 pub record Index (m : MsgType) (r : ℕ) : Type 0 where
   pub is : r ≡ index m
-  pub small : r < 9
+  pub small : r < 10
 
 unfoldable pub bitOf : ℕ → ℕ → Bool
 bitOf marks k = eqb (marks / (2 ^ k) % 2) 1
@@ -86,6 +90,7 @@ written (number a to b) = (1 ∷ a ∷ b ∷ []) ∷ []
 written Y/N = (2 ∷ []) ∷ []
 written time = (3 ∷ []) ∷ []
 written day = (4 ∷ []) ∷ []
+written decimal = (6 ∷ []) ∷ []
 written (among l) = (5 ∷ []) ∷ l
 
 abbrev pub isNumeric : Kind → Bool
@@ -94,6 +99,7 @@ isNumeric (number a to b) = true
 isNumeric Y/N = false
 isNumeric time = false
 isNumeric day = false
+isNumeric decimal = false
 isNumeric (among l) = false
 
 abbrev pub sameAll : List Bytes → List Bytes → Bool
@@ -106,7 +112,10 @@ abbrev pub agree : Bool → Bool → Bool
 agree true b = b
 agree false b = not b
 
--- The code's kinds by their numbers, in a message.
+-- The list of 828, and the code's kinds by their numbers, in a message.
+unfoldable pub tradeTypes : MsgType → Choice
+tradeTypes m = cond (eqb (index m) 9) ZeroOr54Or99 ZeroOr54
+
 unfoldable pub kindFor : MsgType → ℕ → Code.Kind
 kindFor m n =
     cond (eqb n 0) (Text 32)
@@ -125,8 +134,11 @@ kindFor m n =
     (cond (eqb n 13) (OneOf Nine)
     (cond (eqb n 14) (OneOf D)
     (cond (eqb n 15) (OneOf OneOrTwo)
-    (cond (eqb n 16) (OneOf ZeroOr54)
-    (OneOf Roles)))))))))))))))))
+    (cond (eqb n 16) (OneOf (tradeTypes m))
+    (cond (eqb n 17) (Number 1 1)
+    (cond (eqb n 18) Decimal
+    (cond (eqb n 19) (OneOf Matches)
+    (OneOf Roles))))))))))))))))))))
 
 -- An entry says of its tag what the document's lists say: in each message, ..
 unfoldable pub rightIn : Entry → MsgType → Bool
@@ -149,7 +161,7 @@ rightOf e g =
 -- .. of the header, of the frame's tags and of the counts of groups.
 unfoldable pub right : Entry → Bool
 right e =
-    all (rightIn e) walked
+    all (rightIn e) theTen
     && (all (rightOf e) groups
     && (agree (bitOf (e .marks) 28) (listed header (e .tag))
     && (agree (bitOf (e .marks) 29) (frameTag (e .tag))
@@ -164,17 +176,17 @@ pub record Table (t : List Line) : Type 0 where
   pub order : map (λ (l : Line). l .0) t ≡ tags
   pub rights : all (λ (l : Line). right (entryOf l)) t ≡ true
 
--- one of the two groups
-abbrev pub Two : Group → Type 0
-Two g = (g ≡ №453) ⊎ (g ≡ №580)
+-- one of the three groups
+abbrev pub Three : Group → Type 0
+Three g = (g ≡ №453) ⊎ ((g ≡ №580) ⊎ (g ≡ №552))
 
 -- what an entry says, once the test is passed
 pub record Right (e : Entry) : Type 0 where
   pub outside-in : (m : MsgType) → bitOf (e .marks) (index m) ≡ listed (header ++ fields m) (e .tag)
   pub member-in : (m : MsgType) → bitOf (e .member .marks) (index m) ≡ member m (e .tag)
   pub kind-in : (m : MsgType) → listed (rowsOf m) (e .tag) ≡ true → meaning (kindFor m (e .kind)) ≡ kindIn (rowsOf m) (e .tag)
-  pub member-of : (g : Group) → Two g → eqb (g .counter) (e .member .group) ≡ listed (g .members) (e .tag)
-  pub first-of : (g : Group) → Two g → (eqb (g .counter) (e .member .group) && e .member .first) ≡ leads (g .members) (e .tag)
+  pub member-of : (g : Group) → Three g → eqb (g .counter) (e .member .group) ≡ listed (g .members) (e .tag)
+  pub first-of : (g : Group) → Three g → (eqb (g .counter) (e .member .group) && e .member .first) ≡ leads (g .members) (e .tag)
   pub in-header : bitOf (e .marks) 28 ≡ listed header (e .tag)
   pub in-frame : bitOf (e .marks) 29 ≡ frameTag (e .tag)
   pub counts : bitOf (e .marks) 30 ≡ any (λ g. eqb (g .counter) (e .tag)) groups
@@ -205,7 +217,7 @@ abbrev pub rowsIn : ℕ → ℕ → List Row
 rowsIn a e = take (e - a) (drop a allRows)
 
 abbrev pub membersOf : ℕ → List Row
-membersOf g = cond (eqb g 453) (№453 .members) (№580 .members)
+membersOf g = cond (eqb g 453) (№453 .members) (cond (eqb g 580) (№580 .members) (№552 .members))
 
 -- MARKS. A mark stands at the place of each tag that was met, and at no other.
 pub record Marked (marks : List Bool) (met : List ℕ) : Type 0 where

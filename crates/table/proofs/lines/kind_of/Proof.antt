@@ -1,4 +1,5 @@
 -- The kind of a number.
+use borrow.Author.Needs.{needs}
 use borrow.Author.Tests.{ne-eqb}
 use Rattle.table.specs.code.Held.{kindFor}
 use Rattle.table.proofs.lines.kind_of.Statement.{statement}
@@ -70,18 +71,31 @@ returns-16 c = rw (c .match .keys16)
 
 returns-17 : tie.Need-returns-17
 unfolding kindFor
-returns-17 c = rw (c .match .keys17)
+returns-17 c = rw (c .before .match .keys17, c .trade-types .ensures)
 
 returns-18 : tie.Need-returns-18
 unfolding kindFor
-returns-18 c =
+returns-18 c = rw (c .match .keys18)
+
+returns-19 : tie.Need-returns-19
+unfolding kindFor
+returns-19 c = rw (c .match .keys19)
+
+returns-20 : tie.Need-returns-20
+unfolding kindFor
+returns-20 c = rw (c .match .keys20)
+
+returns-21 : tie.Need-returns-21
+unfolding kindFor
+returns-21 c =
     let r = c .match .rest in
-    rw (ne-eqb _ 0 (r .0 .0 .0 .0 .0 .0 .0 .0 .0 .0 .0 .0 .0 .0 .0 .0 .1), ne-eqb _ 1 (r .0 .0 .0 .0 .0 .0 .0 .0 .0 .0 .0 .0 .0 .0 .0 .1), ne-eqb _ 2 (r .0 .0 .0 .0 .0 .0 .0 .0 .0 .0 .0 .0 .0 .0 .1), ne-eqb _ 3 (r .0 .0 .0 .0 .0 .0 .0 .0 .0 .0 .0 .0 .0 .1), ne-eqb _ 4 (r .0 .0 .0 .0 .0 .0 .0 .0 .0 .0 .0 .0 .1), ne-eqb _ 5 (r .0 .0 .0 .0 .0 .0 .0 .0 .0 .0 .0 .1), ne-eqb _ 6 (r .0 .0 .0 .0 .0 .0 .0 .0 .0 .0 .1), ne-eqb _ 7 (r .0 .0 .0 .0 .0 .0 .0 .0 .0 .1), ne-eqb _ 8 (r .0 .0 .0 .0 .0 .0 .0 .0 .1), ne-eqb _ 9 (r .0 .0 .0 .0 .0 .0 .0 .1), ne-eqb _ 10 (r .0 .0 .0 .0 .0 .0 .1), ne-eqb _ 11 (r .0 .0 .0 .0 .0 .1), ne-eqb _ 12 (r .0 .0 .0 .0 .1), ne-eqb _ 13 (r .0 .0 .0 .1), ne-eqb _ 14 (r .0 .0 .1), ne-eqb _ 15 (r .0 .1), ne-eqb _ 16 (r .1))
+    rw (ne-eqb _ 0 (r .0 .0 .0 .0 .0 .0 .0 .0 .0 .0 .0 .0 .0 .0 .0 .0 .0 .0 .0 .1), ne-eqb _ 1 (r .0 .0 .0 .0 .0 .0 .0 .0 .0 .0 .0 .0 .0 .0 .0 .0 .0 .0 .1), ne-eqb _ 2 (r .0 .0 .0 .0 .0 .0 .0 .0 .0 .0 .0 .0 .0 .0 .0 .0 .0 .1), ne-eqb _ 3 (r .0 .0 .0 .0 .0 .0 .0 .0 .0 .0 .0 .0 .0 .0 .0 .0 .1), ne-eqb _ 4 (r .0 .0 .0 .0 .0 .0 .0 .0 .0 .0 .0 .0 .0 .0 .0 .1), ne-eqb _ 5 (r .0 .0 .0 .0 .0 .0 .0 .0 .0 .0 .0 .0 .0 .0 .1), ne-eqb _ 6 (r .0 .0 .0 .0 .0 .0 .0 .0 .0 .0 .0 .0 .0 .1), ne-eqb _ 7 (r .0 .0 .0 .0 .0 .0 .0 .0 .0 .0 .0 .0 .1), ne-eqb _ 8 (r .0 .0 .0 .0 .0 .0 .0 .0 .0 .0 .0 .1), ne-eqb _ 9 (r .0 .0 .0 .0 .0 .0 .0 .0 .0 .0 .1), ne-eqb _ 10 (r .0 .0 .0 .0 .0 .0 .0 .0 .0 .1), ne-eqb _ 11 (r .0 .0 .0 .0 .0 .0 .0 .0 .1), ne-eqb _ 12 (r .0 .0 .0 .0 .0 .0 .0 .1), ne-eqb _ 13 (r .0 .0 .0 .0 .0 .0 .1), ne-eqb _ 14 (r .0 .0 .0 .0 .0 .1), ne-eqb _ 15 (r .0 .0 .0 .0 .1), ne-eqb _ 16 (r .0 .0 .0 .1), ne-eqb _ 17 (r .0 .0 .1), ne-eqb _ 18 (r .0 .1), ne-eqb _ 19 (r .1))
 
 pub kind-of-spec : {M : Type 1} → statement M
 kind-of-spec =
     tie.close
     (tie.spec
+    (λ c κs. search needs)
     returns
     returns-2
     returns-3
@@ -99,4 +113,7 @@ kind-of-spec =
     returns-15
     returns-16
     returns-17
-    returns-18)
+    returns-18
+    returns-19
+    returns-20
+    returns-21)
