@@ -13,7 +13,7 @@ use lib.ListN.{length, drop}
 use Rattle.bytes.specs.Bytes.{Bytes, all, has, starts, within}
 use Rattle.fields.specs.Field.{Part, field, malformed, partOf, parts, firstOfParts, firstField, isBody}
 use Rattle.fields.proofs.Firsts.{tagged, starts-append, tag-part, part-split}
-use Rattle.table.specs.Dictionary.{Row, №453, №580, walked, header, fields, rowsOf, listed, administrative, inDictionary}
+use Rattle.table.specs.Dictionary.{Row, №453, №580, №552, theTen, header, fields, rowsOf, listed, administrative, inDictionary}
 use Rattle.dictionary.specs.Verdict.{Open, Past, _when_, firstOf, missing, closingAll, left, rule1, rule2, rule4, rule6, rule9, rule10, said, skipped, taken, after, verdictBy, walk, nothingYet, msgType, judgedAs, verdict}
 use Rattle.table.specs.declared.MsgType.{MsgType}
 use Rattle.dictionary.specs.declared.Says.{Says}
@@ -24,7 +24,7 @@ use Rattle.dictionary.specs.Promise.{OfKind, required, Passed, PassedPar
 use Rattle.table.specs.code.Held.{allRows, tags}
 use Rattle.bytes.proofs.Numerals.{within-is}
 use Rattle.bytes.proofs.Tests.{both}
-use Rattle.table.proofs.Lists.{all-walked}
+use Rattle.table.proofs.Lists.{all-ten}
 use Rattle.dictionary.proofs.Saying.{unknown-tag}
 use Rattle.dictionary.proofs.Turns.{silent, silent-at, unknown-skipped}
 
@@ -211,8 +211,8 @@ required-tag (r ∷ rows) t h k = let w = both (tagged-row r) (all tagged-row ro
     go false true e k l f = f k
     go false false e k l f = f k
 
-rows-tagged : all (λ (m : MsgType). all tagged-row (header ++ fields m)) walked ≡ true
-unfolding header fields №453 №580
+rows-tagged : all (λ (m : MsgType). all tagged-row (header ++ fields m)) theTen ≡ true
+unfolding header fields №453 №580 №552
 rows-tagged = refl
 
 listed-tag : (l : List ℕ) (t : ℕ) → all (within 1 99_999) l ≡ true → has l t ≡ true → within 1 99_999 t ≡ true
@@ -224,7 +224,7 @@ listed-tag (x ∷ l) t h k = let w = both (within 1 99_999 x) (all (within 1 99_
     go false e k f g = f k
 
 known-tagged : (t : ℕ) → inDictionary t ≡ true → within 1 99_999 t ≡ true
-unfolding allRows tags header fields №453 №580
+unfolding allRows tags header fields №453 №580 №552
 known-tagged t h = listed-tag tags t refl (go (has tags t) refl)
   where
     go : (b : Bool) → has tags t ≡ b → b ≡ true
@@ -241,5 +241,5 @@ clean-body body h =
       named = y .1;
       passed = clean-passed m body h (y .1);
       of-kind = λ t v k e. clean-kind m t body v h (y .1) (known-tagged t k) k e;
-      there = λ t r. clean-required m t body h (y .1) (required-tag (header ++ fields m) t (all-walked (λ (n : MsgType). all tagged-row (header ++ fields n)) rows-tagged m) r) r;
+      there = λ t r. clean-required m t body h (y .1) (required-tag (header ++ fields m) t (all-ten (λ (n : MsgType). all tagged-row (header ++ fields n)) rows-tagged m) r) r;
     }

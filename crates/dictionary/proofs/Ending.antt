@@ -8,24 +8,26 @@ use mathlib.Core.Bool.{Bool, true, false}
 use mathlib.Core.Logic.{inl, inr}
 use lib.Dec.{eqb}
 use Rattle.fields.specs.Field.{Part}
-use Rattle.table.specs.Dictionary.{Row, Group, №453, №580}
+use Rattle.table.specs.Dictionary.{Row, Group, №453, №580, №552}
 use Rattle.dictionary.specs.Verdict.{Open, firstOf, missing, incomplete, closing, closingAll, rule1}
-use Rattle.table.specs.code.Held.{Two, membersOf}
+use Rattle.table.specs.code.Held.{Three, membersOf}
 use Rattle.dictionary.specs.code.Held.{InGroup, Stood, away, within, Belongs, Missing, Incomplete, Closing}
 use Rattle.dictionary.specs.declared.Says.{Says}
 use Rattle.dictionary.specs.declared.Says.the-variants.{Nothing, Reason}
 use Rattle.dictionary.specs.declared.groups.State.{State}
 
--- the two groups' count tags, and their members by these
-pub counted : (g : Group) → Two g → g .counter ≡ 0 → ⊥
-unfolding №453 №580
+-- the groups' count tags, and their members by these
+pub counted : (g : Group) → Three g → g .counter ≡ 0 → ⊥
+unfolding №453 №580 №552
 counted g (inl e) z = let h : _≡_ {A = ℕ} 453 0 = ap (λ (x : Group). x .counter) (sym e) ∙ z in omega arith
-counted g (inr e) z = let h : _≡_ {A = ℕ} 580 0 = ap (λ (x : Group). x .counter) (sym e) ∙ z in omega arith
+counted g (inr (inl e)) z = let h : _≡_ {A = ℕ} 580 0 = ap (λ (x : Group). x .counter) (sym e) ∙ z in omega arith
+counted g (inr (inr e)) z = let h : _≡_ {A = ℕ} 552 0 = ap (λ (x : Group). x .counter) (sym e) ∙ z in omega arith
 
-members-by : (g : Group) → Two g → membersOf (g .counter) ≡ g .members
-unfolding №453 №580
+members-by : (g : Group) → Three g → membersOf (g .counter) ≡ g .members
+unfolding №453 №580 №552
 members-by g (inl e) = rw e
-members-by g (inr e) = rw e
+members-by g (inr (inl e)) = rw e
+members-by g (inr (inr e)) = rw e
 
 -- of one rule alone
 pub alone : (s : Says) → firstOf (s ∷ []) ≡ s
@@ -45,13 +47,13 @@ module _ {met : List Bool} {st : State} where
       rw b
       (M .is (g .last) (I .last b)
       ∙ ap (λ (c : ℕ). missing (membersOf c) (g .last)) (I .counter)
-      ∙ ap (λ (l : List Row). missing l (g .last)) (members-by (g .group) (I .two)))
+      ∙ ap (λ (l : List Row). missing l (g .last)) (members-by (g .group) (I .three)))
 
   -- the end of a group
   pub closing-none : st .group ≡ 0 → (gs : List Open) → Stood gs met st → Nothing ≡ closingAll gs
   unfolding closing
   closing-none z [] (away e) = refl
-  closing-none z (g ∷ []) (within I) = absurd (counted (g .group) (I .two) (sym (I .counter) ∙ z))
+  closing-none z (g ∷ []) (within I) = absurd (counted (g .group) (I .three) (sym (I .counter) ∙ z))
 
   pub closing-lacks : {r : Says} {a t : ℕ} → (st .group ≡ 0 → ⊥) → Incomplete met st r → r ≡ Reason a t → (gs : List Open) → Stood gs met st → r ≡ closingAll gs
   unfolding closing
@@ -74,25 +76,25 @@ module _ {met : List Bool} {st : State} where
     pub rule1-outside : st .group ≡ 0 → (gs : List Open) (p : Part) → Stood gs met st → Belongs p group first → Nothing ≡ rule1 gs p
     unfolding rule1
     rule1-outside z [] p (away e) B = refl
-    rule1-outside z (g ∷ []) p (within I) B = absurd (counted (g .group) (I .two) (sym (I .counter) ∙ z))
+    rule1-outside z (g ∷ []) p (within I) B = absurd (counted (g .group) (I .three) (sym (I .counter) ∙ z))
 
     pub rule1-ends : {r : Says} → (st .group ≡ 0 → ⊥) → (st .group ≡ group → ⊥) → Closing met st r → (gs : List Open) (p : Part) → Stood gs met st → Belongs p group first → r ≡ rule1 gs p
     unfolding rule1
     rule1-ends n k C [] p (away z) B = absurd (n z)
     rule1-ends n k C (g ∷ []) p (within I) B =
         let b = ne-eqb (g .group .counter) group (λ e. k (I .counter ∙ e)) in
-        C .is (g ∷ []) (within I) ∙ rw (B .ended (g .group) (I .two), b)
+        C .is (g ∷ []) (within I) ∙ rw (B .ended (g .group) (I .three), b)
 
     pub rule1-begins : {r : Says} → (st .group ≡ 0 → ⊥) → st .group ≡ group → first ≡ true → Incomplete met st r → (gs : List Open) (p : Part) → Stood gs met st → Belongs p group first → r ≡ rule1 gs p
     unfolding rule1
     rule1-begins n k f C [] p (away z) B = absurd (n z)
     rule1-begins n k f C (g ∷ []) p (within I) B =
         let b = eq-eqb (g .group .counter) group (sym (I .counter) ∙ k) in
-        C .is g I ∙ rw (B .ended (g .group) (I .two), B .begun (g .group) (I .two), b, f)
+        C .is g I ∙ rw (B .ended (g .group) (I .three), B .begun (g .group) (I .three), b, f)
 
     pub rule1-goes-on : (st .group ≡ 0 → ⊥) → st .group ≡ group → first ≡ false → (gs : List Open) (p : Part) → Stood gs met st → Belongs p group first → Nothing ≡ rule1 gs p
     unfolding rule1
     rule1-goes-on n k f [] p (away z) B = absurd (n z)
     rule1-goes-on n k f (g ∷ []) p (within I) B =
         let b = eq-eqb (g .group .counter) group (sym (I .counter) ∙ k) in
-        rw (B .ended (g .group) (I .two), B .begun (g .group) (I .two), b, f)
+        rw (B .ended (g .group) (I .three), B .begun (g .group) (I .three), b, f)

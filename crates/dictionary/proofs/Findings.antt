@@ -14,12 +14,12 @@ use Rattle.bytes.proofs.Numerals.{numeral-means, value-below}
 use Rattle.fields.specs.Field.{Part, field, malformed, partOf, isTag, before, behind, parts, isBody}
 use Rattle.kinds.specs.Kind.{formed, allowed}
 use Rattle.table.specs.declared.MsgType.{MsgType}
-use Rattle.table.specs.declared.MsgType.the-variants.{Heartbeat, TestRequest, ResendRequest, Reject, SequenceReset, Logout, Logon, OrderCancelRequest, TradeCaptureReportRequest}
+use Rattle.table.specs.declared.MsgType.the-variants.{Heartbeat, TestRequest, ResendRequest, Reject, SequenceReset, Logout, Logon, OrderCancelRequest, TradeCaptureReportRequest, TradeCaptureReport}
 use Rattle.dictionary.specs.declared.Says.{Says}
 use Rattle.dictionary.specs.declared.Says.the-variants.{Nothing, Reason}
 use Rattle.dictionary.specs.declared.Verdict.{Verdict}
 use Rattle.dictionary.specs.declared.Verdict.the-variants.{Clean, Finding, NoBody}
-use Rattle.table.specs.Dictionary.{Row, Group, №453, №580, groups, header, fields, groupsAmong, allMembers, deeper, groupsOf, member, rowsOf, listed, kindIn, administrative, frameTag, inDictionary}
+use Rattle.table.specs.Dictionary.{Row, Group, №453, №580, №552, groups, header, fields, groupsAmong, allMembers, deeper, groupsOf, member, rowsOf, listed, kindIn, administrative, frameTag, inDictionary}
 use Rattle.dictionary.specs.Verdict.{Open, Past, _when_, firstOf, missing, incomplete, miscounted, closing, closingAll, ends, begins, firstMember, rule1, left, rule2, skipped, rule3, rule4, rule5, rule6, rule7, rule8, rule9, rule10, rules4to10, said, opened, joined, taken, after, verdictBy, walk, msgType, nothingYet, judgedAs, verdict, numbers}
 use Rattle.dictionary.specs.Promise.{reasons, Found}
 
@@ -65,8 +65,8 @@ LowOpen [] = Unit {0}
 LowOpen (g ∷ gs) = LowGroup (g .group) × LowOpen gs
 
 low-groups : LowGroups groups
-unfolding №453 №580
-low-groups = (record { counter = omega arith; members = refl }, (record { counter = omega arith; members = refl }, tt))
+unfolding №453 №580 №552
+low-groups = (record { counter = omega arith; members = refl }, (record { counter = omega arith; members = refl }, (record { counter = omega arith; members = refl }, tt)))
 
 low-among : (gs : List Group) (rows : List Row) → LowGroups gs → LowGroups (groupsAmong gs rows)
 low-among [] rows h = tt
@@ -81,7 +81,7 @@ unfolding groupsOf
 low-of m = low-among groups (fields m ++ allMembers (deeper (fields m) (deeper (fields m) []))) low-groups
 
 low-rows : (m : MsgType) → all low (header ++ fields m) ≡ true
-unfolding header fields №453 №580
+unfolding header fields №453 №580 №552
 low-rows Heartbeat = refl
 low-rows TestRequest = refl
 low-rows ResendRequest = refl
@@ -91,6 +91,7 @@ low-rows Logout = refl
 low-rows Logon = refl
 low-rows OrderCancelRequest = refl
 low-rows TradeCaptureReportRequest = refl
+low-rows TradeCaptureReport = refl
 
 -- THE RULES
 small-incomplete : (g : Open) → LowGroup (g .group) → Small (incomplete g)

@@ -87,8 +87,8 @@ module _ {e : Entry} {met : List Bool} {st : State} (R : Right e) where
   unfolding left
   left-away i [] v (away z) = refl
   left-away i (g ∷ []) v (within I) =
-      let h : eqb (st .group) 0 ≡ false = ne-eqb (st .group) 0 (λ z. counted (g .group) (I .two) (sym (I .counter) ∙ z)) in
-      rw (sym (R .member-of (g .group) (I .two)), ← I .counter, rw h at i)
+      let h : eqb (st .group) 0 ≡ false = ne-eqb (st .group) 0 (λ z. counted (g .group) (I .three) (sym (I .counter) ∙ z)) in
+      rw (sym (R .member-of (g .group) (I .three)), ← I .counter, rw h at i)
 
   pub left-within : insideOf st e ≡ true → (gs : List Open) (v : Bytes) → Stood gs met st
       → (g : Open) × ((gs ≡ g ∷ []) × (InGroup g met st) × (left gs (field (e .tag) v) ≡ g ∷ []) × (eqb (g .group .counter) (e .member .group) ≡ true))
@@ -96,7 +96,7 @@ module _ {e : Entry} {met : List Bool} {st : State} (R : Right e) where
   left-within i [] v (away z) = absurd (false≢true (rw (eq-eqb (st .group) 0 z) at i))
   left-within i (g ∷ []) v (within I) =
       let h : eqb (g .group .counter) (e .member .group) ≡ true = rw (I .counter) at (both (not (eqb (st .group) 0)) (eqb (st .group) (e .member .group)) i .1) in
-      (g, (refl, I, rw (sym (R .member-of (g .group) (I .two)), h), h))
+      (g, (refl, I, rw (sym (R .member-of (g .group) (I .three)), h), h))
 
 -- rule 8
 pub first-is : (rows : List Row) (t : ℕ) → Table.leads rows t ≡ firstMember rows t
@@ -105,7 +105,7 @@ first-is (r ∷ rs) t = refl
 
 pub leads : (e : Entry) (met : List Bool) (st : State) → Right e → (g : Open) → InGroup g met st → eqb (g .group .counter) (e .member .group) ≡ true
     → firstMember (g .group .members) (e .tag) ≡ e .member .first
-leads e met st R g I h = sym (first-is (g .group .members) (e .tag)) ∙ sym (R .first-of (g .group) (I .two)) ∙ rw h
+leads e met st R g I h = sym (first-is (g .group .members) (e .tag)) ∙ sym (R .first-of (g .group) (I .three)) ∙ rw h
 
 mark-of : (met : List Bool) (st : State) (p t : ℕ) → p < tagCount → tagAt p ≡ t → (g : Open) → InGroup g met st → eqb (g .begun) 0 ≡ false → getD met p false ≡ has (g .last) t
 mark-of met st p t l e g I z = I .last z .at p l ∙ ap (has (g .last)) e

@@ -8,14 +8,14 @@ use mathlib.Core.Bool.{Bool, true, false, cond, not, _||_, false≢true}
 use mathlib.Core.Logic.{inl, inr}
 use lib.Dec.{eqb}
 use Rattle.bytes.specs.Bytes.{Bytes, any, all, value}
-use Rattle.kinds.specs.Kind.{Kind, text, number_to_, Y/N, time, day, among, formed, isNumber}
+use Rattle.kinds.specs.Kind.{Kind, text, number_to_, Y/N, time, day, decimal, among, formed, isNumber}
 use Rattle.kinds.specs.Judged.{meaning, numberOf}
 use Rattle.kinds.specs.declared.Number.{Number}
 use Rattle.kinds.specs.declared.Number.the-variants.{Is, Bad}
-use Rattle.table.specs.Dictionary.{Row, Group, №453, №580, groups, header, fields, listed, kindIn, groupsAmong, allMembers, groupsOf, rowsOf}
+use Rattle.table.specs.Dictionary.{Row, Group, №453, №580, №552, groups, header, fields, listed, kindIn, groupsAmong, allMembers, groupsOf, rowsOf}
 use Rattle.dictionary.specs.Verdict.{Open, _when_, opened, rule9}
-use Rattle.table.specs.code.Held.{bitOf, isNumeric, kindFor, Two, Right}
-use Rattle.dictionary.specs.code.Held.{away, within, Over, Counted, Noted, outsideOf}
+use Rattle.table.specs.code.Held.{bitOf, isNumeric, kindFor, Three, Right}
+use Rattle.dictionary.specs.code.Held.{Flat, away, within, Over, Counted, Noted, outsideOf}
 use Rattle.table.specs.declared.MsgType.{MsgType}
 use Rattle.dictionary.specs.declared.Says.the-variants.{Nothing, Reason}
 use Rattle.dictionary.specs.declared.groups.State.{State}
@@ -69,20 +69,22 @@ opened-none (g ∷ gs) rows t v h = go (eqb (g .counter) t) refl (listed rows (g
 newly : Group → Bytes → Open
 newly g v = record { group = g; count = value v; begun = 0; last = [] }
 
-opens-two : (t : ℕ) (v : Bytes) → any (λ g. eqb (g .counter) t) groups ≡ true → (g : Group) × (Two g × (t ≡ g .counter) × (opened groups t v ≡ newly g v ∷ []))
+opens-three : (t : ℕ) (v : Bytes) → any (λ g. eqb (g .counter) t) groups ≡ true → (g : Group) × (Three g × (t ≡ g .counter) × (opened groups t v ≡ newly g v ∷ []))
 unfolding newly
-opens-two t v h = go (eqb (№453 .counter) t) (eqb (№580 .counter) t) refl refl h
+opens-three t v h = go (eqb (№453 .counter) t) (eqb (№580 .counter) t) (eqb (№552 .counter) t) refl refl refl h
   where
-    go : (a b : Bool) → eqb (№453 .counter) t ≡ a → eqb (№580 .counter) t ≡ b → (a || (b || false)) ≡ true
-        → (g : Group) × (Two g × (t ≡ g .counter) × (cond a (newly №453 v ∷ []) (cond b (newly №580 v ∷ []) []) ≡ newly g v ∷ []))
-    go true b p q k = (№453, (inl refl, sym (eqb-true (№453 .counter) t p), refl))
-    go false true p q k = (№580, (inr refl, sym (eqb-true (№580 .counter) t q), refl))
-    go false false p q k = absurd (false≢true k)
+    go : (a b c : Bool) → eqb (№453 .counter) t ≡ a → eqb (№580 .counter) t ≡ b → eqb (№552 .counter) t ≡ c → (a || (b || (c || false))) ≡ true
+        → (g : Group) × (Three g × (t ≡ g .counter) × (cond a (newly №453 v ∷ []) (cond b (newly №580 v ∷ []) (cond c (newly №552 v ∷ []) [])) ≡ newly g v ∷ []))
+    go true b c p q r k = (№453, (inl refl, sym (eqb-true (№453 .counter) t p), refl))
+    go false true c p q r k = (№580, (inr (inl refl), sym (eqb-true (№580 .counter) t q), refl))
+    go false false true p q r k = (№552, (inr (inr refl), sym (eqb-true (№552 .counter) t r), refl))
+    go false false false p q r k = absurd (false≢true k)
 
-no-header : (g : Group) → Two g → listed header (g .counter) ≡ false
-unfolding header №453 №580
+no-header : (g : Group) → Three g → listed header (g .counter) ≡ false
+unfolding header №453 №580 №552
 no-header g (inl e) = rw e
-no-header g (inr e) = rw e
+no-header g (inr (inl e)) = rw e
+no-header g (inr (inr e)) = rw e
 
 own-field : (m : MsgType) (t : ℕ) → listed header t ≡ false → listed (header ++ fields m) t ≡ true → listed (fields m) t ≡ true
 own-field m t n h = rw (any-append (λ (r : Row). eqb (r .tag) t) header (fields m), n) at h
@@ -97,7 +99,7 @@ opens-none m t v h = ap (λ (gs : List Group). opened gs t v) (sym (closed-down 
 own-listed : (m : MsgType) (t : ℕ) → listed (fields m) t ≡ true → listed (fields m ++ allMembers (groupsOf m)) t ≡ true
 own-listed m t h = rw (any-append (λ (r : Row). eqb (r .tag) t) (fields m) (allMembers (groupsOf m)), h)
 
--- NO GROUP IN A GROUP: a member of one of the two groups is no count, so that it opens none
+-- NO GROUP IN A GROUP of the nine: a member of a flat group is no count, so that it opens none
 flat : (rows : List Row) (t : ℕ) → all (λ (r : Row). not (any (λ (g : Group). eqb (g .counter) (r .tag)) groups)) rows ≡ true → listed rows t ≡ true
     → any (λ g. eqb (g .counter) t) groups ≡ false
 flat [] t h k = absurd (false≢true k)
@@ -109,12 +111,12 @@ flat (r ∷ rs) t h k =
     go true e k n f = ap (λ (x : ℕ). any (λ (g : Group). eqb (g .counter) x) groups) (sym (eqb-true (r .tag) t e)) ∙ n
     go false e k n f = f k
 
-flat-groups : (g : Group) → Two g → all (λ (r : Row). not (any (λ (x : Group). eqb (x .counter) (r .tag)) groups)) (g .members) ≡ true
-unfolding №453 №580
+flat-groups : (g : Group) → Flat g → all (λ (r : Row). not (any (λ (x : Group). eqb (x .counter) (r .tag)) groups)) (g .members) ≡ true
+unfolding №453 №580 №552
 flat-groups g (inl e) = rw e
 flat-groups g (inr e) = rw e
 
-pub member-opens-none : (m : MsgType) (g : Group) (t : ℕ) (v : Bytes) → Two g → listed (g .members) t ≡ true → opened (groupsOf m) t v ≡ []
+pub member-opens-none : (m : MsgType) (g : Group) (t : ℕ) (v : Bytes) → Flat g → listed (g .members) t ≡ true → opened (groupsOf m) t v ≡ []
 member-opens-none m g t v T h = opens-none m t v (flat (g .members) t (flat-groups g T) h)
 
 numeric : (k : Kind) (v : Bytes) → isNumeric k ≡ true → formed k v ≡ isNumber v
@@ -124,6 +126,7 @@ numeric (number a to b) v h = refl
 numeric Y/N v h = absurd (false≢true h)
 numeric time v h = absurd (false≢true h)
 numeric day v h = absurd (false≢true h)
+numeric decimal v h = absurd (false≢true h)
 numeric (among l) v h = absurd (false≢true h)
 
 rule9-silent : (m : MsgType) (t : ℕ) (v : Bytes) → rule9 m t v ≡ Nothing → formed (kindIn (rowsOf m) t) v ≡ true
@@ -141,13 +144,13 @@ module _ {e : Entry} {st : State} {v : Bytes} {over b : Bool} (R : Right e) (O :
     over = O;
     none = refl;
     opens = λ m met l s.
-        let w = opens-two (e .tag) v (sym (R .counts) ∙ sym p ∙ q) in
+        let w = opens-three (e .tag) v (sym (R .counts) ∙ sym p ∙ q) in
         let g = w .0 in
         let f = own-field m (e .tag) (ap (listed header) (w .1 .1) ∙ no-header g (w .1 .0)) l in
         let k : listed (rowsOf m) (e .tag) ≡ true = rw (listed-rows m (e .tag), l) in
         let i : isNumber v ≡ true = sym (numeric (meaning (kindFor m (e .kind))) v (R .counts-number m (sym p ∙ q))) ∙ ap (λ (x : Kind). formed x v) (R .kind-in m k) ∙ rule9-silent m (e .tag) v s in
         rw (opens-here m (e .tag) v (own-listed m (e .tag) f), w .1 .2)
-        (within (record { two = w .1 .0; counter = w .1 .1; count = C .is i; begun = refl; last = λ z. absurd (false≢true (sym z)) }));
+        (within (record { three = w .1 .0; counter = w .1 .1; count = C .is i; begun = refl; last = λ z. absurd (false≢true (sym z)) }));
   }
 
   pub noted-other : {r : State} → b ≡ false → r ≡ outsideOf over → Noted st (e .tag) v r

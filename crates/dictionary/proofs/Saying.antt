@@ -12,12 +12,12 @@ use Rattle.bytes.specs.Bytes.{Bytes, any, all, has}
 use Rattle.fields.specs.Field.{field, malformed}
 use Rattle.kinds.specs.Kind.{Kind, formed, allowed}
 use Rattle.kinds.specs.Judged.{meaning, judged}
-use Rattle.table.specs.Dictionary.{Row, Group, №453, №580, walked, header, fields, code35, listed, kindIn, groupsOf, member, rowsOf, inDictionary, administrative}
+use Rattle.table.specs.Dictionary.{Row, Group, №453, №580, №552, theTen, header, fields, code35, listed, kindIn, groupsOf, member, rowsOf, inDictionary, administrative}
 use Rattle.dictionary.specs.Verdict.{Open, Past, _when_, firstOf, firstMember, rule1, rule2, rule3, rule4, rule5, rule6, rule7, rule8, rule9, rule10, left, skipped, rules4to10, said}
-use Rattle.table.specs.code.Held.{tagCount, allRows, tags, tagAt, index, kindFor, Two, Right, Looked, Marked}
+use Rattle.table.specs.code.Held.{tagCount, allRows, tags, tagAt, index, kindFor, Three, Right, Looked, Marked}
 use Rattle.dictionary.specs.code.Held.{Belongs, Stood, away, within, Rules9and10}
 use Rattle.table.specs.declared.MsgType.{MsgType}
-use Rattle.table.specs.declared.MsgType.the-variants.{Heartbeat, TestRequest, ResendRequest, Reject, SequenceReset, Logout, Logon, OrderCancelRequest, TradeCaptureReportRequest}
+use Rattle.table.specs.declared.MsgType.the-variants.{Heartbeat, TestRequest, ResendRequest, Reject, SequenceReset, Logout, Logon, OrderCancelRequest, TradeCaptureReportRequest, TradeCaptureReport}
 use Rattle.dictionary.specs.declared.Says.{Says}
 use Rattle.dictionary.specs.declared.Says.the-variants.{Nothing, Reason}
 use Rattle.dictionary.specs.declared.groups.State.{State}
@@ -39,7 +39,7 @@ passes p e h = record { is = rw (sym p ∙ e) (h .is) }
 
 -- the tags that have a place are those of the dictionary
 all-known : all inDictionary tags ≡ true
-unfolding allRows tags inDictionary rowsOf header fields groupsOf №453 №580
+unfolding allRows tags inDictionary rowsOf header fields groupsOf №453 №580 №552
 all-known = refl
 
 pub known-tag : (p : ℕ) → p < tagCount → inDictionary (tagAt p) ≡ true
@@ -49,17 +49,18 @@ placed : Row → Bool
 placed r = has tags (r .tag)
 
 frame-placed : all (has tags) (8 ∷ 9 ∷ 10 ∷ []) ≡ true
-unfolding allRows tags header fields №453 №580
+unfolding allRows tags header fields №453 №580 №552
 frame-placed = refl
 
-rows-placed : all (λ m. all placed (rowsOf m)) walked ≡ true
-unfolding placed allRows tags rowsOf header fields groupsOf №453 №580
+rows-placed : all (λ m. all placed (rowsOf m)) theTen ≡ true
+unfolding placed allRows tags rowsOf header fields groupsOf №453 №580 №552
 rows-placed = refl
 
-members-placed : (g : Group) → Two g → all placed (g .members) ≡ true
-unfolding placed allRows tags header fields №453 №580
+members-placed : (g : Group) → Three g → all placed (g .members) ≡ true
+unfolding placed allRows tags header fields №453 №580 №552
 members-placed g (inl e) = rw e
-members-placed g (inr e) = rw e
+members-placed g (inr (inl e)) = rw e
+members-placed g (inr (inr e)) = rw e
 
 module _ (t : ℕ) (n : has tags t ≡ false) where
   other : (x : ℕ) → has tags x ≡ true → eqb x t ≡ false
@@ -80,7 +81,7 @@ module _ (t : ℕ) (n : has tags t ≡ false) where
 
   pub unknown-tag : inDictionary t ≡ false
   unfolding inDictionary
-  unknown-tag = rw (not-among (8 ∷ 9 ∷ 10 ∷ []) frame-placed, not-in walked rows-placed)
+  unknown-tag = rw (not-among (8 ∷ 9 ∷ 10 ∷ []) frame-placed, not-in theTen rows-placed)
 
   -- such a field is a member of no group
   pub unknown-belongs : (v : Bytes) → Belongs (field t v) 0 false
@@ -97,7 +98,7 @@ module _ (t : ℕ) (n : has tags t ≡ false) where
   pub unknown-left : (gs : List Open) (v : Bytes) {met : List Bool} {st : State} → Stood gs met st → left gs (field t v) ≡ []
   unfolding left
   unknown-left [] v (away z) = refl
-  unknown-left (g ∷ []) v (within I) = rw (not-listed (g .group .members) (members-placed (g .group) (I .two)))
+  unknown-left (g ∷ []) v (within I) = rw (not-listed (g .group .members) (members-placed (g .group) (I .three)))
 
 pub malformed-belongs : Belongs malformed 0 false
 malformed-belongs = record {
@@ -163,6 +164,7 @@ administrative-is Logout = refl
 administrative-is Logon = refl
 administrative-is OrderCancelRequest = refl
 administrative-is TradeCaptureReportRequest = refl
+administrative-is TradeCaptureReport = refl
 
 -- rules 9 and 10 by the code's judgement
 pub rule6-silent : (m : MsgType) (t : ℕ) → Nothing ≡ rule6 m t → listed (rowsOf m) t ≡ true

@@ -10,8 +10,8 @@ use Rattle.bytes.specs.Bytes.{Bytes, has}
 use Rattle.fields.specs.Field.{field}
 use Rattle.table.specs.Dictionary.{header, fields, listed, groupsOf, member, inDictionary, administrative}
 use Rattle.dictionary.specs.Verdict.{Open, Past, _when_, firstOf, firstMember, left, rule1, rule4, rule6, rule8, rule9, rule10, skipped, said, opened, taken, after}
-use Rattle.table.specs.code.Held.{tags, Two, Looked}
-use Rattle.dictionary.specs.code.Held.{away, within, insideOf, Stands, Noted, outsideOf, begunOf, Remembered}
+use Rattle.table.specs.code.Held.{tags, Looked}
+use Rattle.dictionary.specs.code.Held.{Flat, AllFlat, away, within, insideOf, Stands, Noted, outsideOf, begunOf, Remembered}
 use Rattle.table.specs.declared.MsgType.{MsgType}
 use Rattle.dictionary.specs.declared.Says.{Says}
 use Rattle.dictionary.specs.declared.Says.the-variants.{Nothing, Reason}
@@ -71,12 +71,12 @@ unfolding taken
 taken-outside m seen t v = refl
 
 -- a member opens no group
-taken-first : (m : MsgType) (seen : List ℕ) (g : Open) (t : ℕ) (v : Bytes) → Two (g .group) → listed (g .group .members) t ≡ true → firstMember (g .group .members) t ≡ true
+taken-first : (m : MsgType) (seen : List ℕ) (g : Open) (t : ℕ) (v : Bytes) → Flat (g .group) → listed (g .group .members) t ≡ true → firstMember (g .group .members) t ≡ true
     → taken m seen (g ∷ []) t v ≡ record { seen = seen; inside = record { group = g .group; count = g .count; begun = g .begun + 1; last = t ∷ [] } ∷ [] }
 unfolding taken
 taken-first m seen g t v T l f = rw (member-opens-none m (g .group) t v T l, f)
 
-taken-other : (m : MsgType) (seen : List ℕ) (g : Open) (t : ℕ) (v : Bytes) → Two (g .group) → listed (g .group .members) t ≡ true → firstMember (g .group .members) t ≡ false
+taken-other : (m : MsgType) (seen : List ℕ) (g : Open) (t : ℕ) (v : Bytes) → Flat (g .group) → listed (g .group .members) t ≡ true → firstMember (g .group .members) t ≡ false
     → taken m seen (g ∷ []) t v ≡ record { seen = seen; inside = record { group = g .group; count = g .count; begun = g .begun; last = t ∷ g .last } ∷ [] }
 unfolding taken
 taken-other m seen g t v T l f = rw (member-opens-none m (g .group) t v T l, f)
@@ -94,7 +94,7 @@ module _ {e : Entry} {p : ℕ} {st : State} {v : Bytes} {seen met : List Bool} {
   -- .. one outside groups, ..
   pub notes : {st2 : State} → not b ≡ true → Noted st (e .tag) v st2 → Remembered seen met st (e .tag) v (set seen p true) met st2
   notes {st2} n N = record {
-    is = λ m w S q.
+    is = λ m w S F q.
         let o = left-away (L .right) (sym i ∙ not-true b n) (w .inside) v (S .stood) in
         let x = silent m w (e .tag) v (known-entry L) (sym q) in
         subst (λ (y : Past). Stands y (set seen p true) met st2) (sym (after-taken m w (e .tag) v [] (known-entry L) o ∙ taken-outside m (w .seen) (e .tag) v))
@@ -112,16 +112,16 @@ module _ {e : Entry} {p : ℕ} {st : State} {v : Bytes} {seen met : List Bool} {
   module _ (n : not b ≡ false) where
     pub begins-instance : {st2 : State} → e .member .first ≡ true → st2 ≡ begunOf st → Remembered seen met st (e .tag) v seen (set (replicate 128 false) p true) st2
     begins-instance {st2} f h = record {
-      is = λ m w S q.
+      is = λ m w S F q.
           let x = left-within (L .right) (sym i ∙ not-false b n) (w .inside) v (S .stood) in
           let g = x .0 in
           let I = x .1 .1 in
-          let a = after-taken m w (e .tag) v (g ∷ []) (known-entry L) (x .1 .2) ∙ taken-first m (w .seen) g (e .tag) v (I .two) (sym (L .right .member-of (g .group) (I .two)) ∙ x .1 .3) (leads e met st (L .right) g I (x .1 .3) ∙ f) in
+          let a = after-taken m w (e .tag) v (g ∷ []) (known-entry L) (x .1 .2) ∙ taken-first m (w .seen) g (e .tag) v (subst AllFlat (x .1 .0) F .0) (sym (L .right .member-of (g .group) (I .three)) ∙ x .1 .3) (leads e met st (L .right) g I (x .1 .3) ∙ f) in
           subst (λ (y : Past). Stands y seen (set (replicate 128 false) p true) st2) (sym a)
           (rw h (record {
             marked = S .marked;
             over = S .over;
-            stood = within (record { two = I .two; counter = I .counter; count = I .count; begun = ap (λ (y : ℕ). y + 1) (I .begun); last = λ z. mark-more L (length-replicate 128 false) no-marks });
+            stood = within (record { three = I .three; counter = I .counter; count = I .count; begun = ap (λ (y : ℕ). y + 1) (I .begun); last = λ z. mark-more L (length-replicate 128 false) no-marks });
           }));
       few = rw h (omega arith);
       seen-long = k;
@@ -130,16 +130,16 @@ module _ {e : Entry} {p : ℕ} {st : State} {v : Bytes} {seen met : List Bool} {
 
     pub joins-instance : e .member .first ≡ false → Remembered seen met st (e .tag) v seen (set met p true) st
     joins-instance f = record {
-      is = λ m w S q.
+      is = λ m w S F q.
           let x = left-within (L .right) (sym i ∙ not-false b n) (w .inside) v (S .stood) in
           let g = x .0 in
           let I = x .1 .1 in
-          let a = after-taken m w (e .tag) v (g ∷ []) (known-entry L) (x .1 .2) ∙ taken-other m (w .seen) g (e .tag) v (I .two) (sym (L .right .member-of (g .group) (I .two)) ∙ x .1 .3) (leads e met st (L .right) g I (x .1 .3) ∙ f) in
+          let a = after-taken m w (e .tag) v (g ∷ []) (known-entry L) (x .1 .2) ∙ taken-other m (w .seen) g (e .tag) v (subst AllFlat (x .1 .0) F .0) (sym (L .right .member-of (g .group) (I .three)) ∙ x .1 .3) (leads e met st (L .right) g I (x .1 .3) ∙ f) in
           subst (λ (y : Past). Stands y seen (set met p true) st) (sym a)
           (record {
             marked = S .marked;
             over = S .over;
-            stood = within (record { two = I .two; counter = I .counter; count = I .count; begun = I .begun; last = λ z. mark-more L l (I .last z) });
+            stood = within (record { three = I .three; counter = I .counter; count = I .count; begun = I .begun; last = λ z. mark-more L l (I .last z) });
           });
       few = omega arith;
       seen-long = k;

@@ -3,7 +3,7 @@ use Prim.Native.Nat.{ℕ, _-_, _≤_}
 use borrow.Author.Tests.{ne-eqb, not-true, not-false}
 use mathlib.Core.Path.{_≡_, refl, ap, sym, _∙_}
 use mathlib.Core.List.{List, [], _∷_}
-use mathlib.Core.Bool.{Bool, true, false, cond, not}
+use mathlib.Core.Bool.{Bool, true, false, cond, not, false≢true}
 use mathlib.Core.Option.{Option, none, some}
 use native.Mathlib.Omega.{arith}
 use lib.ListN.{length, take, drop, getD}
@@ -15,10 +15,11 @@ use Rattle.fields.specs.First.{First, valueAt}
 use Rattle.fields.specs.declared.Place.{Place}
 use Rattle.fields.specs.declared.Place.the-variants.{At, Absent}
 use Rattle.kinds.proofs.Values.{same-long, same-true}
-use Rattle.table.specs.Dictionary.{code35, walked, typeAmong, typeOf, named, typeIs}
+use Rattle.table.specs.Dictionary.{code35, theTen, typeAmong, typeOf, named, typeIs}
+use Rattle.dictionary.specs.code.Held.{isReport}
 use Rattle.dictionary.specs.Verdict.{typeBy, judgedAs, walk, nothingYet, verdict}
 use Rattle.table.specs.declared.MsgType.{MsgType}
-use Rattle.table.specs.declared.MsgType.the-variants.{TradeCaptureReportRequest}
+use Rattle.table.specs.declared.MsgType.the-variants.{Heartbeat, TestRequest, ResendRequest, Reject, SequenceReset, Logout, Logon, OrderCancelRequest, TradeCaptureReportRequest, TradeCaptureReport}
 use Rattle.dictionary.specs.declared.Verdict.{Verdict}
 use Rattle.dictionary.specs.declared.Verdict.the-variants.{Finding, NoBody}
 use Rattle.table.specs.declared.Named.{Named}
@@ -38,10 +39,14 @@ pub two-bytes : (v : Bytes) {b : Bool} → b ≡ same v (65 ∷ 68 ∷ []) → b
 unfolding typeOf code35
 two-bytes v p q = rw (same-true v (65 ∷ 68 ∷ []) (sym p ∙ q))
 
-pub other-bytes : (v : Bytes) {b : Bool} → (length v ≡ 1 → ⊥) → b ≡ same v (65 ∷ 68 ∷ []) → b ≡ false → none ≡ typeOf v
+pub report-bytes : (v : Bytes) {b : Bool} → b ≡ same v (65 ∷ 69 ∷ []) → b ≡ true → some TradeCaptureReport ≡ typeOf v
 unfolding typeOf code35
-other-bytes v n p q =
-    rw (same-long v (fix "0") n, same-long v (fix "1") n, same-long v (fix "2") n, same-long v (fix "3") n, same-long v (fix "4") n, same-long v (fix "5") n, same-long v (fix "A") n, same-long v (fix "F") n, sym p ∙ q)
+report-bytes v p q = rw (same-true v (65 ∷ 69 ∷ []) (sym p ∙ q))
+
+pub other-bytes : (v : Bytes) {b c : Bool} → (length v ≡ 1 → ⊥) → b ≡ same v (65 ∷ 68 ∷ []) → b ≡ false → c ≡ same v (65 ∷ 69 ∷ []) → c ≡ false → none ≡ typeOf v
+unfolding typeOf code35
+other-bytes v n p q r s =
+    rw (same-long v (fix "0") n, same-long v (fix "1") n, same-long v (fix "2") n, same-long v (fix "3") n, same-long v (fix "4") n, same-long v (fix "5") n, same-long v (fix "A") n, same-long v (fix "F") n, sym p ∙ q, sym r ∙ s)
 
 -- THE TYPE that a value names is written as that value
 among-coded : (ms : List MsgType) (v : Bytes) (m : MsgType) → typeAmong ms v ≡ some m → v ≡ code35 m
@@ -54,7 +59,7 @@ among-coded (n ∷ ms) v m e = go (same v (code35 n)) refl e (among-coded ms v m
 
 pub type-coded : (v : Bytes) (m : MsgType) → typeOf v ≡ some m → v ≡ code35 m
 unfolding typeOf
-type-coded v m e = among-coded walked v m e
+type-coded v m e = among-coded theTen v m e
 
 -- and the answer of `type_of` stands for it
 named-is : (o : Option MsgType) → typeIs (named o) ≡ o
@@ -63,6 +68,19 @@ named-is (some m) = refl
 
 pub type-told : (v : Bytes) {r : Named} → r ≡ named (typeOf v) → typeIs r ≡ typeOf v
 type-told v e = ap typeIs e ∙ named-is (typeOf v)
+
+-- the report, by the test of the code
+pub report-is : (m : MsgType) → isReport m ≡ true → m ≡ TradeCaptureReport
+report-is Heartbeat h = absurd (false≢true h)
+report-is TestRequest h = absurd (false≢true h)
+report-is ResendRequest h = absurd (false≢true h)
+report-is Reject h = absurd (false≢true h)
+report-is SequenceReset h = absurd (false≢true h)
+report-is Logout h = absurd (false≢true h)
+report-is Logon h = absurd (false≢true h)
+report-is OrderCancelRequest h = absurd (false≢true h)
+report-is TradeCaptureReportRequest h = absurd (false≢true h)
+report-is TradeCaptureReport h = refl
 
 -- THE VERDICT
 pub verdict-nobody : (body : Bytes) {b : Bool} → b ≡ isBody body → not b ≡ true → NoBody ≡ verdict body

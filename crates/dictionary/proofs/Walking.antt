@@ -1,27 +1,28 @@
 -- The walk along the parts of a body: where it stands before each part, and one turn of it for each way that a part can go.
-use Prim.Native.Nat.{ℕ, _-_, _≤_, _<_}
+use Prim.Native.Nat.{ℕ, _+_, _-_, _≤_, _<_}
 use native.Mathlib.Omega.{arith}
 use borrow.Author.Tests.{eqb-true, eqb-false}
 use mathlib.Core.Path.{_≡_, refl, ap, sym, _∙_, subst}
 use mathlib.Core.List.{List, [], _∷_, _++_}
-use mathlib.Core.Bool.{Bool, true, false, cond, not, _&&_, _||_}
+use mathlib.Core.Bool.{Bool, true, false, cond, not, _&&_, _||_, false≢true}
 use mathlib.Core.Logic.{_⊎_, inl, inr}
 use denote.Enum.Declared.{tagOf}
 use lib.Dec.{eqb}
 use lib.ListN.{length, getD, take, drop, set, replicate, length-replicate, getD-replicate}
 use lib.Seq.{getD-set-same, getD-set-other}
-use Rattle.bytes.specs.Bytes.{Bytes, has}
+use Rattle.bytes.specs.Bytes.{Bytes, has, value}
 use Rattle.fields.specs.Field.{Part, field, malformed, parts}
 use Rattle.fields.specs.Item.{Span, Lies, Cut}
 use Rattle.fields.specs.declared.Item.{Item}
 use Rattle.fields.specs.declared.Item.the-variants.{Field, Malformed, End, NoBody}
 use Rattle.fields.proofs.Item.{the-type}
 use Rattle.fields.proofs.Rows.{Step, Stepped, parts-step}
-use Rattle.table.specs.Dictionary.{Row, header, fields}
-use Rattle.dictionary.specs.Verdict.{Past, firstOf, rule1, rule2, said, after, verdictBy, walk, nothingYet, missing}
+use Rattle.table.specs.Dictionary.{Row, Group, №453, №580, №552, header, fields, groupsOf}
+use Rattle.dictionary.specs.Verdict.{Open, Past, firstOf, firstMember, ends, left, rule1, rule2, skipped, said, opened, joined, taken, after, verdictBy, walk, nothingYet, missing}
 use Rattle.table.specs.code.Held.{tagCount, tagAt, Looked, Marked}
-use Rattle.dictionary.specs.code.Held.{away, Stands, Closing, Missing, outsideOf, Finished, EndedBy, Ended}
+use Rattle.dictionary.specs.code.Held.{isReport, Flat, AllFlat, away, Stands, Closing, Missing, outsideOf, Finished, EndedBy, Ended}
 use Rattle.table.specs.declared.MsgType.{MsgType}
+use Rattle.table.specs.declared.MsgType.the-variants.{Heartbeat, TestRequest, ResendRequest, Reject, SequenceReset, Logout, Logon, OrderCancelRequest, TradeCaptureReportRequest, TradeCaptureReport}
 use Rattle.dictionary.specs.declared.Says.{Says}
 use Rattle.dictionary.specs.declared.Says.the-variants.{Nothing, Reason}
 use Rattle.dictionary.specs.declared.Verdict.{Verdict}
@@ -46,10 +47,69 @@ mark-more {e} {p} {marks} {met} L n M = record { at = λ q h. go q h (eqb (e .ta
 pub no-marks : Marked (replicate 128 false) []
 no-marks = record { at = λ p h. getD-replicate 128 p false false (omega arith) }
 
+-- the nine types open flat groups only
+FlatGroups : List Group → Type 0
+FlatGroups [] = Unit {0}
+FlatGroups (g ∷ gs) = Flat g × FlatGroups gs
+
+flat-of : (m : MsgType) → isReport m ≡ false → FlatGroups (groupsOf m)
+unfolding FlatGroups groupsOf fields №453 №580 №552
+flat-of Heartbeat h = tt
+flat-of TestRequest h = tt
+flat-of ResendRequest h = tt
+flat-of Reject h = tt
+flat-of SequenceReset h = tt
+flat-of Logout h = tt
+flat-of Logon h = tt
+flat-of OrderCancelRequest h = (inl refl, tt)
+flat-of TradeCaptureReportRequest h = (inl refl, (inr refl, tt))
+flat-of TradeCaptureReport h = absurd (false≢true (sym h))
+
+opened-flat : (gs : List Group) (t : ℕ) (v : Bytes) → FlatGroups gs → AllFlat (opened gs t v)
+unfolding FlatGroups
+opened-flat [] t v F = tt
+opened-flat (g ∷ gs) t v F = go (eqb (g .counter) t) (opened-flat gs t v (F .1))
+  where
+    go : (b : Bool) → AllFlat (opened gs t v) → AllFlat (cond b (record { group = g; count = value v; begun = 0; last = [] } ∷ []) (opened gs t v))
+    go true k = (F .0, tt)
+    go false k = k
+
+left-flat : (gs : List Open) (p : Part) → AllFlat gs → AllFlat (left gs p)
+unfolding left
+left-flat [] p F = tt
+left-flat (g ∷ gs) p F = go (ends (g .group .members) p) (left-flat gs p (F .1))
+  where
+    go : (b : Bool) → AllFlat (left gs p) → AllFlat (cond b (left gs p) (g ∷ gs))
+    go true k = k
+    go false k = F
+
+append-flat : (gs ks : List Open) → AllFlat gs → AllFlat ks → AllFlat (gs ++ ks)
+append-flat [] ks F K = K
+append-flat (g ∷ gs) ks F K = (F .0, append-flat gs ks (F .1) K)
+
+taken-flat : (m : MsgType) (seen : List ℕ) (gs : List Open) (t : ℕ) (v : Bytes) → isReport m ≡ false → AllFlat gs → AllFlat (taken m seen gs t v .inside)
+unfolding taken
+taken-flat m seen [] t v n F = opened-flat (groupsOf m) t v (flat-of m n)
+taken-flat m seen (g ∷ gs) t v n F = append-flat (opened (groupsOf m) t v) (joined g t ∷ gs) (opened-flat (groupsOf m) t v (flat-of m n)) (go (firstMember (g .group .members) t), F .1)
+  where
+    go : (b : Bool) → Flat (cond {A = Open} b (record { group = g .group; count = g .count; begun = g .begun + 1; last = t ∷ [] }) (record { group = g .group; count = g .count; begun = g .begun; last = t ∷ g .last }) .group)
+    go true = F .0
+    go false = F .0
+
+after-flat : (m : MsgType) (w : Past) (p : Part) → isReport m ≡ false → AllFlat (w .inside) → AllFlat (after m w p .inside)
+unfolding after
+after-flat m w malformed n F = F
+after-flat m w (field t v) n F = go (skipped m t)
+  where
+    go : (b : Bool) → AllFlat (cond {A = Past} b (record { seen = w .seen; inside = left (w .inside) (field t v) }) (taken m (w .seen) (left (w .inside) (field t v)) t v) .inside)
+    go true = left-flat (w .inside) (field t v) F
+    go false = taken-flat m (w .seen) (left (w .inside) (field t v)) t v n (left-flat (w .inside) (field t v) F)
+
 -- where the walk stands before the part at a place of the body
 pub record At (m : MsgType) (body : Bytes) (seen met : List Bool) (st : State) (at : ℕ) : Type 0 where
   pub past : Past
   pub stands : Stands past seen met st
+  pub flat : AllFlat (past .inside)
   pub rest : walk m nothingYet (parts body) ≡ walk m past (parts (drop at body))
   pub few : st .begun ≤ at
   pub seen-long : length seen ≡ 128
@@ -59,6 +119,7 @@ pub begins : (m : MsgType) (body : Bytes) {st : State} → st ≡ outsideOf fals
 begins m body e = subst (λ (x : State). At m body (replicate 128 false) (replicate 128 false) x 0) (sym e) (record {
   past = nothingYet;
   stands = record { marked = no-marks; over = refl; stood = away refl };
+  flat = tt;
   rest = refl;
   few = omega arith;
   seen-long = length-replicate 128 false;
@@ -88,10 +149,11 @@ module _ {m : MsgType} {body : Bytes} {seen met : List Bool} {st : State} {at : 
       v ∙ by-reason r a t _ _ e ∙ ap (λ (x : Says). verdictBy x (walk m (after m (A .past) says) (parts (drop next body)))) s ∙ sym (walk-on m (A .past) body part says at next S) ∙ sym (A .rest)
 
   pub goes-on : {part : Bytes} {says : Part} {next : ℕ} {r : Says} {seen2 met2 : List Bool} {st2 : State} → Step body at part says next → r ≡ said m (A .past) says → r ≡ Nothing
-      → Stands (after m (A .past) says) seen2 met2 st2 → st2 .begun ≤ next → length seen2 ≡ 128 → length met2 ≡ 128 → At m body seen2 met2 st2 next
-  goes-on {part} {says} {next} S s e T f k l = record {
+      → Stands (after m (A .past) says) seen2 met2 st2 → isReport m ≡ false → st2 .begun ≤ next → length seen2 ≡ 128 → length met2 ≡ 128 → At m body seen2 met2 st2 next
+  goes-on {part} {says} {next} S s e T n f k l = record {
     past = after m (A .past) says;
     stands = T;
+    flat = after-flat m (A .past) says n (A .flat);
     rest = A .rest ∙ walk-on m (A .past) body part says at next S ∙ ap (λ (x : Says). verdictBy x (walk m (after m (A .past) says) (parts (drop next body)))) (sym s ∙ e);
     few = f;
     seen-long = k;

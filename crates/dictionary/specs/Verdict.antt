@@ -1,4 +1,4 @@
--- The verdict on a body: "fields are walked from the left and the first finding stands."
+-- The verdict on a body: "fields are theTen from the left and the first finding stands."
 use Prim.Native.Nat.{ℕ, _+_}
 use mathlib.Core.List.{List, [], _∷_, _++_}
 use mathlib.Core.Bool.{Bool, true, false, cond, not, _&&_, _||_}
@@ -16,7 +16,7 @@ use Rattle.dictionary.specs.declared.Verdict.{Verdict}
 use Rattle.dictionary.specs.declared.Verdict.the-variants.{Clean, Finding, NoBody}
 
 -- What the walk remembers of the fields before: the tags met outside groups (128 marks in the code), and the groups that are open, the innermost
--- first. In document 01 no group holds another, so there is at most one.
+-- first. Document 02: "A group may hold groups .. count, first-member and missing-member checks apply at each level, innermost first."
 pub record Open : Type 0 where
   pub group : Group
   pub count : ℕ  -- what its count field says
@@ -92,7 +92,7 @@ unfoldable pub rule2 : Part → Says
 rule2 malformed = reason 0 tag 0
 rule2 (field t v) = Nothing
 
--- "3. tag not in the dictionary (8, 9, 10 count as in it): skipped in an administrative message, 3 in AD and F". The rules behind it say nothing of
+-- "3. tag not in the dictionary (8, 9, 10 count as in it): skipped in an administrative message, 3 in AD and F", and in AE, "walked as AD and F are". The rules behind it say nothing of
 -- a field that is skipped.
 unfoldable pub skipped : MsgType → ℕ → Bool
 skipped m t = administrative m && not (inDictionary t)
@@ -171,7 +171,7 @@ abbrev pub walk : MsgType → Past → List Bytes → Verdict
 walk m w [] = verdictBy (firstOf (closingAll (w .inside) ∷ missing (header ++ fields m) (w .seen) ∷ [])) Clean
 walk m w (p ∷ ps) = verdictBy (said m w (partOf p)) (walk m (after m w (partOf p)) ps)
 
--- "MsgType outside the nine: reason 11, tag 35. Otherwise fields are walked from the left". MsgType is the first field 35.
+-- "MsgType outside the nine", now the ten: "reason 11, tag 35. Otherwise fields are theTen from the left". MsgType is the first field 35.
 abbrev pub typeBy : Option Bytes → Option MsgType
 typeBy none = none
 typeBy (some v) = typeOf v

@@ -4,6 +4,7 @@ ghost use mathlib.Core.Path.{_≡_};
 ghost use Prim.Native.Nat.{_<_};
 ghost use Rattle.table.specs.Dictionary.{administrative};
 ghost use Rattle.table.specs.code.Held.{Index, index, bitOf};
+ghost use Rattle.dictionary.specs.code.Held.{isReport};
 
 // The bit of a message in an entry's marks.
 fn bit_of(m: MsgType) -> u32
@@ -19,6 +20,7 @@ fn bit_of(m: MsgType) -> u32
         MsgType::Logon => 6,
         MsgType::OrderCancelRequest => 7,
         MsgType::TradeCaptureReportRequest => 8,
+        MsgType::TradeCaptureReport => 9,
     }
 }
 
@@ -35,7 +37,14 @@ pub fn is_in(marks: u32, m: MsgType) -> bool
     bit(marks, bit_of(m))
 }
 
-// The seven types before F and AD.
+// The type whose groups hold groups.
+pub fn is_report(m: MsgType) -> bool
+    ensures { λ r. ⌜ r ≡ isReport m ⌝ }
+{
+    bit_of(m) == 9
+}
+
+// The seven types before F, AD and AE.
 pub fn is_administrative(m: MsgType) -> bool
     ensures { λ r. ⌜ r ≡ administrative m ⌝ }
 {

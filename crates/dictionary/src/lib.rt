@@ -16,6 +16,7 @@ pub enum Verdict {
 mod bits;
 mod groups;
 mod missing;
+mod nested;
 mod rules;
 mod walk;
 

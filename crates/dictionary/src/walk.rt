@@ -1,12 +1,14 @@
 // The walk along the fields of a body, and the verdict.
 use super::Says;
 use super::Verdict;
+use super::bits::is_report;
 use super::groups::State;
 use super::groups::closing;
 use super::groups::outside;
 use super::groups::remembered;
 use super::missing::missing_header;
 use super::missing::missing_own;
+use super::nested::report_walk;
 use super::rules::of_known;
 use super::rules::of_malformed;
 use super::rules::of_unknown;
@@ -22,13 +24,14 @@ use table::entry_of;
 use table::place_of;
 use table::table;
 ghost use mathlib.Core.Path.{_≡_};
+ghost use mathlib.Core.Bool.{false};
 ghost use Prim.Native.Nat.{_≤_};
 ghost use lib.ListN.{length};
 ghost use Rattle.fields.specs.Field.{parts};
 ghost use mathlib.Core.List.{[], _∷_};
 ghost use Rattle.table.specs.Dictionary.{typeOf, named};
 ghost use Rattle.dictionary.specs.Verdict.{verdictBy, walk, nothingYet, verdict};
-ghost use Rattle.dictionary.specs.code.Held.{Finished, Ended};
+ghost use Rattle.dictionary.specs.code.Held.{isReport, Finished, Ended};
 
 // The verdict by what was said, where nothing more is to come.
 fn finding(said: Says) -> Verdict
@@ -70,9 +73,9 @@ fn ended(m: MsgType, item: Item, st: State, seen: &[bool; 128], met: &[bool; 128
     }
 }
 
-// The fields from the left; the first finding stands.
+// The fields from the left; the first finding stands. No group of the nine types before the report holds another.
 fn walk(m: MsgType, body: &[u8]) -> Verdict
-    requires { ⌜ length (now body) ≤ 2048 ⌝ }
+    requires { ⌜ (length (now body) ≤ 2048) × (isReport m ≡ false) ⌝ }
     ensures { λ r. ⌜ r ≡ walk m nothingYet (parts (now (body .entry))) ⌝ }
 {
     let t = table();
@@ -121,6 +124,9 @@ pub fn type_of(v: &[u8]) -> Named
     if same(v, b"AD") {
         return Named::Of(MsgType::TradeCaptureReportRequest);
     }
+    if same(v, b"AE") {
+        return Named::Of(MsgType::TradeCaptureReport);
+    }
     Named::Other
 }
 
@@ -159,5 +165,8 @@ pub fn verdict_on(body: &[u8]) -> Verdict
             tag: 35,
         };
     };
+    if is_report(m) {
+        return report_walk(body);
+    }
     walk(m, body)
 }

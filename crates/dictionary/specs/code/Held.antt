@@ -1,6 +1,7 @@
 -- What the walk remembers, and what its functions answer. Only the code's walk needs these: nothing here states document 01.
 use Prim.Native.Nat.{ℕ, _+_, _≤_}
 use mathlib.Core.Path.{_≡_}
+use mathlib.Core.Logic.{_⊎_}
 use mathlib.Core.List.{List, [], _∷_, _++_}
 use mathlib.Core.Bool.{Bool, true, false, not, _&&_}
 use lib.Dec.{eqb}
@@ -10,8 +11,8 @@ use Rattle.fields.specs.Field.{Part, field, malformed}
 use Rattle.fields.specs.declared.Item.{Item}
 use Rattle.fields.specs.declared.Item.the-variants.{Field, Malformed, End, NoBody}
 use Rattle.kinds.specs.Kind.{isNumber}
-use Rattle.table.specs.Dictionary.{Row, Group, header, fields, listed, groupsOf, rowsOf}
-use Rattle.table.specs.code.Held.{tags, Two, Marked}
+use Rattle.table.specs.Dictionary.{Row, Group, №453, №580, header, fields, listed, groupsOf, rowsOf}
+use Rattle.table.specs.code.Held.{tags, index, Three, Marked}
 use Rattle.dictionary.specs.Verdict.{Open, Past, firstOf, missing, incomplete, closingAll, ends, begins, left, rule1, rule5, rule7, rule8, rule9, rule10, said, opened, after, verdictBy, walk}
 use Rattle.table.specs.declared.MsgType.{MsgType}
 use Rattle.dictionary.specs.declared.Says.{Says}
@@ -23,11 +24,23 @@ use Rattle.table.specs.declared.lines.Entry.{Entry}
 
 -- WHAT THE WALK REMEMBERS. An open group, and the code's state in it
 pub record InGroup (g : Open) (met : List Bool) (st : State) : Type 0 where
-  pub two : Two (g .group)
+  pub three : Three (g .group)
   pub counter : st .group ≡ g .group .counter
   pub count : st .count ≡ g .count
   pub begun : st .begun ≡ g .begun
   pub last : eqb (g .begun) 0 ≡ false → Marked met (g .last)
+
+-- THE TWO WALKS. The Trade Capture Report's has groups in groups, ..
+abbrev pub isReport : MsgType → Bool
+isReport m = eqb (index m) 9
+
+-- .. the other types have groups none of whose members is the count of another
+abbrev pub Flat : Group → Type 0
+Flat g = (g ≡ №453) ⊎ (g ≡ №580)
+
+abbrev pub AllFlat : List Open → Type 0
+AllFlat [] = Unit {0}
+AllFlat (g ∷ gs) = Flat (g .group) × AllFlat gs
 
 -- no group is open, or one: the code's state has room for no more
 pub data Stood : List Open → List Bool → State → Type 0 where
@@ -49,8 +62,8 @@ pub record Stands (w : Past) (seen met : List Bool) (st : State) : Type 0 where
 
 -- a part is a member of the group with this count tag, and its first one, or of none
 pub record Belongs (p : Part) (group : ℕ) (first : Bool) : Type 0 where
-  pub ended : (g : Group) → Two g → ends (g .members) p ≡ not (eqb (g .counter) group)
-  pub begun : (g : Group) → Two g → begins (g .members) p ≡ (eqb (g .counter) group && first)
+  pub ended : (g : Group) → Three g → ends (g .members) p ≡ not (eqb (g .counter) group)
+  pub begun : (g : Group) → Three g → begins (g .members) p ≡ (eqb (g .counter) group && first)
 
 -- WHAT THE CODE'S FUNCTIONS ANSWER, for whatever past their state stands for.
 pub record Missing (marks : List Bool) (rows : List Row) (r : Says) : Type 0 where
@@ -108,7 +121,7 @@ begunOf st = record { over = st .over; group = st .group; count = st .count; beg
 
 -- and any of the dictionary, with the marks
 pub record Remembered (seen met : List Bool) (st : State) (t : ℕ) (v : Bytes) (seen2 met2 : List Bool) (r : State) : Type 0 where
-  pub is : (m : MsgType) (w : Past) → Stands w seen met st → said m w (field t v) ≡ Nothing → Stands (after m w (field t v)) seen2 met2 r
+  pub is : (m : MsgType) (w : Past) → Stands w seen met st → AllFlat (w .inside) → said m w (field t v) ≡ Nothing → Stands (after m w (field t v)) seen2 met2 r
   pub few : r .begun ≤ st .begun + 1
   pub seen-long : length seen2 ≡ 128
   pub met-long : length met2 ≡ 128

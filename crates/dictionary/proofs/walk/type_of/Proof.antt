@@ -1,8 +1,8 @@
--- The types of one byte, AD, and others.
+-- The types of one byte, AD, AE, and others.
 use borrow.Author.Needs.{needs}
 use Rattle.bytes.specs.Bytes.{Bytes}
 use Rattle.table.specs.Dictionary.{typeOf, named}
-use Rattle.dictionary.proofs.Types.{one-byte, two-bytes, other-bytes}
+use Rattle.dictionary.proofs.Types.{one-byte, two-bytes, report-bytes, other-bytes}
 use mathlib.Core.Path.{ap, _∙_}
 use Rattle.dictionary.proofs.walk.type_of.Statement.{statement}
 use Rattle.dictionary.proofs.walk.type_of.Tie as tie
@@ -14,7 +14,12 @@ returns-2 : tie.Need-returns-2
 returns-2 c = ap named (two-bytes _ (c .before .same .ensures) (c .if2 .taken))
 
 returns-3 : tie.Need-returns-3
-returns-3 c = ap named (other-bytes _ (c .before .before .before .if1 .left) (c .before .same .ensures) (c .if2 .left))
+returns-3 c = ap named (report-bytes _ (c .before .same2 .ensures) (c .if3 .taken))
+
+returns-4 : tie.Need-returns-4
+returns-4 c =
+    let a = c .before .before .before in
+    ap named (other-bytes _ (a .before .before .before .if1 .left) (a .before .same .ensures) (a .if2 .left) (c .before .same2 .ensures) (c .if3 .left))
 
 pub type-of-spec : {M : Type 1} → statement M
 type-of-spec =
@@ -26,4 +31,7 @@ type-of-spec =
     (λ c. search needs)
     (λ c κs. search needs)
     returns-2
-    returns-3)
+    (λ c. search needs)
+    (λ c κs. search needs)
+    returns-3
+    returns-4)

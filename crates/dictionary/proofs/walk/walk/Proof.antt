@@ -43,7 +43,7 @@ loop-again c =
     let u = p .place-of .ensures .absent (c .before .before .before .before .before .if1 .taken) in
     let s = c .before .before .before .of-unknown .ensures .is (A .past) _ (A .stands .stood) u in
     let q = c .before .enum-told .given .1 in
-    goes-on A (field-step (a .item-at .ensures) (p .before .before .item .given .1) refl) s q (skips _ _ _ (A .stands) u (sym s ∙ q) (c .outside2 .ensures)) (omega (arith, ap (λ (x : State). x .begun) (c .outside2 .ensures))) (A .seen-long) (A .met-long)
+    goes-on A (field-step (a .item-at .ensures) (p .before .before .item .given .1) refl) s q (skips _ _ _ (A .stands) u (sym s ∙ q) (c .outside2 .ensures)) (a .before .before .before .before .before .pre .1) (omega (arith, ap (λ (x : State). x .begun) (c .outside2 .ensures))) (A .seen-long) (A .met-long)
 
 sub-v : tie.Need-sub-v Inv-loop μ-loop
 sub-v c = let p = c .before .before .before in omega (arith, field-lies (p .before .before .before .before .item-at .ensures) (p .before .before .item .given .1))
@@ -72,7 +72,7 @@ remembered-requires c κs =
     let a = p .before .before .before .before in
     let A = a .before .loop .inv in
     let l = field-lies (a .item-at .ensures) (p .before .before .item .given .1) in
-    (looked _ (a .before .before .before .table .ensures) (p .place-of .ensures) (c .before .before .before .before .before .before .before .before .before .before .if1 .left) (c .before .before .before .before .before .before .before .before .entry-of .ensures), A .seen-long, A .met-long, omega (arith, A .few, l, a .before .before .before .before .before .pre))
+    (looked _ (a .before .before .before .table .ensures) (p .place-of .ensures) (c .before .before .before .before .before .before .before .before .before .before .if1 .left) (c .before .before .before .before .before .before .before .before .entry-of .ensures), A .seen-long, A .met-long, omega (arith, A .few, l, a .before .before .before .before .before .pre .0))
 
 loop-less-2 : tie.Need-loop-less-2 Inv-loop μ-loop
 loop-less-2 c = let p = c .before .before .before .before .before .before .before .before .before .before .before .before in let a = p .before .before .before .before in omega (arith, field-lies (a .item-at .ensures) (p .before .before .item .given .1))
@@ -87,7 +87,7 @@ loop-again-2 c =
     let s = c .before .before .before .before .before .of-known .ensures .is (A .past) (A .stands) in
     let q = c .before .before .before .enum-told3 .given .1 in
     let R = c .remembered .ensures in
-    goes-on A S s q (R .is _ (A .past) (A .stands) (sym s ∙ q)) (omega (arith, A .few, l, R .few)) (R .seen-long) (R .met-long)
+    goes-on A S s q (R .is _ (A .past) (A .stands) (A .flat) (sym s ∙ q)) (a .before .before .before .before .before .pre .1) (omega (arith, A .few, l, R .few)) (R .seen-long) (R .met-long)
 
 pub walk-spec : {M : Type 1} → statement M
 walk-spec =
