@@ -1,10 +1,10 @@
 -- A message as a list of fields, and its bytes.
-use Prim.Native.Nat.{ℕ}
+use Prim.Native.Nat.{ℕ, _-_}
 use mathlib.Core.List.{List, [], _∷_, _++_, map}
-use mathlib.Core.Bool.{cond}
+use mathlib.Core.Bool.{cond, _&&_}
 use mathlib.Core.Option.{Option, none, some}
-use lib.Dec.{eqb}
-use lib.ListN.{length}
+use lib.Dec.{eqb, leb}
+use lib.ListN.{length, take, drop}
 use Rattle.bytes.specs.Bytes.{Bytes, fix, same, decimal}
 use Rattle.frame.specs.Frame.{fixt, front, trailer, sumOf}
 use Rattle.table.specs.declared.MsgType.{MsgType}
@@ -66,3 +66,8 @@ written m vs = framed (row (message m vs))
 abbrev pub given : List Field → ℕ → Value
 given [] t = absent
 given ((u is v) ∷ fs) t = let later = given fs t in cond (eqb u t) v later
+
+-- bytes of a text that lies beside the values, from a start to an end. A place that the text does not have holds no bytes, and "an empty value is one
+-- that the dictionary would reject"
+abbrev pub part : Bytes → ℕ → ℕ → Bytes
+part text start end = cond (leb start end && leb end (length text)) (take (end - start) (drop start text)) []

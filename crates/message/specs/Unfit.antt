@@ -4,7 +4,7 @@ use mathlib.Core.Bool.{Bool, not, _&&_, _||_}
 use mathlib.Core.Option.{Option, none, some}
 use lib.Dec.{eqb}
 use lib.ListN.{length}
-use Rattle.bytes.specs.Bytes.{Bytes, byte, any, has}
+use Rattle.bytes.specs.Bytes.{Bytes, byte, any, has, within}
 use Rattle.kinds.specs.Kind.{formed, allowed}
 use Rattle.table.specs.declared.MsgType.{MsgType}
 use Rattle.table.specs.Dictionary.{rowsOf, listed, kindIn}
@@ -26,3 +26,10 @@ unwritable m t (some v) = rejected m t v
 
 abbrev pub unfit : MsgType → Field → Bool
 unfit m (t is v) = unwritable m t (shown v)
+
+-- "strings of 1 to .. bytes, none `|`", and "CompIDs (1 to 11 bytes, no `|`)"
+abbrev pub stringTo : ℕ → Bytes → Bool
+stringTo most v = within 1 most (length v) && not (has v (byte "|"))
+
+unfoldable pub compID : Bytes → Bool
+compID c = stringTo 11 c

@@ -1,0 +1,195 @@
+-- The written decimal reads back as its two numbers, and a decimal that is read is the one that is written for them.
+use Prim.Native.Nat.{ℕ, zero, suc, _+_, _-_, _*_, _/_, _%_, _^_, _≤_, _<_}
+use native.Mathlib.Nat.{add-zero, pow-suc}
+use native.Mathlib.Omega.{arith}
+use mathlib.Core.Path.{_≡_, refl, sym, ap, _∙_, subst}
+use mathlib.Core.List.{List, [], _∷_, _++_, append-assoc, append-nil}
+use mathlib.Core.Bool.{Bool, true, false, cond, not, _&&_, _||_, and-false, false≢true}
+use lib.Dec.{eqb, leb}
+use lib.ListN.{length, drop, getD, length-append}
+use borrow.Author.Tests.{eq-eqb, ne-eqb, eqb-true, eqb-false}
+use Rattle.bytes.specs.Bytes.{Bytes, fix, all, starts, within, digit, value, valueFrom, decimal}
+use Rattle.frame.proofs.Lists.{valueFrom-append}
+use Rattle.bytes.proofs.Tests.{both, all-append}
+use Rattle.bytes.proofs.Numerals.{Numeral, digit-is, is-digit, is-within, digits-row}
+use Rattle.bytes.proofs.Decimals.{decimal-worth, decimal-numeral, numeral-decimal}
+use Rattle.decimals.specs.Decimal.{leading, trailing, plain, pointed, isDecimal, placesOf, wholeOf, rangedOf, decimalOf}
+use Rattle.decimals.specs.declared.Decimal.{Decimal}
+use Rattle.decimals.specs.declared.Decimal.the-variants.{Is, OutOfRange, Bad}
+use Rattle.calendar.specs.Time.{padded}
+use Rattle.kinds.specs.Kind.{Kind, allowed}
+use Rattle.kinds.specs.Kind as Kind
+use Rattle.message.proofs.Rows.{decimal-digits}
+use Rattle.amounts.specs.Amount.{Amount, without, pointing, amountText, given, amountIn}
+
+below-power : (n : ℕ) → n < 10 ^ suc n
+below-power zero = omega arith
+below-power (suc n) = omega (arith, pow-suc 10 (suc n), below-power n)
+
+-- DIGITS, then what is no digit
+pub leading-digits : (l r : Bytes) → all digit l ≡ true → leading r ≡ [] → leading (l ++ r) ≡ l
+leading-digits [] r h e = e
+leading-digits (x ∷ l) r h e = let w = both (digit x) (all digit l) h in rw (w .0, leading-digits l r (w .1) e)
+
+pub trailing-digits : (l r : Bytes) → all digit l ≡ true → trailing r ≡ r → trailing (l ++ r) ≡ r
+trailing-digits [] r h e = e
+trailing-digits (x ∷ l) r h e = let w = both (digit x) (all digit l) h in rw (w .0, trailing-digits l r (w .1) e)
+
+split : (v : Bytes) → leading v ++ trailing v ≡ v
+split [] = refl
+split (x ∷ v) = go (digit x) (split v)
+  where
+    go : (b : Bool) → leading v ++ trailing v ≡ v → cond b (x ∷ leading v) [] ++ cond b (trailing v) (x ∷ v) ≡ x ∷ v
+    go true e = ap (λ (l : Bytes). x ∷ l) e
+    go false e = refl
+
+leading-all : (v : Bytes) → all digit (leading v) ≡ true
+leading-all [] = refl
+leading-all (x ∷ v) = go (digit x) refl (leading-all v)
+  where
+    go : (b : Bool) → digit x ≡ b → all digit (leading v) ≡ true → all digit (cond b (x ∷ leading v) []) ≡ true
+    go true e h = rw (e, h)
+    go false e h = refl
+
+-- THE DIGITS OF A NUMBER, with no zero in front but a lone 0
+decimal-all : (n : ℕ) → all digit (decimal n) ≡ true
+decimal-all n = digits-row (decimal n) (decimal-digits n)
+
+numeral-plain : (k : ℕ) (l : Bytes) → Numeral k l → plain l ≡ true
+numeral-plain k [] N = absurd (omega (arith, N .some-digit))
+numeral-plain k (d ∷ l) N = rw (ne-eqb (length (d ∷ l)) 0 (λ e. omega arith), ne-eqb 48 d (λ e. N .no-zero (sym e)))
+
+pub lone-zero : decimal 0 ≡ 48 ∷ []
+unfolding decimal
+lone-zero = refl
+
+decimal-plain : (n : ℕ) → plain (decimal n) ≡ true
+decimal-plain zero = ap plain lone-zero
+decimal-plain (suc n) = numeral-plain (suc (suc n)) (decimal (suc n)) (decimal-numeral (suc n) (suc n) (omega arith) (below-power (suc n)))
+
+-- they are the only ones
+pub plain-decimal : (l : Bytes) → plain l ≡ true → all digit l ≡ true → decimal (value l) ≡ l
+plain-decimal [] p h = absurd (false≢true p)
+plain-decimal (d ∷ []) p h = go (eqb 48 d) refl
+  where
+    go : (b : Bool) → eqb 48 d ≡ b → decimal (value (d ∷ [])) ≡ d ∷ []
+    go true e = subst (λ (x : ℕ). decimal (value (x ∷ [])) ≡ x ∷ []) (eqb-true 48 d e) lone-zero
+    go false e = numeral-decimal 1 (d ∷ []) (record { some-digit = omega arith; few = omega arith; whole = h; no-zero = λ z. eqb-false 48 d e (sym z) })
+plain-decimal (d ∷ x ∷ l) p h = go (eqb 48 d) refl p
+  where
+    go : (b : Bool) → eqb 48 d ≡ b → (not (eqb (length (d ∷ x ∷ l)) 0) && (not (b && true) || eqb (length (d ∷ x ∷ l)) 1)) ≡ true → decimal (value (d ∷ x ∷ l)) ≡ d ∷ x ∷ l
+    go true e g = let n = eqb-true (length (d ∷ x ∷ l)) 1 (both (not (eqb (length (d ∷ x ∷ l)) 0)) (eqb (length (d ∷ x ∷ l)) 1) g .1) in absurd (omega arith)
+    go false e g = numeral-decimal (length (d ∷ x ∷ l)) (d ∷ x ∷ l) (record { some-digit = omega arith; few = omega arith; whole = h; no-zero = λ z. eqb-false 48 d e (sym z) })
+
+-- THE LAST k DIGITS, and the number without them
+padded-all : (k n : ℕ) → all digit (padded k n) ≡ true
+padded-all zero n = refl
+padded-all (suc k) n = all-append digit (padded k (n / 10)) ((48 + n % 10) ∷ []) ∙ rw (padded-all k (n / 10), is-digit (48 + n % 10) (omega arith, omega arith))
+
+pub padded-length : (k n : ℕ) → length (padded k n) ≡ k
+padded-length zero n = refl
+padded-length (suc k) n = omega (arith, length-append (padded k (n / 10)) ((48 + n % 10) ∷ []), padded-length k (n / 10))
+
+joined : (k n : ℕ) → value (decimal (without k n) ++ padded k n) ≡ n
+joined zero n = ap value (append-nil (decimal n)) ∙ decimal-worth n
+joined (suc k) n =
+    ap value (sym (append-assoc (decimal (without k (n / 10))) (padded k (n / 10)) ((48 + n % 10) ∷ [])))
+    ∙ valueFrom-append 0 (decimal (without k (n / 10)) ++ padded k (n / 10)) ((48 + n % 10) ∷ [])
+    ∙ omega (arith, joined k (n / 10))
+
+without-from : (k n : ℕ) (l : Bytes) → all digit l ≡ true → without (k + length l) (valueFrom n l) ≡ without k n
+without-from k n [] h = rw (add-zero k)
+without-from k n (d ∷ l) h =
+    let w = both (digit d) (all digit l) h in
+    let D = digit-is d (w .0) in
+    let q : (n * 10 + (d - 48)) / 10 ≡ n = omega arith in
+    let e : k + suc (length l) ≡ suc k + length l = omega arith in
+    rw e (without-from (suc k) (n * 10 + (d - 48)) l (w .1) ∙ rw q)
+
+padded-from : (k n : ℕ) (l : Bytes) → all digit l ≡ true → padded (k + length l) (valueFrom n l) ≡ padded k n ++ l
+padded-from k n [] h = rw (add-zero k) (sym (append-nil (padded k n)))
+padded-from k n (d ∷ l) h =
+    let w = both (digit d) (all digit l) h in
+    let D = digit-is d (w .0) in
+    let q : (n * 10 + (d - 48)) / 10 ≡ n = omega arith in
+    let r : 48 + (n * 10 + (d - 48)) % 10 ≡ d = omega arith in
+    let e : k + suc (length l) ≡ suc k + length l = omega arith in
+    rw e (padded-from (suc k) (n * 10 + (d - 48)) l (w .1) ∙ rw (q, r) (append-assoc (padded k n) (d ∷ []) l))
+
+-- WHAT IS WRITTEN READS BACK as its two numbers, whatever they are
+pub record Reads (v : Bytes) (w p : ℕ) : Type 0 where
+  pub form : isDecimal v ≡ true
+  pub whole : wholeOf v ≡ w
+  pub places : length (placesOf v) ≡ p
+
+reads-by : (v l t : Bytes) → leading v ≡ l → trailing v ≡ t → plain l ≡ true → pointed t ≡ true → Reads v (value (l ++ drop 1 t)) (length (drop 1 t))
+unfolding isDecimal
+reads-by v l t e f p q = record { form = rw (e, f, p, q); whole = rw (e, f); places = rw f }
+
+pub pointing-reads : (w k : ℕ) → Reads (pointing w k) w k
+pointing-reads w zero =
+    let n = append-nil (decimal w) in
+    let R = reads-by (decimal w) (decimal w) [] (ap leading (sym n) ∙ leading-digits (decimal w) [] (decimal-all w) refl) (ap trailing (sym n) ∙ trailing-digits (decimal w) [] (decimal-all w) refl) (decimal-plain w) refl in
+    record { form = R .form; whole = R .whole ∙ joined 0 w; places = R .places }
+pointing-reads w (suc k) =
+    let q : ℕ = without (suc k) w in
+    let ds : Bytes = padded (suc k) w in
+    let n : length ds ≡ suc k = padded-length (suc k) w in
+    let g : pointed (46 ∷ ds) ≡ true = rw (ne-eqb (length ds) 0 (λ e. omega arith), padded-all (suc k) w) in
+    let R = reads-by (pointing w (suc k)) (decimal q) (46 ∷ ds) (leading-digits (decimal q) (46 ∷ ds) (decimal-all q) refl) (trailing-digits (decimal q) (46 ∷ ds) (decimal-all q) refl) (decimal-plain q) g in
+    record { form = R .form; whole = R .whole ∙ joined (suc k) w; places = R .places ∙ n }
+
+-- in their ranges: (d) "reading gives back both"
+pub decimal-back : (w k : ℕ) → w ≤ 999_999_999_999_999 → k ≤ 8 → decimalOf (pointing w k) ≡ Is w k
+unfolding decimalOf
+decimal-back w k h g =
+    let R = pointing-reads w k in
+    rw (R .form, R .whole, R .places, is-within 0 999_999_999_999_999 w (omega arith) h, is-within 0 8 k (omega arith) g)
+
+pub amount-back : (a : Amount) → allowed Kind.decimal (amountText a) ≡ true → amountIn (amountText a) ≡ a
+unfolding amountText amountIn decimalOf allowed
+amount-back a h =
+    let R = pointing-reads (a .whole) (a .places) in
+    rw (R .form, h) (rw (R .whole, R .places))
+
+-- WHAT IS READ IS WHAT IS WRITTEN for the two numbers
+pointing-by : (l t : Bytes) → plain l ≡ true → all digit l ≡ true → pointed t ≡ true → pointing (value (l ++ drop 1 t)) (length (drop 1 t)) ≡ l ++ t
+pointing-by l [] p h q = ap (λ (x : Bytes). decimal (value x)) (append-nil l) ∙ plain-decimal l p h ∙ sym (append-nil l)
+pointing-by l (x ∷ []) p h q = absurd (false≢true (sym (ap (λ (b : Bool). b) (and-false (eqb x 46))) ∙ q))
+pointing-by l (x ∷ d ∷ ds) p h q =
+    let a = both (eqb x 46) (not (eqb (length (d ∷ ds)) 0) && all digit (d ∷ ds)) q in
+    let b = both (not (eqb (length (d ∷ ds)) 0)) (all digit (d ∷ ds)) (a .1) in
+    let v : value (l ++ (d ∷ ds)) ≡ valueFrom (value l) (d ∷ ds) = valueFrom-append 0 l (d ∷ ds) in
+    let z : 0 + length (d ∷ ds) ≡ length (d ∷ ds) = omega arith in
+    let f : without (length (d ∷ ds)) (valueFrom (value l) (d ∷ ds)) ≡ value l = rw z at (without-from 0 (value l) (d ∷ ds) (b .1)) in
+    let g : padded (length (d ∷ ds)) (valueFrom (value l) (d ∷ ds)) ≡ d ∷ ds = rw z at (padded-from 0 (value l) (d ∷ ds) (b .1)) in
+    ap (λ (n : ℕ). decimal (without (length (d ∷ ds)) n) ++ (46 ∷ padded (length (d ∷ ds)) n)) v
+    ∙ ap (λ (n : ℕ). decimal n ++ (46 ∷ padded (length (d ∷ ds)) (valueFrom (value l) (d ∷ ds)))) f
+    ∙ ap (λ (y : Bytes). decimal (value l) ++ (46 ∷ y)) g
+    ∙ ap (λ (y : Bytes). y ++ (46 ∷ d ∷ ds)) (plain-decimal l p h)
+    ∙ ap (λ (n : ℕ). l ++ (n ∷ d ∷ ds)) (sym (eqb-true x 46 (a .0)))
+
+pub pointing-only : (v : Bytes) → isDecimal v ≡ true → pointing (wholeOf v) (length (placesOf v)) ≡ v
+unfolding isDecimal
+pointing-only v h =
+    let w = both (plain (leading v)) (pointed (trailing v)) h in
+    pointing-by (leading v) (trailing v) (w .0) (leading-all v) (w .1) ∙ split v
+
+-- each text has one pair, each pair one text
+pub decimal-only : (v : Bytes) (w k : ℕ) → decimalOf v ≡ Is w k → pointing w k ≡ v
+unfolding decimalOf
+decimal-only v w k e = go (isDecimal v) refl e
+  where
+    ranged : (b : Bool) → isDecimal v ≡ true → cond b (Is (wholeOf v) (length (placesOf v))) OutOfRange ≡ Is w k → pointing w k ≡ v
+    ranged true f g =
+        let a : wholeOf v ≡ w = cc in
+        let c : length (placesOf v) ≡ k = cc in
+        ap (λ (x : ℕ). pointing x k) (sym a) ∙ ap (pointing (wholeOf v)) (sym c) ∙ pointing-only v f
+    ranged false f g = let z : _≡_ {A = ℕ} 0 1 = cc in absurd (omega arith)
+
+    go : (b : Bool) → isDecimal v ≡ b → cond b (rangedOf (wholeOf v) (length (placesOf v))) Bad ≡ Is w k → pointing w k ≡ v
+    go true f g = ranged (within 0 999_999_999_999_999 (wholeOf v) && within 0 8 (length (placesOf v))) f g
+    go false f g = let z : _≡_ {A = ℕ} 0 1 = cc in absurd (omega arith)
+
+pub one-text : (u v : Bytes) (w k : ℕ) → decimalOf u ≡ Is w k → decimalOf v ≡ Is w k → u ≡ v
+one-text u v w k e f = sym (decimal-only u w k e) ∙ decimal-only v w k f

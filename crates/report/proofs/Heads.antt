@@ -1,0 +1,58 @@
+-- A report's body is its header and then the fields of its values, the same when it is sent again: what a replay copies. And how long it can be.
+use Prim.Native.Nat.{ℕ, _+_, _≤_, _<_}
+use native.Mathlib.Omega.{arith}
+use mathlib.Core.Path.{_≡_, refl, sym, ap, _∙_}
+use mathlib.Core.List.{List, [], _∷_, _++_, append-assoc}
+use mathlib.Core.Bool.{true, not, _&&_}
+use mathlib.Core.Option.{Option, none, some}
+use lib.ListN.{length, length-append}
+use Rattle.bytes.specs.Bytes.{Bytes, fix, has, within, decimal}
+use Rattle.bytes.proofs.Tests.{both}
+use Rattle.bytes.proofs.Numerals.{within-is}
+use Rattle.bytes.proofs.Decimals.{decimal-numeral}
+use Rattle.calendar.specs.Time.{utc}
+use Rattle.calendar.proofs.Times.{utc-length}
+use Rattle.message.specs.Message.{Value, absent, number, bytes, Field, _is_, tagged, field, row}
+use Rattle.report.specs.Values.{own, takes}
+use Rattle.report.specs.Report.{Report, fieldsOf, fieldsWith, compID}
+use Rattle.report.proofs.Sizes.{field-long}
+use Rattle.report.proofs.Longest.{own-long}
+
+row-append : (fs gs : List Field) → row (fs ++ gs) ≡ row fs ++ row gs
+row-append [] gs = refl
+row-append (f ∷ fs) gs = ap (λ (l : Bytes). field f ++ l) (row-append fs gs) ∙ sym (append-assoc (field f) (row fs) (row gs))
+
+abbrev pub head : Bytes → Bytes → ℕ → Value → ℕ → Value → List Field
+head us them n dup t orig =
+    35 is bytes (fix "AE") ∷ 49 is bytes us ∷ 56 is bytes them ∷ 34 is number n ∷ 43 is dup ∷ 52 is bytes (utc t) ∷ 122 is orig ∷ []
+
+module _ (us them : Bytes) (r : Report) where
+  pub sent-split : row (fieldsOf us them r) ≡ row (head us them (r .number) absent (r .time) absent) ++ row (own (r .values))
+  sent-split = row-append (head us them (r .number) absent (r .time) absent) (own (r .values))
+
+  pub again-split : (t : ℕ) → row (fieldsWith us them (r .number) (bytes (fix "Y")) t (bytes (utc (r .time))) (r .values))
+      ≡ row (head us them (r .number) (bytes (fix "Y")) t (bytes (utc (r .time)))) ++ row (own (r .values))
+  again-split t = row-append (head us them (r .number) (bytes (fix "Y")) t (bytes (utc (r .time)))) (own (r .values))
+
+  two : (t : ℕ) → 1 ≤ t → t < 100 → length (decimal t) ≤ 2
+  two t h k = decimal-numeral 1 t h k .few
+
+  short : (c : Bytes) → compID c ≡ true → length c ≤ 11
+  unfolding compID
+  short c h = within-is 1 11 (length c) (both (within 1 11 (length c)) (not (has c 1)) h .0) .1
+
+  module _ (ours : compID us ≡ true) (peers : compID them ≡ true) (low : 1 ≤ r .number) (high : r .number ≤ 999_999_999) where
+    pub head-long : length (row (head us them (r .number) absent (r .time) absent)) ≤ 77
+    head-long =
+        let n : Bytes = decimal (r .number) in
+        let a : Bytes = tagged 35 (some (fix "AE")) in
+        let b : Bytes = tagged 49 (some us) in
+        let c : Bytes = tagged 56 (some them) in
+        let d : Bytes = tagged 34 (some n) in
+        let e : Bytes = tagged 52 (some (utc (r .time))) in
+        let N = decimal-numeral 8 (r .number) low (omega arith) in
+        omega (arith, length-append a (b ++ (c ++ (d ++ (e ++ [])))), length-append b (c ++ (d ++ (e ++ []))), length-append c (d ++ (e ++ [])), length-append d (e ++ []), length-append e [], field-long (decimal 35) (fix "AE"), field-long (decimal 49) us, field-long (decimal 56) them, field-long (decimal 34) n, field-long (decimal 52) (utc (r .time)), two 35 (omega arith) (omega arith), two 49 (omega arith) (omega arith), two 56 (omega arith) (omega arith), two 34 (omega arith) (omega arith), two 52 (omega arith) (omega arith), utc-length (r .time), short us ours, short them peers, N .few)
+
+    -- a body buffer of 768 bytes holds every report whose values are taken, also one that refusal 12 is for
+    pub body-long : takes (r .values) ≡ true → length (row (fieldsOf us them r)) ≤ 732
+    body-long h = omega (arith, ap length sent-split, length-append (row (head us them (r .number) absent (r .time) absent)) (row (own (r .values))), head-long, own-long (r .values) h)

@@ -1,0 +1,57 @@
+-- The promises on the report message, together.
+-- Assumes nothing.
+use Prim.Native.Nat.{ℕ, _≤_, _<_}
+use native.Mathlib.Omega.{arith}
+use mathlib.Core.Path.{_≡_, refl, sym, ap, _∙_}
+use mathlib.Core.Bool.{true}
+use mathlib.Core.Option.{some}
+use lib.ListN.{length}
+use Rattle.bytes.specs.Bytes.{Bytes, fix}
+use Rattle.calendar.specs.Time.{utc, limit}
+use Rattle.calendar.proofs.Times.{utc-no-bar}
+use Rattle.dictionary.specs.declared.Verdict.the-variants.{Clean}
+use Rattle.dictionary.specs.Verdict.{verdict}
+use Rattle.message.specs.Message.{bytes, row}
+use Rattle.message.specs.Whole.{bodyIn}
+use Rattle.message.proofs.Wholes.{body-back}
+use Rattle.report.specs.Report.{Report, fieldsOf, fieldsWith, sent, again, sendable, valuesIn}
+use Rattle.report.specs.Promise.{Lawful}
+use Rattle.report.proofs.Reading.{values-back}
+use Rattle.report.proofs.Promises.{sendable-is, comp-free, sent-read, sent-back, read-only, sent-one, sent-bar}
+use Rattle.report.proofs.Sizes.{again-fits}
+use Rattle.report.proofs.Verdicts.{sent-clean, again-clean}
+
+module _ (us them : Bytes) (r : Report) where
+  clean : sendable us them r ≡ true → verdict (bodyIn (sent us them r)) ≡ Clean
+  unfolding sent
+  clean h = ap verdict (body-back (row (fieldsOf us them r))) ∙ sent-clean us them r h
+
+  resent-body : (t : ℕ) → bodyIn (again us them r t) ≡ row (fieldsWith us them (r .number) (bytes (fix "Y")) t (bytes (utc (r .time))) (r .values))
+  unfolding again
+  resent-body t = body-back (row (fieldsWith us them (r .number) (bytes (fix "Y")) t (bytes (utc (r .time))) (r .values)))
+
+  again-reads : (t : ℕ) → sendable us them r ≡ true → valuesIn (bodyIn (again us them r t)) ≡ r .values
+  again-reads t h =
+      let S = sendable-is us them r h in
+      ap valuesIn (resent-body t)
+      ∙ values-back us them (r .number) (some (fix "Y")) t (some (utc (r .time))) (r .values) (comp-free us (S .ours)) (comp-free them (S .peers)) refl (utc-no-bar (r .time)) (S .taken)
+
+  again-is-clean : (t : ℕ) → sendable us them r ≡ true → t < limit → verdict (bodyIn (again us them r t)) ≡ Clean
+  again-is-clean t h k = ap verdict (resent-body t) ∙ again-clean us them r h t k
+
+  again-short : (t : ℕ) → sendable us them r ≡ true → length (again us them r t) ≤ 600
+  again-short t h = let n = again-fits us them r t (sendable-is us them r h .short) in omega arith
+
+pub lawful : Lawful
+lawful =
+    record {
+      reads = sent-read;
+      back = sent-back;
+      only = read-only;
+      one = sent-one;
+      bar = sent-bar;
+      clean = clean;
+      again-reads = again-reads;
+      again-clean = again-is-clean;
+      again-short = again-short;
+    }

@@ -1,0 +1,5 @@
+pub mod Values
+pub mod Report
+pub mod Layout
+pub mod Promise
+pub mod Cases
