@@ -1,4 +1,4 @@
--- The verdict on a body: "fields are theTen from the left and the first finding stands."
+-- The verdict on a body: "fields are walked from the left and the first finding stands."
 use Prim.Native.Nat.{ℕ, _+_}
 use mathlib.Core.List.{List, [], _∷_, _++_}
 use mathlib.Core.Bool.{Bool, true, false, cond, not, _&&_, _||_}
@@ -171,7 +171,7 @@ abbrev pub walk : MsgType → Past → List Bytes → Verdict
 walk m w [] = verdictBy (firstOf (closingAll (w .inside) ∷ missing (header ++ fields m) (w .seen) ∷ [])) Clean
 walk m w (p ∷ ps) = verdictBy (said m w (partOf p)) (walk m (after m w (partOf p)) ps)
 
--- "MsgType outside the nine", now the ten: "reason 11, tag 35. Otherwise fields are theTen from the left". MsgType is the first field 35.
+-- "MsgType outside the nine", now the ten: "reason 11, tag 35. Otherwise fields are walked from the left". MsgType is the first field 35.
 abbrev pub typeBy : Option Bytes → Option MsgType
 typeBy none = none
 typeBy (some v) = typeOf v
