@@ -1,4 +1,5 @@
-"""Asserts the model against document 01's desk examples W1 to W12 and against the readings of docs/DECISIONS.md.
+"""Asserts the model against document 01's desk examples W1 to W12, against the readings of docs/DECISIONS.md and against
+worked cases of the requests of document 02 that have landed.
 
 Run it as a program; it prints how many assertions held, and fails at the first that does not. `|` is the byte 1. The
 cases stand in tests/worked, a file for each section.
@@ -7,11 +8,16 @@ import sys
 
 sys.dont_write_bytecode = True
 
-from worked import basics, calls, desk, frames, kinds, lines, rules, verdicts, waiting, writer
+import model
+from worked import (basics, calls, decimals, desk, frames, kinds, lines, report_lines, reporting, reports, reports_in, rules,
+                    verdicts, waiting, writer)
+
+CASES = [desk, frames, verdicts, kinds, waiting, rules, calls, writer, lines]
+OF_REQUESTS = {1: [decimals, reports, reports_in, reporting, report_lines]}
 
 
 def main():
-    for cases in desk, frames, verdicts, kinds, waiting, rules, calls, writer, lines:
+    for cases in CASES + [cases for request in model.LANDED for cases in OF_REQUESTS[request]]:
         for name, test in vars(cases).items():
             if name.startswith("test_"):
                 test()

@@ -1,10 +1,13 @@
 """The driver's answer to each request line, by its word (words.py has the grammar)."""
-from .calls import step, tick
-from .fields import cut, is_body, parts
+from .calls import report, step, tick
+from .fields import cut, first_field, is_body, parts
 from .frame import read, read_in_pieces
+from .landed import LANDED
 from .record import new_session, reconnect
+from .report import MSG_TYPE, values_in
 from .walk import verdict
-from .words import GREATEST_ROOM, Unreadable, bytes_of, in_hex, in_words, number_of, pairs_of, record_of
+from .words import (GREATEST_ROOM, Unreadable, bytes_of, in_hex, in_words, number_of, pairs_of, record_of,
+                    report_values_of, report_words)
 from .writer import write
 
 
@@ -68,6 +71,27 @@ def answer_tick(words):
     return f"ok {in_hex(outcome.reply)} {in_words(outcome.record)}"
 
 
+def answer_landed(words):
+    return " ".join(["landed", *map(str, LANDED)])
+
+
+def answer_report(words):
+    time, room = number_of(words[0]), number_of(words[1], GREATEST_ROOM)
+    outcome = report(record_of(words[2:9]), report_values_of(words[9:]), time, room)
+    if outcome.refusal:
+        return f"refusal {outcome.refusal} {in_words(outcome.record)}"
+    return f"ok {in_hex(outcome.reply)} {in_words(outcome.record)}"
+
+
+def answer_report_values(words):
+    """A clean body of another type is told as one that is of none: 11, 35."""
+    body = bytes_of(words[0])
+    if not is_body(body):
+        return "refusal 10"
+    finding = verdict(body) or (None if first_field(body, 35) == MSG_TYPE else (11, 35))
+    return "finding %d %d" % finding if finding else f"values {report_words(values_in(body))}"
+
+
 # The request's word: how it is answered, and the least and greatest number of words that may follow it.
 REQUESTS = {
     "read": (answer_read, 1, 1),
@@ -80,6 +104,10 @@ REQUESTS = {
     "step": (answer_step, 10, 10),
     "tick": (answer_tick, 9, 9),
 }
+if LANDED:
+    REQUESTS["landed"] = (answer_landed, 0, 0)
+if 1 in LANDED:
+    REQUESTS.update({"report": (answer_report, 9, None), "report-values": (answer_report_values, 1, 1)})
 
 
 def words_of(line):

@@ -1,9 +1,10 @@
-"""Step and tick of document 01: their refusals in order, then the moves."""
+"""Step and tick of document 01, the report of document 02: their refusals in order, then what they do."""
 from dataclasses import replace
 
 from .frame import TRAILER, good_frame
 from .moves import Move, Writing
 from .record import ACTIVE, CLOSED, END_OF_TIME, LEAST_REPLY_ROOM, SECOND, WAITING, Outcome, in_range, numbers_used_up
+from .report import LONGEST_REPORT, dictionary_rejects, written
 from .rules import RULES
 from .waiting import waiting
 
@@ -54,3 +55,25 @@ def tick(record, time, room):
     if time - record.last_sent >= record.heartbeat * SECOND:    # below zero for "a clock that went back"
         call.send(b"0", {})
     return Outcome(None, False, call.reply, call.record, None)
+
+
+def report(record, values, time, room):
+    """02: the order for a report is 11, 7, 2, 5, 8, 12, 9. Outside Active a report is refusal 2, session unchanged; 8,
+    9 and 12 change nothing. A report from the host takes the next number out"""
+    if not in_range(record):
+        return refused(11, record)
+    if time >= END_OF_TIME:
+        return refused(7, record)
+    if record.status != ACTIVE:
+        return refused(2, record)
+    if numbers_used_up(record):
+        return refused(5, record, status=CLOSED)
+    if dictionary_rejects(values):
+        return refused(8, record)
+    reply = written(record, values, time)
+    if len(reply) > LONGEST_REPORT:
+        return refused(12, record)
+    if len(reply) > room:
+        return refused(9, record)
+    after = replace(record, next_out=record.next_out + 1, last_sent=time)
+    return Outcome(None, False, reply, after, None)

@@ -1,5 +1,7 @@
-"""The kinds of document 01: form and value of one field."""
-from .dictionary import DATES, FROM_ONE, FROM_ZERO, GROUP_RANGES, IN_DICTIONARY, STRING_LENGTHS, TIMES, YES_OR_NO
+"""The kinds of document 01 and the decimals of document 02: form and value of one field."""
+from .decimals import DECIMAL_SHAPE, decimal_in, decimal_range
+from .dictionary import (DATES, DECIMALS, FROM_ONE, FROM_ZERO, GROUP_RANGES, IN_DICTIONARY, STRING_LENGTHS, TIMES,
+                         YES_OR_NO)
 from .frame import BAR
 from .times import DATE_SHAPE, TIME_SHAPE, calendar_date, calendar_time
 
@@ -27,11 +29,14 @@ def bad_form(tag, value):
         return not TIME_SHAPE.fullmatch(value)
     if tag in DATES:
         return not DATE_SHAPE.fullmatch(value)
+    if tag in DECIMALS:
+        return not DECIMAL_SHAPE.fullmatch(value)
     return False
 
 
-def bad_value(tag, value):
+def bad_value(entry, value):
     """01: bad value: 5 (ranges, lists, string length, calendar). Asked of a value of good form alone."""
+    tag = entry.tag
     if tag in FROM_ONE or tag in FROM_ZERO:
         least, greatest = number_range(tag)
         return not least <= int(value) <= greatest
@@ -41,10 +46,13 @@ def bad_value(tag, value):
         return not calendar_time(value)
     if tag in DATES:
         return not calendar_date(value)
-    if IN_DICTIONARY[tag].values is not None:
-        return value not in IN_DICTIONARY[tag].values
+    if tag in DECIMALS:
+        return not decimal_range(decimal_in(value))
+    if entry.values is not None:
+        return value not in entry.values
     return BAR in value or not 1 <= len(value) <= STRING_LENGTHS.get(tag, 32)
 
 
-def of_its_kind(tag, value):
-    return not bad_form(tag, value) and not bad_value(tag, value)
+def of_its_kind(tag, value, table=IN_DICTIONARY):
+    """Whether a value has form and range of its tag, with the list that this table gives it."""
+    return not bad_form(tag, value) and not bad_value(table[tag], value)

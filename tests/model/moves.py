@@ -61,11 +61,12 @@ class Move(Writing):
             return 49
         return 56 if self.first(56) != self.record.ours else None
 
-    def reject(self, reason, tag):
-        """01: Reject writes 45 (N), 371 unless 0, 372 only if the type is one of the nine, 373."""
+    def reject(self, reason, tag, naming_type=True):
+        """01: Reject writes 45 (N), 371 unless 0, 372 only if the type is one of the nine, 373. 02: AE as a tenth
+        type"""
         values = {45: self.n, 373: reason}
         if tag != 0:
             values[371] = tag
-        if self.msg_type in MESSAGES:
+        if naming_type and self.msg_type in MESSAGES:
             values[372] = self.msg_type
         self.send(b"3", values)

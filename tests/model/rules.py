@@ -1,4 +1,5 @@
 """The moves of document 01 while Active, "first rule that fits", and rule 6 by type. Each rule answers whether it fits."""
+from .landed import LANDED
 from .serving import gap_fill_out, unservable
 
 
@@ -63,11 +64,19 @@ def rule_5(move):
 def rule_6(move):
     """6. N = E: a verdict gives Reject, E + 1. Then by type; where not said here, E + 1."""
     move.record.expected = move.n + 1
+    if 1 in LANDED and move.msg_type == b"AE":
+        return report_in(move)
     finding = move.verdict()
     if finding:
         move.reject(*finding)
     else:
         IN_TURN[move.msg_type](move)
+    return True
+
+
+def report_in(move):
+    """02: in rule 6 an AE from a member, whatever its verdict, is Reject 11, tag 35, no 372"""
+    move.reject(11, 35, naming_type=False)
     return True
 
 

@@ -18,13 +18,20 @@ The grammar of a request, where the driver's page leaves room:
            with `n` alone, 43 49 52 56 58 98 112 122 123 141 372 1137 with `b` alone. For one of these 21 the other
            letter is `error`, and so is giving it twice; this holds whatever the type. For any other tag both letters
            are readable, any number of times, and the answer is `refusal 8`.
+  report   TIME BUFLEN RECORD VALUES.. (Q-1); the values in any order: a NUMBER, `=`, then `b` BYTES or `d` NUMBER `.`
+           NUMBER; and `party=` with three BYTES and a comma between them, once for each party in order. The call has a
+           place for eleven tags: 31 32 are taken with `d` alone, 22 48 54 60 64 571 574 828 1427 with `b` alone. For one
+           of these the other letter is `error`, and so is giving it twice. For any other tag, also 552, 453 and those of
+           a party, both letters are readable, any number of times, and the answer is `refusal 8` in its place.
   `error`  is also: an unknown word, too few or too many words. A line is read whole before any call is made, so
            `error` stands before every refusal.
 """
 import re
 
-from .dictionary import FROM_ONE, FROM_ZERO
+from .decimals import Decimal
+from .dictionary import DECIMALS, FROM_ONE, FROM_ZERO
 from .record import Record
+from .report import PARTY_TAGS, VALUE_TAGS, Values
 from .writer import WRITER_TAGS
 
 GREATEST_WORD = 2 ** 64 - 1
@@ -83,3 +90,45 @@ def in_hex(value):
 def in_words(record):
     return (f"{in_hex(record.ours)} {in_hex(record.peer)} {record.status} {record.expected} {record.next_out}"
             f" {record.heartbeat} {record.last_sent}")
+
+
+# ---- The values of a report -----------------------------------------------------------------------------------------
+
+def party_of(word):
+    party = tuple(map(bytes_of, word.split(",")))
+    if len(party) != len(PARTY_TAGS):
+        raise Unreadable
+    return party
+
+
+def report_value_of(word):
+    """A decimal out of `dWHOLE.PLACES`, bytes out of `bBYTES`."""
+    if word[:1] == "b":
+        return bytes_of(word[1:])
+    whole, point, places = word[1:].partition(".")
+    if word[:1] != "d" or not point:
+        raise Unreadable
+    return Decimal(number_of(whole), number_of(places))
+
+
+def report_values_of(words):
+    fields, parties = {}, []
+    for name, equals, value in (word.partition("=") for word in words):
+        if name == "party" and equals:
+            parties.append(party_of(value))
+            continue
+        tag, value = number_of(name), report_value_of(value)
+        if tag in VALUE_TAGS and (tag in fields or isinstance(value, Decimal) != (tag in DECIMALS)):
+            raise Unreadable
+        fields[tag] = value
+    return Values(fields, parties)
+
+
+def report_value_word(value):
+    return f"d{value.whole}.{value.places}" if isinstance(value, Decimal) else f"b{in_hex(value)}"
+
+
+def report_words(values):
+    """A report's values in the order of the message."""
+    fields = [f"{tag}={report_value_word(values.fields[tag])}" for tag in VALUE_TAGS if tag in values.fields]
+    return " ".join(fields + ["party=" + ",".join(map(in_hex, party)) for party in values.parties])

@@ -18,7 +18,12 @@ def in_bytes(value):
 def message(msg_type, values):
     """The whole message of this type with these values, tag to number or bytes; an absent tag isn't written."""
     values = {35: msg_type, **values}
-    body = b"".join(b"%d=%s" % (tag, in_bytes(values[tag])) + BAR for tag in ORDER[msg_type] if tag in values)
+    return whole((tag, in_bytes(values[tag])) for tag in ORDER[msg_type] if tag in values)
+
+
+def whole(fields):
+    """The frame around these fields, tag and bytes, in their order."""
+    body = b"".join(b"%d=%s" % field + BAR for field in fields)
     front = MARK + b"%d" % len(body) + BAR + body
     return front + trailer(front)
 
