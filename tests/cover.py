@@ -4,9 +4,9 @@ from collections import Counter
 import model
 
 TYPE_NAMES = {b"0": "Heartbeat", b"1": "Test Request", b"2": "Resend Request", b"3": "Reject", b"4": "Sequence Reset",
-              b"5": "Logout", b"A": "Logon", b"AD": "AD", b"F": "F"}
+              b"5": "Logout", b"A": "Logon", b"AD": "AD", b"F": "F", b"AE": "AE"}
 KINDS = ("number", "yes or no", "time", "date", "list", "string")
-MEMBERS = {tag for group in model.GROUPS.values() for tag in group.members}
+NEW_TAGS = (571, 31, 32, 64, 574, 552, 1427)            # of Q-1: in no message but a report
 
 
 def kind_of(tag):
@@ -18,6 +18,8 @@ def kind_of(tag):
         return "time"
     if tag in model.DATES:
         return "date"
+    if tag in model.DECIMALS:
+        return "decimal"
     return "list" if model.IN_DICTIONARY[tag].values else "string"
 
 
@@ -42,13 +44,38 @@ def class_of_finding(body, reason, tag):
     if reason == 15:
         count = model.GROUP_OF_MEMBER[msg_type][tag].count
         return f"reason 15, {'without' if model.first_field(body, count) is None else 'with'} its count"
-    return f"reason {reason}"
+    if msg_type == b"AE" and reason == 16:
+        return f"reason 16, tag {tag}"
+    return f"reason {reason}" + (", new tag" if reason == 2 and tag in NEW_TAGS else "")
 
 
 def class_of_verdict(words, answer):
+    body = model.bytes_of(words[0])
+    of_report = "AE " if 1 in model.LANDED and model.first_field(body, 35) == b"AE" and model.is_body(body) else ""
     if not answer.startswith("finding"):
-        return f"verdict {answer}"
-    return "verdict " + class_of_finding(model.bytes_of(words[0]), *map(int, answer.split(" ")[1:]))
+        return f"verdict {of_report}{answer}"
+    return f"verdict {of_report}{class_of_finding(body, *map(int, answer.split(' ')[1:]))}"
+
+
+def class_of_report(words, answer):
+    """A report that went out by its parties, a refused one by its number; at the limits of length and room by these."""
+    told = "report " + (" ".join(answer.split(" ")[:2]) if answer.startswith("refusal") else "ok")
+    values = model.report_values_of(words[9:])
+    if told in ("report ok", "report refusal 9", "report refusal 12"):
+        length = len(model.written(model.record_of(words[2:9]), values, int(words[0])))
+        if length in (511, 512, 513) and told != "report refusal 9":
+            return f"{told}, {length} bytes"
+        if length - int(words[1]) in (0, 1) and told != "report refusal 12":
+            return f"{told}, {('just the room', 'short by one')[length - int(words[1])]}"
+    return f"report ok, {len(values.parties)} parties" if told == "report ok" else told
+
+
+def class_of_report_values(words, answer):
+    if answer.startswith("values"):
+        return f"report-values, {answer.count('party=')} parties"
+    if answer.startswith("finding 11") and model.first_field(model.bytes_of(words[0]), 35) in model.MESSAGES:
+        return "report-values of another type"
+    return "report-values " + " ".join(answer.split(" ")[:2 if answer.startswith("refusal") else 1])
 
 
 def described(frame):
@@ -73,7 +100,7 @@ def class_of_step(line, words, answer):
     msg_type = model.first_field(frame[model.good_frame(frame)[0]:], 35)
     _, delivered, reply = answer.split(" ")[:3]
     what = "delivered" if delivered == "1" else described_reply(reply)
-    by_type = f", type {msg_type.decode()}" if rule in (3, 6) and msg_type in model.MESSAGES else ""
+    by_type = f", type {msg_type.decode()}" if rule in (3, 6) and msg_type in model.MESSAGES or msg_type == b"AE" else ""
     return f"step {'Waiting' if rule == 'Waiting' else f'rule {rule}'}{by_type}: {what}"
 
 
@@ -94,6 +121,10 @@ def class_of(line, answer):
         return class_of_step(line, words, answer)
     if word == "tick":
         return class_of_tick(words, answer)
+    if word == "report":
+        return class_of_report(words, answer)
+    if word == "report-values":
+        return class_of_report_values(words, answer)
     if word == "write" and answer.startswith("written"):
         return f"write {TYPE_NAMES[model.bytes_of(words[1])]}"
     if word == "stream":
@@ -131,6 +162,26 @@ WANTED = (
     *(f"tick refusal {refusal}" for refusal in (5, 6, 7, 11)),
     "tick Waiting: nothing", "tick Closed: nothing", "tick Active: nothing", "tick Active: Heartbeat",
 )
+OF_REPORTS = (
+    "landed landed", "verdict AE clean", "verdict reason 2, new tag",
+    *(f"verdict AE reason {reason}" for reason in (0, 2, 3, 14)),
+    "verdict AE reason 16, tag 453", "verdict AE reason 16, tag 552",
+    *(f"verdict AE reason 1, {sort}" for sort in ("header tag", "own tag", "member", "count")),
+    *(f"verdict AE reason 4, {sort}" for sort in ("header tag", "own tag", "member", "count", "frame tag")),
+    *(f"verdict AE reason 13, {sort}" for sort in ("header tag", "own tag", "member", "count", "frame tag")),
+    "verdict AE reason 15, with its count", "verdict AE reason 15, without its count",
+    *(f"verdict AE reason 5, {kind}" for kind in (*KINDS, "decimal") if kind != "yes or no"),
+    *(f"verdict AE reason 6, {kind}" for kind in (*KINDS, "decimal") if kind not in ("list", "string")),
+    *(f"report ok, {parties} parties" for parties in range(9)), "report ok, 511 bytes", "report ok, 512 bytes",
+    *(f"report refusal {refusal}" for refusal in (2, 5, 7, 8, 9, 11, 12)), "report refusal 12, 513 bytes",
+    "report ok, just the room", "report refusal 9, short by one",
+    *(f"report-values, {parties} parties" for parties in range(9)), "report-values of another type", "report-values finding",
+    "report-values refusal 10",
+    "step rule 1, type AE: Logout 101", "step rule 2, type AE: Reject 9 + Logout 101", "step rule 4, type AE: Resend Request",
+    "step rule 5, type AE: Logout 101", "step rule 5, type AE: Reject 1", "step rule 5, type AE: nothing",
+    "step rule 6, type AE: Reject 11",
+)
+WANTED += OF_REPORTS if 1 in model.LANDED else ()
 
 
 def report(counts):

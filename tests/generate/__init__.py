@@ -6,6 +6,8 @@ random source and gives request lines. `requests(seed)` mixes them by weight, wi
   frames       read and stream; verdicts: fields and verdict; records: new, reconnect and tick
   incoming     a message for a session; steps: step
   writes       write; odd: lines that make no sense
+  sides        Trade Capture Reports, and one fault in their groups; reports: report; reports_in: verdict, report-values
+               and step with them
   mixture      all of them, each file with its own weights
 
 A request of document 02 brings its generators in a file of its own, with its weights, behind those that are there.

@@ -1,10 +1,11 @@
 """What all generators are made with: the types, two CompIDs, a time, and bytes framed, joined, at random or damaged."""
-from model import BAR, MARK
+from model import BAR, LANDED, MARK
 
 MAX = 2 ** 64 - 1
 END = 253_402_300_800_000_000
-TYPES = (b"0", b"1", b"2", b"3", b"4", b"5", b"A", b"AD", b"F")
-OTHER_TYPES = (b"", b"6", b"00", b"a", b"AE", b"D", b"ADF", b"A ", b"=", b"0=", b"35=0", b"x" * 33, b"\x00")
+TYPES = (b"0", b"1", b"2", b"3", b"4", b"5", b"A", b"AD", b"F") + ((b"AE",) if 1 in LANDED else ())
+OTHER_TYPES = (b"", b"6", b"00", b"a", b"AF" if 1 in LANDED else b"AE", b"D", b"ADF", b"A ", b"=", b"0=", b"35=0",
+               b"x" * 33, b"\x00")
 OURS, PEER = b"GW", b"MM"
 CALL_TIME = 1_704_187_800_000_000
 

@@ -22,6 +22,7 @@ def tag_of(piece):
 
 
 def group_block(r, count_tag, instances=None):
+    """A count and its instances, with the groups that they hold."""
     group = model.GROUPS[count_tag]
     least, greatest = model.GROUP_RANGES[count_tag]
     times = instances or r.choice((least, greatest, r.randint(least, greatest), min(2, greatest)))
@@ -30,8 +31,13 @@ def group_block(r, count_tag, instances=None):
         others = [tag for tag, entry in group.members.items() if entry.required or chance(r, 0.5)]
         others.remove(group.first)
         r.shuffle(others)
-        block += [part(tag, good_value(r, tag)) for tag in (group.first, *others)]
+        for tag in (group.first, *others):
+            block += field_or_group(r, tag, group.members[tag])
     return block
+
+
+def field_or_group(r, tag, entry):
+    return group_block(r, tag) if tag in model.GROUPS else [part(tag, good_value(r, tag, entry))]
 
 
 def own_blocks(r, msg_type, given):
@@ -42,7 +48,7 @@ def own_blocks(r, msg_type, given):
             if given[tag] is not None:
                 blocks.append([part(tag, given[tag])])
         elif entry.required or chance(r, 0.4):
-            blocks.append(group_block(r, tag) if tag in model.GROUPS else [part(tag, good_value(r, tag))])
+            blocks.append(field_or_group(r, tag, entry))
     r.shuffle(blocks)
     return blocks
 
@@ -59,7 +65,7 @@ def header_parts(r, given):
 
 
 def message(r, msg_type, given=()):
-    """The parts of a message of any type, clean if it is one of the nine and nothing else is given."""
+    """The parts of a message of any type, clean if it is one of the dictionary and nothing else is given."""
     given = dict(given)
     parts = [b"35=" + msg_type] + header_parts(r, given)
     if msg_type not in model.MESSAGES:

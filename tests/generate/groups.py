@@ -6,9 +6,12 @@ from .bodies import MALFORMED, UNKNOWN_TAGS, group_block, header_parts, own_bloc
 from .values import edge_value, good_time, good_value
 
 
+WITH_GROUP = ((b"F", 453), (b"AD", 453), (b"AD", 580)) + (((b"AE", 552),) if 1 in model.LANDED else ())
+
+
 def with_group(r):
     """Parts of a clean message with a group, the places of its count and its end, and its group."""
-    msg_type, count_tag = r.choice(((b"F", 453), (b"AD", 453), (b"AD", 580)))
+    msg_type, count_tag = r.choice(WITH_GROUP)
     least, greatest = model.GROUP_RANGES[count_tag]
     front = [b"35=" + msg_type] + header_parts(r, {})
     blocks = own_blocks(r, msg_type, {count_tag: None})

@@ -1,12 +1,14 @@
 """The mixture of all generators by their weights, behind the desk examples and the listed odd lines."""
 import random
 
-from . import frames, odd, records, steps, verdicts, writes
+from model import LANDED
+
+from . import frames, odd, records, reports, reports_in, steps, verdicts, writes
 from .basics import CALL_TIME, chance, framed, hexed
 
-# In this order: a seed's requests depend on it.
-WEIGHTS = {generator: weight for part in (frames, verdicts, records, steps, writes, odd)
-           for generator, weight in part.WEIGHTS.items()}
+# In this order: a seed's requests depend on it. Those of the requests of document 02 behind the others.
+PARTS = [frames, verdicts, records, steps, writes, odd] + ([reports, reports_in] if 1 in LANDED else [])
+WEIGHTS = {generator: weight for part in PARTS for generator, weight in part.WEIGHTS.items()}
 
 
 def desk_requests():

@@ -1,6 +1,9 @@
 """Lines that make no sense: listed ones, and requests with one character or one word changed."""
+from model import LANDED
+
 from .frames import read_one
 from .records import new_session, reconnect, tick
+from .reports import report_clean, report_parties
 from .steps import step_any
 from .verdicts import verdict_clean
 from .writes import write_clean
@@ -23,6 +26,23 @@ ODD_LINES = ("", " ", "read", "read ", " read -", "read  -", "read - -", "READ -
              "step 0 512 3 47 4d 0 1 1 30 0", "step 0 1048577 - 47 4d 0 1 1 30 0", "reconnect 47 4d 0 1 1 30",
              "reconnect 47 4d 0 1 1 30 +1", "reconnect 47 4d -0 1 1 30 1", "reconnect 4 4d 0 1 1 30 1",
              "reconnect 47 4D 0 1 1 30 1", "reconnect 47 4d 0 1 1 30 1 ", "reconnect 47 4d 0 1 1 30 1a")
+CHANGED = (step_any, tick, reconnect, write_clean, verdict_clean, read_one, new_session)
+if 1 in LANDED:
+    ODD_LINES += ("landed", "landed ", "landed 1", "fixt landed", "Landed", "report", "report 0 512 47 4d 1 1 1 30",
+                  "report 0 512 47 4d 1 1 1 30 0", "fixt report 0 0 47 4d 1 1 1 30 0", "report 0 1048577 47 4d 1 1 1 30 0",
+                  "report 0 1048576 47 4d 1 1 1 30 0", "report 00 512 47 4d 1 1 1 30 0", "report 0 512 47 4d 1 1 1 30 0 ",
+                  "report-values", "report-values -", "report-values - -", "report-values 3", "report_values -",
+                  *("report 0 512 47 4d 1 1 1 30 0 " + words for words in (
+                      "571", "571=", "571=b", "571=b4", "571=bA1", "571=n1", "571=d1.0", "0571=b41", "=b41",
+                      "571=b41 571=b41", "571=b- 571=b-", "31=b31", "31=d", "31=d1", "31=d1.", "31=d.1", "31=d.",
+                      "31=d01.0", "31=d1.00", "31=d-1.0", "31=d1.0.0", "31=n1", "31=D1.0",
+                      "31=d18446744073709551616.0", "32=d0.18446744073709551616",
+                      "32=d18446744073709551615.18446744073709551615", "32=d1.0 32=d1.0", "9999=n1", "9999=x",
+                      "9999=d1", "9999=d1.0 9999=b-", "553=b", "448=b41", "453=d1.0", "party", "party=", "party=41",
+                      "party=41,44", "party=41,44,31", "party=41,44,31,", "party=41,44,31,32", "party=,44,31",
+                      "party=-,-,-", "party=41,,31", "party=b41,44,31", "Party=41,44,31", "party=41,44,3",
+                      "party =41,44,31", "18446744073709551616=b-", "0=b-", " 571=b41", "571=b41 ")))
+    CHANGED += (report_clean, report_parties)
 
 
 def error_listed(r):
@@ -31,12 +51,12 @@ def error_listed(r):
 
 def error_by_chance(r):
     """Any request with one character or one word of it changed; much of it stays readable."""
-    line = next(r.choice((step_any, tick, reconnect, write_clean, verdict_clean, read_one, new_session))(r))
+    line = next(r.choice(CHANGED)(r))
     words = line.split(" ")
     at, spot = r.randrange(len(words)), r.randrange(len(line))
     word = r.choice(("", "-", "0", "00", "18446744073709551616", "18446744073709551615", "3g"))
     yield r.choice((
-        line[:spot] + r.choice("0gAZ- =nb+.") + line[spot + 1:],
+        line[:spot] + r.choice("0gAZ- =nb+." + ("d," if 1 in LANDED else "")) + line[spot + 1:],
         line[:spot] + line[spot + 1:],
         " ".join(words[:at] + words[at + 1:]),
         " ".join(words[:at] + [words[at]] + words[at:]),

@@ -1,7 +1,7 @@
 """Values of a tag: good ones, and those at the edges of its kind."""
 import model
 
-from .basics import chance, filler
+from .basics import BAR, byte_mutated, chance, filler
 
 NUMBER_EDGES = (b"0", b"1", b"2", b"3", b"8", b"9", b"10", b"59", b"60", b"61", b"99", b"999999999", b"999999990",
                 b"1000000000", b"4294967297", b"4294967326", b"18446744073709551617", b"01", b"00", b"007", b"-1",
@@ -24,6 +24,15 @@ DATE_EDGES = tuple(edge[:8] for edge in TIME_EDGES) + (b"2024010", b"202401022",
 STRING_LENGTHS = (1, 2, 31, 32, 33, 34, 63, 64, 65, 66, 255, 256, 257, 258, 300)
 LIST_EDGES = (b"0", b"1", b"2", b"3", b"8", b"9", b"12", b"17", b"54", b"76", b"7", b"5", b"00", b"08", b"09", b"D",
               b"d", b"DD", b"99", b"x", b"8 ", b"1, 2", b"12345678901", b"x" * 33)
+DECIMAL_EDGES = tuple(text.encode() for text in (
+    "0", "0.0", "0.00000000", "0.000000000", "0.05", "0.5", "1", "1.0", "10", "1.", ".5", ".", "0.", "00", "01",
+    "00.5", "01.5", "+1", "-1", "-0", "+0.5", " 1", "1 ", "1e3", "1,5", "1.5.", "1.5.5", "1..5", "x", "1x", "1.x",
+    "x.1", "1.5x", "1.-5", "=1", "999999999999999", "1000000000000000", "9999999999999999", "99999999999999.9",
+    "999999999999999.0", "99999999999999.99", "9999999.99999999", "10000000.00000000", "1.00000000", "1.000000000",
+    "0.12345678", "0.123456789", "4294967296", "4294967296.0", "18446744073709551615", "18446744073709551616",
+    "18446744073709551621", "18446744073709551626.5", "184467440737095.51616", "1844674407370955.1616",
+    "100000000000000000000000000000000", "0.00000000000000000000000000000000", "0000000000000001", "000000000000000.5",
+    "1111111111111111111111111.", "11111111111111111111111x", "0.1111111111111111111x"))
 
 
 def good_time(r):
@@ -42,11 +51,29 @@ def good_string(r, longest):
     return bytes(r.choice(b"abcMGW019=- \x00\xff\x02") for _ in range(size))
 
 
+def good_decimal(r):
+    """Whole number and places in their ranges."""
+    whole = r.choice((0, 1, 5, 10, 99, 100, 1250, 10 ** 14, 10 ** 15 - 1, r.randrange(10 ** r.randint(1, 15))))
+    return model.Decimal(whole, r.choice((0, 0, 1, 2, 2, 7, 8, r.randint(0, 8))))
+
+
+def edge_decimal(r):
+    """A listed one, or digits around the greatest number of them with a point anywhere, or one byte of a good one changed."""
+    if chance(r, 0.6):
+        return r.choice(DECIMAL_EDGES)
+    if chance(r, 0.3):
+        return byte_mutated(r, model.in_digits(good_decimal(r))).replace(BAR, b"")
+    digits = b"%d" % r.randrange(10 ** r.choice((1, 2, 8, 9, 14, 15, 16, 17, 19, 20)))
+    at = r.randint(0, len(digits))
+    return digits[:at] + r.choice((b"", b".", b".")) + digits[at:]
+
+
 def is_number(tag):
     return tag in model.FROM_ONE or tag in model.FROM_ZERO
 
 
-def good_value(r, tag):
+def good_value(r, tag, entry=None):
+    """A value that a tag may have, from the list of this entry if it has another in one message than in others."""
     if is_number(tag):
         return good_number(r, *model.number_range(tag))
     if tag in model.YES_OR_NO:
@@ -55,8 +82,11 @@ def good_value(r, tag):
         return good_time(r)
     if tag in model.DATES:
         return good_time(r)[:8]
-    if tag in model.IN_DICTIONARY and model.IN_DICTIONARY[tag].values:
-        return r.choice(model.IN_DICTIONARY[tag].values)
+    if tag in model.DECIMALS:
+        return model.in_digits(good_decimal(r))
+    entry = entry or model.IN_DICTIONARY.get(tag)
+    if entry and entry.values:
+        return r.choice(entry.values)
     return good_string(r, model.STRING_LENGTHS.get(tag, 32))
 
 
@@ -71,6 +101,8 @@ def edge_value(r, tag):
         return r.choice(TIME_EDGES)
     if tag in model.DATES:
         return r.choice(DATE_EDGES)
+    if tag in model.DECIMALS:
+        return edge_decimal(r)
     if tag in model.IN_DICTIONARY and model.IN_DICTIONARY[tag].values:
         return r.choice(LIST_EDGES)
     return filler(r, r.choice(STRING_LENGTHS))

@@ -34,8 +34,8 @@ from .landed import LANDED
 from .moves import Writing
 from .record import (ACTIVE, CLOSED, END_OF_TIME, LEAST_REPLY_ROOM, WAITING, Record, in_range, new_session,
                      numbers_used_up, reconnect)
-from .report import LONGEST_REPORT, PARTY_TAGS, VALUE_TAGS, Values, values_in
+from .report import PARTY_TAGS, VALUE_TAGS, Values, values_in, written
 from .times import in_utc
 from .walk import verdict
-from .words import bytes_of, record_of, report_words
+from .words import bytes_of, record_of, report_values_of
 from .writer import ORDER, WRITER_TAGS, write
