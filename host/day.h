@@ -1,23 +1,47 @@
-/* A member's day as a recorder at the venue kept it: when a connection came and went, and the bytes of each read from
-   it. `|` is the byte 1. */
+/* A member's day as a recorder at the venue kept it: when a connection came and went, the bytes of each read from it, and
+   the trades of which the venue told the member. `|` is the byte 1. */
 #ifndef HOST_DAY_H
 #define HOST_DAY_H
 
 #include "fixgw.h"
+#include "libc.h"
 
-enum event { CONNECT, READ, HANG_UP };
+enum event { CONNECT, READ, HANG_UP, TRADE };
 
 struct entry {
     uint64_t time;                          /* microseconds since 1970 */
     unsigned line;                          /* the first or the second */
     enum event event;
     size_t longest;                         /* the longest read: more bytes came in several, 100 microseconds apart */
-    const char *bytes;                      /* of the read */
+    const char *bytes;                      /* of the read; of a trade its 571 */
 };
 
 /* On 2 January 2024. */
 #define AT(hour, minute, second, microsecond) \
     (1704153600000000u + (uint64_t)1000000 * (3600 * (hour) + 60 * (minute) + (second)) + (microsecond))
+
+struct trade_party {
+    const char *id, *role;                  /* 448, 452; NULL for none */
+};
+
+/* A trade in the venue's book. What it does not have is NULL. */
+struct trade {
+    const char *member, *id, *type, *time;              /* the peer's CompID, 571, 828, 60 */
+    struct fixgw_decimal quantity, price;               /* 32, 31 */
+    const char *settles, *match, *security, *side, *execution;      /* 64, 574, 48, 54, 1427 */
+    struct trade_party parties[4];          /* up to one of NULL */
+};
+
+static const struct trade trades[] = {
+    { "MM", "T-0001", "0", "20240102-09:30:05.900", { 1250, 2 }, { 10125, 2 }, "20240104", "4", "133215", "1", "E-5521",
+      { { "MEMBERFIRM", "1" }, { "CCP1", "17" }, { "TRADERS", "76" } } },
+    { "MM", "T-0002", "54", "20240102-09:29:41", { 5, 0 }, { 5, 2 }, NULL, "2", "133216", "2", NULL,
+      { { NULL, NULL } } },
+    { "MM", "T-0003", "0", "20240102-09:30:26.500", { 100, 0 }, { 101250000000, 9 }, NULL, "4", "133215", "1", "E-5522",
+      { { "MEMBERFIRM", "1" } } },
+    { "MM", "T-0004", "99", "20240102-12:15:00.000250", { 75, 0 }, { 10131, 2 }, "20240104", "22", "133215", "2", NULL,
+      { { "MEMBERFIRM", "1" }, { "TRADER7", "12" } } },
+};
 
 static const struct entry day[] = {
     { AT(9, 29, 29, 998000), 1, CONNECT, 0, "" },
@@ -28,6 +52,9 @@ static const struct entry day[] = {
     { AT(9, 30, 5, 125000), 1, READ, 64,
       "8=FIXT.1.1|9=181|35=AD|49=MM|56=GW|34=3|52=20240102-09:30:05.120|568=TR-0001|569=0|263=0|828=0|453=2|"
       "448=TRADER7|447=D|452=12|448=MEMBERFIRM|447=D|452=1|22=8|48=133215|580=2|75=20231228|75=20231229|10=222|" },
+    /* The venue tells the member of two trades. */
+    { AT(9, 30, 6, 400), 1, TRADE, 0, "T-0001" },
+    { AT(9, 30, 6, 700), 1, TRADE, 0, "T-0002" },
     /* An order is cancelled. A modem speaks up behind it, and an old engine with a good frame of FIX 4.2. */
     { AT(9, 30, 11, 304100), 1, READ, 4096,
       "8=FIXT.1.1|9=116|35=F|49=MM|56=GW|34=4|52=20240102-09:30:11.300|11=CXL-0001|41=ORD-0042|54=1|48=133215|22=8|"
@@ -52,6 +79,8 @@ static const struct entry day[] = {
       "41=ORD-0043|54=1|48=133215|22=8|60=20240102-09:30:21.500|10=205|"
       "8=FIXT.1.1|9=89|35=4|49=MM|56=GW|34=7|52=20240102-09:30:24.181|43=Y|122=20240102-09:30:24.090|123=Y|36=8|"
       "10=102|" },
+    /* A price with nine places is none. */
+    { AT(9, 30, 27, 0), 1, TRADE, 0, "T-0003" },
     /* Number 6 once more, marked as a duplicate; then number 4, marked but without its first time. */
     { AT(9, 30, 31, 250), 1, READ, 4096,
       "8=FIXT.1.1|9=147|35=F|49=MM|56=GW|34=6|52=20240102-09:30:30.990|43=Y|122=20240102-09:30:21.500|11=CXL-0002|"
@@ -86,7 +115,9 @@ static const struct entry day[] = {
     { AT(9, 31, 28, 0), 1, READ, 4096,
       "8=FIXT.1.1|9=57|35=5|49=MM|56=GW|34=24|52=20240102-09:31:27.990|58=Lunch|10=064|"
       "8=FIXT.1.1|9=48|35=0|49=MM|56=GW|34=25|52=20240102-09:31:27.991|10=152|" },
-    /* The member comes back; the numbers were kept. */
+    /* A trade while the member is away. */
+    { AT(12, 15, 0, 900), 1, TRADE, 0, "T-0004" },
+    /* The member comes back; the numbers were kept, and so was the trade. */
     { AT(13, 0, 0, 0), 1, CONNECT, 0, "" },
     { AT(13, 0, 0, 10000), 1, READ, 4096,
       "8=FIXT.1.1|9=67|35=A|49=MM|56=GW|34=26|52=20240102-13:00:00.005|98=0|108=30|1137=9|10=231|" },
@@ -129,12 +160,16 @@ static const struct entry day[] = {
       "8=FIXT.1.1|9=67|35=A|49=MM2|56=GW|34=3|52=20240102-14:07:00.490|98=0|108=20|1137=9|10=243|" },
     { AT(14, 7, 1, 500000), 1, READ, 4096,
       "8=FIXT.1.1|9=51|35=0|49=MM2|56=GW|34=0004|52=20240102-14:07:01.490|10=018|" },
-    /* The member falls silent: it answers the first question of the venue, and not the second. */
+    /* The member falls silent for a while: it answers the first question of the venue, and not the second. */
     { AT(15, 0, 0, 0), 1, CONNECT, 0, "" },
     { AT(15, 0, 0, 10000), 1, READ, 4096,
       "8=FIXT.1.1|9=67|35=A|49=MM|56=GW|34=31|52=20240102-15:00:00.005|98=0|108=10|1137=9|10=227|" },
     { AT(15, 0, 14, 200000), 1, READ, 4096,
-      "8=FIXT.1.1|9=60|35=0|49=MM|56=GW|34=32|52=20240102-15:00:14.190|112=TEST-18|10=036|" },
+      "8=FIXT.1.1|9=60|35=0|49=MM|56=GW|34=32|52=20240102-15:00:14.190|112=TEST-21|10=030|" },
+    /* Its engine sends a report, which is the venue's to send. */
+    { AT(15, 0, 16, 0), 1, READ, 4096,
+      "8=FIXT.1.1|9=137|35=AE|49=MM|56=GW|34=33|52=20240102-15:00:15.990|571=T-9001|828=0|"
+      "60=20240102-15:00:15.900|32=10|31=99.5|574=4|48=133215|22=8|552=1|54=1|10=045|" },
 };
 
 #define AFTER_THE_DAY AT(15, 2, 0, 0)

@@ -1,229 +1,9 @@
 /* The driver: one request a line on standard input, one answer a line on standard output (docs/DRIVER.md). It goes
-   through the calls of fixgw.h alone and adds no rule of its own. */
-#include "fixgw.h"
-#include "libc.h"
+   through the calls of fixgw.h alone and adds no rule of its own. Here are the lines, and the requests that belong to no
+   session. */
+#include "driver.h"
 
-enum {
-    LINE_ROOM = 4096,                       /* of the line buffer that `stream` lends */
-    MOST_LENT = 1048576,                    /* the greatest BUFLEN */
-    MARGIN = 64,                            /* bytes behind the lent ones that are watched too */
-    READ_AT_ONCE = 65536,
-    GREATEST_LENGTH = 255                   /* of a CompID in a record */
-};
-
-#define GREATEST_NUMBER 18446744073709551615u
-#define UNSET 0xa5a5a5a5a5a5a5a5u           /* what a call's answering words hold before it */
-
-struct slice {
-    const uint8_t *at;
-    size_t len;
-};
-
-static void fail(const char *why)
-{
-    write(2, why, strlen(why));
-    exit(1);
-}
-
-/* ---- Bytes that grow: what has been read, and the answer --------------------------------------------------------- */
-
-struct text {
-    uint8_t *at;
-    size_t len, room;
-};
-
-static struct text input, answer;
-
-static void make_room(struct text *text, size_t more)
-{
-    size_t room = text->room ? text->room : READ_AT_ONCE;
-    while (room - text->len < more)
-        room *= 2;
-    if (room == text->room)
-        return;
-    text->at = realloc(text->at, room);
-    if (!text->at)
-        fail("driver: out of memory\n");
-    text->room = room;
-}
-
-static void say_bytes(const void *bytes, size_t len)
-{
-    make_room(&answer, len);
-    memcpy(answer.at + answer.len, bytes, len);
-    answer.len += len;
-}
-
-static void say(const char *words)
-{
-    say_bytes(words, strlen(words));
-}
-
-static void say_number(uint64_t number)
-{
-    uint8_t digits[20];
-    size_t at = sizeof digits;
-    do {
-        digits[--at] = (uint8_t)('0' + number % 10);
-        number /= 10;
-    } while (number > 0);
-    say_bytes(digits + at, sizeof digits - at);
-}
-
-static void say_digits_of(const uint8_t *bytes, size_t len)
-{
-    static const char digits[] = "0123456789abcdef";
-    make_room(&answer, 2 * len);
-    for (size_t i = 0; i < len; i++) {
-        answer.at[answer.len++] = (uint8_t)digits[bytes[i] >> 4];
-        answer.at[answer.len++] = (uint8_t)digits[bytes[i] & 15];
-    }
-}
-
-static void say_hex(const uint8_t *bytes, size_t len)
-{
-    if (len == 0)
-        say("-");
-    else
-        say_digits_of(bytes, len);
-}
-
-static void say_refusal(uint32_t refusal)
-{
-    say("refusal ");
-    say_number(refusal);
-}
-
-/* ---- The words of a request -------------------------------------------------------------------------------------- */
-
-/* A line's words not yet taken. `at` is where the next begins, one behind `end` once all are taken; a space at the
-   line's end so leaves an empty word, which no request reads. */
-struct words {
-    uint8_t *line;
-    size_t at, end;
-};
-
-static bool all_taken(const struct words *in)
-{
-    return in->at > in->end;
-}
-
-static bool take_word(struct words *in, uint8_t **word, size_t *len)
-{
-    if (all_taken(in))
-        return false;
-    *word = in->line + in->at;
-    uint8_t *space = memchr(*word, ' ', in->end - in->at);
-    *len = space ? (size_t)(space - *word) : in->end - in->at;
-    in->at += *len + 1;
-    return true;
-}
-
-static bool is_word(const uint8_t *word, size_t len, const char *name)
-{
-    return len == strlen(name) && memcmp(word, name, len) == 0;
-}
-
-static bool number_of(const uint8_t *word, size_t len, uint64_t most, uint64_t *number)
-{
-    if (len == 0 || (word[0] == '0' && len > 1))
-        return false;
-    uint64_t value = 0;
-    for (size_t i = 0; i < len; i++) {
-        uint64_t digit = (uint64_t)word[i] - '0';
-        if (digit > 9 || value > (GREATEST_NUMBER - digit) / 10)
-            return false;
-        value = 10 * value + digit;
-    }
-    *number = value;
-    return value <= most;
-}
-
-static bool take_number(struct words *in, uint64_t most, uint64_t *number)
-{
-    uint8_t *word;
-    size_t len;
-    return take_word(in, &word, &len) && number_of(word, len, most, number);
-}
-
-static uint8_t hex_digit(uint8_t byte)
-{
-    if (byte >= '0' && byte <= '9')
-        return (uint8_t)(byte - '0');
-    return byte >= 'a' && byte <= 'f' ? (uint8_t)(byte - 'a' + 10) : 16;
-}
-
-static bool is_bytes(const uint8_t *word, size_t len)
-{
-    if (is_word(word, len, "-"))
-        return true;
-    for (size_t i = 0; i < len; i++)
-        if (hex_digit(word[i]) > 15)
-            return false;
-    return len > 0 && len % 2 == 0;
-}
-
-/* Decodes a word of BYTES where it stands: a byte takes less room than its two digits. `-` becomes NULL. */
-static struct slice decoded(uint8_t *word, size_t len)
-{
-    struct slice bytes = { NULL, 0 };
-    if (is_word(word, len, "-"))
-        return bytes;
-    for (size_t i = 0; i < len / 2; i++)
-        word[i] = (uint8_t)(hex_digit(word[2 * i]) << 4 | hex_digit(word[2 * i + 1]));
-    bytes.at = word;
-    bytes.len = len / 2;
-    return bytes;
-}
-
-static bool take_bytes(struct words *in, struct slice *bytes)
-{
-    uint8_t *word;
-    size_t len;
-    if (!take_word(in, &word, &len) || !is_bytes(word, len))
-        return false;
-    *bytes = decoded(word, len);
-    return true;
-}
-
-/* ---- The lent buffer --------------------------------------------------------------------------------------------- */
-
-static uint8_t lent[MOST_LENT + MARGIN];
-
-static uint8_t pattern(size_t place)
-{
-    return (uint8_t)(place * 151 + (place >> 8) * 59 + 7);
-}
-
-static void lend(size_t room)
-{
-    for (size_t place = 0; place < room + MARGIN; place++)
-        lent[place] = pattern(place);
-}
-
-/* Whether the buffer is as it was lent but for the first `used` bytes; otherwise that is the answer. */
-static bool is_kept(size_t room, uint64_t used)
-{
-    size_t place = used < room ? (size_t)used : room;
-    while (place < room + MARGIN && lent[place] == pattern(place))
-        place++;
-    if (place == room + MARGIN && used <= room)
-        return true;
-    say("buffer changed at ");
-    say_number(used <= room ? place : room);
-    return false;
-}
-
-/* Whether these words of a call's answer are 0, as fixgw.h says; otherwise that is the answer. */
-static bool are_zero(const uint64_t *words, size_t count)
-{
-    for (size_t i = 0; i < count; i++)
-        if (words[i] != 0) {
-            say("word not zero");
-            return false;
-        }
-    return true;
-}
+enum { LINE_ROOM = 4096 };                  /* of the line buffer that `stream` lends */
 
 /* ---- Reading ----------------------------------------------------------------------------------------------------- */
 
@@ -346,12 +126,8 @@ static bool answer_verdict(struct words *in)
         say_refusal(refusal);
     else if (out[0] == 0)
         say("clean");
-    else {
-        say("finding ");
-        say_number(out[1]);
-        say(" ");
-        say_number(out[2]);
-    }
+    else
+        say_finding(out);
     return true;
 }
 
@@ -467,162 +243,25 @@ static bool answer_write(struct words *in)
     return true;
 }
 
-/* ---- The session ------------------------------------------------------------------------------------------------- */
-
-/* A record with the CompIDs as the request gave them: a session has room for the first 11 bytes alone. */
-struct record {
-    struct fixgw_session session;
-    struct slice ours, peer;
-};
-
-/* A CompID's length as a record can hold it: it is one byte, and all above 11 are refused alike. */
-static uint8_t length_of(struct slice given)
-{
-    return given.len < GREATEST_LENGTH ? (uint8_t)given.len : GREATEST_LENGTH;
-}
-
-/* The bytes behind a CompID's length mean nothing; they are set to the byte that no CompID may hold. */
-static void set_comp_id(uint8_t place[FIXGW_COMP_ID], uint8_t *len, struct slice given)
-{
-    memset(place, 1, FIXGW_COMP_ID);
-    if (given.len > 0)
-        memcpy(place, given.at, given.len < FIXGW_COMP_ID ? given.len : FIXGW_COMP_ID);
-    *len = length_of(given);
-}
-
-/* The words that a request gives are those that are used, behind the version; the version and zeros are set here. */
-static bool take_record(struct words *in, struct record *record)
-{
-    struct fixgw_session *session = &record->session;
-    if (!take_bytes(in, &record->ours) || !take_bytes(in, &record->peer))
-        return false;
-    set_comp_id(session->ours, &session->ours_len, record->ours);
-    set_comp_id(session->peer, &session->peer_len, record->peer);
-    memset(session->words, 0, sizeof session->words);
-    session->words[FIXGW_WORD_VERSION] = FIXGW_RECORD_VERSION;
-    for (size_t word = FIXGW_WORD_STATUS; word < FIXGW_WORDS_USED; word++)
-        if (!take_number(in, GREATEST_NUMBER, &session->words[word]))
-            return false;
-    return all_taken(in);
-}
-
-static void say_comp_id(const uint8_t place[FIXGW_COMP_ID], uint8_t len, struct slice given)
-{
-    say(" ");
-    say_hex(place, len < FIXGW_COMP_ID ? len : FIXGW_COMP_ID);
-    if (len > FIXGW_COMP_ID && len == length_of(given))
-        say_digits_of(given.at + FIXGW_COMP_ID, given.len - FIXGW_COMP_ID);
-}
-
-/* Whether a record is of this version with zeros behind the words that are used; otherwise that is the answer. */
-static bool is_of_this_version(const struct fixgw_session *session)
-{
-    if (session->words[FIXGW_WORD_VERSION] != FIXGW_RECORD_VERSION) {
-        say("another version of the record");
-        return false;
-    }
-    return are_zero(session->words + FIXGW_WORDS_USED, FIXGW_WORDS - FIXGW_WORDS_USED);
-}
-
-static void say_record(const struct record *record)
-{
-    const struct fixgw_session *session = &record->session;
-    say_comp_id(session->ours, session->ours_len, record->ours);
-    say_comp_id(session->peer, session->peer_len, record->peer);
-    for (size_t word = FIXGW_WORD_STATUS; word < FIXGW_WORDS_USED; word++) {
-        say(" ");
-        say_number(session->words[word]);
-    }
-}
-
-static void say_outcome(uint32_t refusal)
-{
-    if (refusal)
-        say_refusal(refusal);
-    else
-        say("ok");
-}
-
-static bool answer_new(struct words *in)
-{
-    struct record record;
-    if (!take_bytes(in, &record.ours) || !take_bytes(in, &record.peer) || !all_taken(in))
-        return false;
-    memset(&record.session, 0xa5, sizeof record.session);
-    uint32_t refusal =
-        fixgw_session_new(&record.session, record.ours.at, record.ours.len, record.peer.at, record.peer.len);
-    if (!is_of_this_version(&record.session))
-        return true;
-    say_outcome(refusal);
-    say_record(&record);
-    return true;
-}
-
-static bool answer_reconnect(struct words *in)
-{
-    struct record record;
-    if (!take_record(in, &record))
-        return false;
-    uint32_t refusal = fixgw_session_reconnect(&record.session);
-    if (!is_of_this_version(&record.session))
-        return true;
-    say_outcome(refusal);
-    say_record(&record);
-    return true;
-}
-
-static bool answer_step(struct words *in)
-{
-    uint64_t time, room, out[2] = { UNSET, UNSET };
-    struct slice frame;
-    struct record record;
-    if (!take_number(in, GREATEST_NUMBER, &time) || !take_number(in, MOST_LENT, &room) || !take_bytes(in, &frame)
-        || !take_record(in, &record))
-        return false;
-    lend(room);
-    uint32_t refusal = fixgw_session_step(&record.session, frame.at, frame.len, time, lent, room, out);
-    if (!is_kept(room, refusal ? 0 : out[1]) || (refusal && !are_zero(out, 2)) || !is_of_this_version(&record.session))
-        return true;
-    say_outcome(refusal);
-    if (!refusal) {
-        say(" ");
-        say_number(out[0]);
-        say(" ");
-        say_hex(lent, out[1]);
-    }
-    say_record(&record);
-    return true;
-}
-
-static bool answer_tick(struct words *in)
-{
-    uint64_t time, room, out[1] = { UNSET };
-    struct record record;
-    if (!take_number(in, GREATEST_NUMBER, &time) || !take_number(in, MOST_LENT, &room) || !take_record(in, &record))
-        return false;
-    lend(room);
-    uint32_t refusal = fixgw_session_tick(&record.session, time, lent, room, out);
-    if (!is_kept(room, refusal ? 0 : out[0]) || (refusal && !are_zero(out, 1)) || !is_of_this_version(&record.session))
-        return true;
-    say_outcome(refusal);
-    if (!refusal) {
-        say(" ");
-        say_hex(lent, out[0]);
-    }
-    say_record(&record);
-    return true;
-}
-
 /* ---- Lines ------------------------------------------------------------------------------------------------------- */
 
-/* How each request is answered. False: it cannot be read, and no call was made. */
+/* The change requests of document 02 that are in, in the order in which they came in. */
+static bool answer_landed(struct words *in)
+{
+    if (!all_taken(in))
+        return false;
+    say("landed 1");
+    return true;
+}
+
 static const struct {
     const char *name;
     bool (*answer)(struct words *);
 } requests[] = {
     { "read", answer_read }, { "stream", answer_stream }, { "fields", answer_fields }, { "verdict", answer_verdict },
     { "write", answer_write }, { "new", answer_new }, { "reconnect", answer_reconnect }, { "step", answer_step },
-    { "tick", answer_tick },
+    { "tick", answer_tick }, { "landed", answer_landed }, { "report", answer_report },
+    { "report-values", answer_report_values },
 };
 
 static bool answer_request(struct words *in)
@@ -638,6 +277,8 @@ static bool answer_request(struct words *in)
             return requests[i].answer(in);
     return false;
 }
+
+static struct text input;                   /* what has been read and is not answered yet */
 
 static void send_answer(void)
 {

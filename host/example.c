@@ -4,6 +4,7 @@
 #include "fixgw.h"
 #include "ledger.h"
 #include "libc.h"
+#include "trade.h"
 
 #define SECOND ((uint64_t)1000000)
 
@@ -11,6 +12,8 @@ enum {
     LINE_ROOM = 4096,                       /* anything from FIXGW_LONGEST_FRAME on will do */
     LINES = 4,
     READ_ROOM = 2048,
+    TRADES = sizeof trades / sizeof trades[0],
+    WORDS_ROOM = 200,
     BETWEEN_READS = 100,                    /* microseconds, in the recorded day */
     SECONDS_TO_LOG_ON = 10,
     SECONDS_TO_DRAIN = 2
@@ -41,7 +44,8 @@ struct line {
 static struct line lines[LINES];
 static struct desk *desks;
 static size_t desk_count;
-static uint64_t cancels, trade_requests;
+static uint64_t cancels, trade_requests, reports;
+static struct desk *late[TRADES];           /* to whom a trade is still to be told; NULL: to nobody */
 
 /* How long ago; nothing for a clock that went back. */
 static uint64_t since(uint64_t then, uint64_t time)
@@ -181,6 +185,122 @@ static bool is_admitted(struct line *line, uint64_t time, const struct message *
     return !why_not;
 }
 
+/* ---- Messages of the venue's own --------------------------------------------------------------------------------- */
+
+/* A message that answers none: what the call that wrote it left of the record, and the message itself. */
+struct own {
+    struct fixgw_session record;
+    uint8_t bytes[FIXGW_LEAST_REPLY_ROOM];
+    uint64_t len[1];
+};
+
+/* Keeps the record, then sends the message. Nothing if the call wrote none and refused nothing. */
+static void send_own(struct line *line, uint64_t time, const struct own *own, uint32_t refusal, const char *why)
+{
+    if (!refusal && own->len[0] == 0)
+        return;
+    if (!keep(line->desk, &own->record, NULL)) {
+        hang_up(line, time, "the host hangs up: the record cannot be kept, so nothing is sent");
+        return;
+    }
+    if (refusal) {
+        hang_up(line, time, refusal_words(refusal));
+        return;
+    }
+    ledger_own(time, own->bytes, own->len[0], why);
+    if (!send_out(line, own->bytes, own->len[0]))
+        hang_up(line, time, "the host hangs up: the peer takes nothing");
+}
+
+/* ---- Trades ------------------------------------------------------------------------------------------------------ */
+
+static void give(struct fixgw_report_draft *draft, uint32_t tag, const char *text)
+{
+    if (text)
+        fixgw_report_give(draft, tag, (const uint8_t *)text, strlen(text));
+}
+
+static void fill(struct fixgw_report_draft *draft, const struct trade *trade)
+{
+    fixgw_report_empty(draft);
+    give(draft, FIXGW_TAG_TRADE_REPORT_ID, trade->id);
+    give(draft, FIXGW_TAG_TRD_TYPE, trade->type);
+    give(draft, FIXGW_TAG_TRANSACT_TIME, trade->time);
+    fixgw_report_give_decimal(draft, FIXGW_TAG_LAST_QTY, trade->quantity.whole, trade->quantity.places);
+    fixgw_report_give_decimal(draft, FIXGW_TAG_LAST_PX, trade->price.whole, trade->price.places);
+    give(draft, FIXGW_TAG_SETTL_DATE, trade->settles);
+    give(draft, FIXGW_TAG_MATCH_TYPE, trade->match);
+    give(draft, FIXGW_TAG_SECURITY_ID, trade->security);
+    give(draft, FIXGW_TAG_SECURITY_ID_SOURCE, "8");
+    give(draft, FIXGW_TAG_SIDE, trade->side);
+    give(draft, FIXGW_TAG_SIDE_EXEC_ID, trade->execution);
+    for (const struct trade_party *party = trade->parties; party->id; party++)
+        fixgw_report_add_party(draft, (const uint8_t *)party->id, strlen(party->id), (const uint8_t *)"D", 1,
+                               (const uint8_t *)party->role, strlen(party->role));
+}
+
+/* What the ledger says of a report that goes out, read back from it. */
+static void explain_report(const struct own *own, char *words, size_t room)
+{
+    struct message message = message_of(own->bytes, own->len[0]);
+    struct trade_report report = { { 0 }, message.body };
+    uint64_t out[3];
+    size_t used = (size_t)snprintf(words, room, "the venue reports ");
+    fixgw_report_values(message.body, message.body_len, report.values, out);
+    trade_words(&report, words + used, room - used);
+}
+
+/* Values that no report may have are told, and leave the session as it was. */
+static void send_report(struct line *line, uint64_t time, const struct trade *trade)
+{
+    char words[WORDS_ROOM];
+    struct own own = { .record = line->desk->record };
+    struct fixgw_report_draft draft;
+    fill(&draft, trade);
+    uint32_t refusal = fixgw_session_report(&own.record, &draft, time, own.bytes, sizeof own.bytes, own.len);
+    if (refusal == FIXGW_REFUSED_VALUE || refusal == FIXGW_REFUSED_REPORT_LENGTH) {
+        snprintf(words, sizeof words, "is not reported: refusal %u, %s", refusal, refusal_words(refusal));
+        ledger_trade(time, trade->id, words);
+        return;
+    }
+    if (!refusal) {
+        explain_report(&own, words, sizeof words);
+        reports++;
+    }
+    send_own(line, time, &own, refusal, words);
+}
+
+static bool is_logged_on(const struct desk *desk)
+{
+    return desk->line && desk->record.words[FIXGW_WORD_STATUS] == FIXGW_ACTIVE;
+}
+
+/* Tells the member of a trade. While it is away the trade waits: a report that is written then takes a number, and all
+   that the member would get for that is a gap fill. */
+static void report_trade(const struct trade *trade, uint64_t time)
+{
+    struct value member = { (const uint8_t *)trade->member, strlen(trade->member) };
+    for (struct desk *desk = desks; desk < desks + desk_count; desk++) {
+        if (!is_comp_id(member, desk->record.peer, desk->record.peer_len))
+            continue;
+        late[trade - trades] = is_logged_on(desk) ? NULL : desk;
+        if (is_logged_on(desk))
+            send_report(desk->line, time, trade);
+        else
+            ledger_trade(time, trade->id, "waits: its member is not logged on");
+    }
+}
+
+/* The member is back: what waited goes out. */
+static void report_late(struct line *line, uint64_t time)
+{
+    for (size_t i = 0; i < TRADES; i++)
+        if (line->state == UP && line->desk && late[i] == line->desk) {
+            late[i] = NULL;
+            send_report(line, time, &trades[i]);
+        }
+}
+
 /* ---- The loop ---------------------------------------------------------------------------------------------------- */
 
 /* The step is taken on a copy, so that what is in memory is what is on disk, also where keeping fails. */
@@ -206,6 +326,10 @@ static void take_frame(struct line *line, uint64_t time, const uint8_t *frame, s
     line->asked = 0;
     if (step.delivered)
         deliver(&in);
+    if (is_sent && step.before.words[FIXGW_WORD_STATUS] != FIXGW_ACTIVE)
+        report_late(line, time);
+    if (line->state != UP)
+        return;
     if (step.after.words[FIXGW_WORD_STATUS] == FIXGW_CLOSED)
         hang_up(line, time, "the host hangs up: the session is Closed");
     else if (!is_sent)
@@ -251,31 +375,6 @@ static void take_read(struct line *line, uint64_t time, const uint8_t *piece, si
 }
 
 /* ---- The clock --------------------------------------------------------------------------------------------------- */
-
-/* A message that answers none: what the call that wrote it left of the record, and the message itself. */
-struct own {
-    struct fixgw_session record;
-    uint8_t bytes[FIXGW_LEAST_REPLY_ROOM];
-    uint64_t len[1];
-};
-
-/* Keeps the record, then sends the message. Nothing if the call wrote none and refused nothing. */
-static void send_own(struct line *line, uint64_t time, const struct own *own, uint32_t refusal, const char *why)
-{
-    if (!refusal && own->len[0] == 0)
-        return;
-    if (!keep(line->desk, &own->record, NULL)) {
-        hang_up(line, time, "the host hangs up: the record cannot be kept, so nothing is sent");
-        return;
-    }
-    if (refusal) {
-        hang_up(line, time, refusal_words(refusal));
-        return;
-    }
-    ledger_own(time, own->bytes, own->len[0], why);
-    if (!send_out(line, own->bytes, own->len[0]))
-        hang_up(line, time, "the host hangs up: the peer takes nothing");
-}
 
 static void send_heartbeat(struct line *line, uint64_t time)
 {
@@ -341,8 +440,8 @@ static void tick_all(uint64_t time)
 static void end_ledger(void)
 {
     ledger_foot();
-    printf("Delivered: %lu Order Cancel Requests, %lu Trade Capture Report Requests.\n", (unsigned long)cancels,
-           (unsigned long)trade_requests);
+    printf("Delivered: %lu Order Cancel Requests, %lu Trade Capture Report Requests. Reported: %lu trades.\n",
+           (unsigned long)cancels, (unsigned long)trade_requests, (unsigned long)reports);
 }
 
 static uint32_t new_desk(struct desk *desk, const char *ours, const char *peer)
@@ -352,6 +451,14 @@ static uint32_t new_desk(struct desk *desk, const char *ours, const char *peer)
 }
 
 /* ---- A recorded day ---------------------------------------------------------------------------------------------- */
+
+static const struct trade *trade_named(const char *id)
+{
+    size_t place = 0;
+    while (place < TRADES - 1 && strcmp(trades[place].id, id) != 0)
+        place++;
+    return &trades[place];
+}
 
 static void play_read(struct line *line, const struct entry *entry)
 {
@@ -374,6 +481,8 @@ static void play_entry(const struct entry *entry)
         connected(line, entry->time, -1);
     else if (entry->event == READ)
         play_read(line, entry);
+    else if (entry->event == TRADE)
+        report_trade(trade_named(entry->bytes), entry->time);
     else
         gone(line, entry->time, "the connection breaks");
 }

@@ -259,6 +259,12 @@ void ledger_turned_away(uint64_t time, const struct message *message, const char
     frames_in++;
 }
 
+void ledger_trade(uint64_t time, const char *id, const char *what)
+{
+    print_row(time, "venue");
+    printf("trade %s %s\n", id, what);
+}
+
 void ledger_own(uint64_t time, const uint8_t *bytes, size_t len, const char *why)
 {
     struct message message = message_of(bytes, len);

@@ -17,7 +17,7 @@ struct step {
 /* Puts the messages of a reply in the step. */
 void take_reply(struct step *step, const uint8_t *reply, size_t len);
 
-/* The rule of document 01 that was applied, in words, deduced from what came, what went out and the record before and
+/* The rule of the documents that was applied, in words, deduced from what came, what went out and the record before and
    after: it explains an outcome and decides nothing. */
 void explain(const struct step *step, char *words, size_t room);
 
@@ -51,6 +51,9 @@ void ledger_step(uint64_t time, const struct step *step);
 
 /* A message with which the host turns a peer away, before any record is touched. */
 void ledger_turned_away(uint64_t time, const struct message *message, const char *why);
+
+/* A trade of which no report goes out now. */
+void ledger_trade(uint64_t time, const char *id, const char *what);
 
 /* A message that answers none: a Heartbeat, or one of the venue's own. */
 void ledger_own(uint64_t time, const uint8_t *bytes, size_t len, const char *why);

@@ -56,6 +56,7 @@ const char *type_name(uint32_t type)
     case FIXGW_TYPE_LOGON: return "Logon";
     case FIXGW_TYPE_ORDER_CANCEL_REQUEST: return "Order Cancel Request";
     case FIXGW_TYPE_TRADE_CAPTURE_REPORT_REQUEST: return "Trade Capture Report Request";
+    case FIXGW_TYPE_TRADE_CAPTURE_REPORT: return "Trade Capture Report";
     default: return "message";
     }
 }
@@ -67,12 +68,14 @@ static const struct {
     { FIXGW_TAG_BEGIN_SEQ_NO, "BeginSeqNo" }, { FIXGW_TAG_BEGIN_STRING, "BeginString" },
     { FIXGW_TAG_BODY_LENGTH, "BodyLength" }, { FIXGW_TAG_CHECK_SUM, "CheckSum" }, { FIXGW_TAG_CL_ORD_ID, "ClOrdID" },
     { FIXGW_TAG_END_SEQ_NO, "EndSeqNo" }, { FIXGW_TAG_SECURITY_ID_SOURCE, "SecurityIDSource" },
+    { FIXGW_TAG_LAST_PX, "LastPx" }, { FIXGW_TAG_LAST_QTY, "LastQty" },
     { FIXGW_TAG_MSG_SEQ_NUM, "MsgSeqNum" }, { FIXGW_TAG_MSG_TYPE, "MsgType" }, { FIXGW_TAG_NEW_SEQ_NO, "NewSeqNo" },
     { FIXGW_TAG_ORIG_CL_ORD_ID, "OrigClOrdID" }, { FIXGW_TAG_POSS_DUP_FLAG, "PossDupFlag" },
     { FIXGW_TAG_REF_SEQ_NUM, "RefSeqNum" }, { FIXGW_TAG_SECURITY_ID, "SecurityID" },
     { FIXGW_TAG_SENDER_COMP_ID, "SenderCompID" }, { FIXGW_TAG_SENDING_TIME, "SendingTime" }, { FIXGW_TAG_SIDE, "Side" },
     { FIXGW_TAG_TARGET_COMP_ID, "TargetCompID" }, { FIXGW_TAG_TEXT, "Text" },
-    { FIXGW_TAG_TRANSACT_TIME, "TransactTime" }, { FIXGW_TAG_TRADE_DATE, "TradeDate" },
+    { FIXGW_TAG_TRANSACT_TIME, "TransactTime" }, { FIXGW_TAG_SETTL_DATE, "SettlDate" },
+    { FIXGW_TAG_TRADE_DATE, "TradeDate" },
     { FIXGW_TAG_POSS_RESEND, "PossResend" }, { FIXGW_TAG_ENCRYPT_METHOD, "EncryptMethod" },
     { FIXGW_TAG_HEART_BT_INT, "HeartBtInt" }, { FIXGW_TAG_TEST_REQ_ID, "TestReqID" },
     { FIXGW_TAG_ORIG_SENDING_TIME, "OrigSendingTime" }, { FIXGW_TAG_GAP_FILL_FLAG, "GapFillFlag" },
@@ -81,10 +84,12 @@ static const struct {
     { FIXGW_TAG_REF_MSG_TYPE, "RefMsgType" }, { FIXGW_TAG_SESSION_REJECT_REASON, "SessionRejectReason" },
     { FIXGW_TAG_PARTY_ID_SOURCE, "PartyIDSource" }, { FIXGW_TAG_PARTY_ID, "PartyID" },
     { FIXGW_TAG_PARTY_ROLE, "PartyRole" }, { FIXGW_TAG_NO_PARTY_IDS, "NoPartyIDs" },
-    { FIXGW_TAG_TRADE_REQUEST_ID, "TradeRequestID" }, { FIXGW_TAG_TRADE_REQUEST_TYPE, "TradeRequestType" },
+    { FIXGW_TAG_NO_SIDES, "NoSides" }, { FIXGW_TAG_TRADE_REQUEST_ID, "TradeRequestID" },
+    { FIXGW_TAG_TRADE_REQUEST_TYPE, "TradeRequestType" }, { FIXGW_TAG_TRADE_REPORT_ID, "TradeReportID" },
+    { FIXGW_TAG_MATCH_TYPE, "MatchType" },
     { FIXGW_TAG_NO_DATES, "NoDates" }, { FIXGW_TAG_TRD_TYPE, "TrdType" }, { FIXGW_TAG_FIRM_TRADE_ID, "FirmTradeID" },
     { FIXGW_TAG_APPL_VER_ID, "ApplVerID" }, { FIXGW_TAG_DEFAULT_APPL_VER_ID, "DefaultApplVerID" },
-    { FIXGW_TAG_SESSION_STATUS, "SessionStatus" },
+    { FIXGW_TAG_SESSION_STATUS, "SessionStatus" }, { FIXGW_TAG_SIDE_EXEC_ID, "SideExecID" },
 };
 
 const char *tag_name(uint64_t tag)

@@ -1,6 +1,6 @@
-/* Names the rule of document 01 behind an outcome. N is the message's number, E the number expected before it. The rule
-   is worked out here a second time, without proof, from what came in and what went out; what is said of E, of Closed
-   and of a Reject is taken from the outcome. tests/ledger holds all of it to the model. */
+/* Names the rule of document 01 or 02 behind an outcome. N is the message's number, E the number expected before it. The
+   rule is worked out here a second time, without proof, from what came in and what went out; what is said of E, of
+   Closed and of a Reject is taken from the outcome. tests/ledger holds all of it to the model. */
 #include "ledger.h"
 
 struct words {
@@ -31,9 +31,9 @@ const char *refusal_words(uint32_t refusal)
         "Waiting, and this Logon has an unreadable 34, wrong CompIDs or a verdict", "the numbers are used up",
         "the reply buffer is under 512 bytes", "the time is past the year 9999",
         "a value that the dictionary would reject", "the buffer is shorter than the message",
-        "not exactly one good frame", "the record breaks its ranges",
+        "not exactly one good frame", "the record breaks its ranges", "the report is longer than 512 bytes",
     };
-    return refusal < sizeof words / sizeof words[0] ? words[refusal] : "a refusal that document 01 does not have";
+    return refusal < sizeof words / sizeof words[0] ? words[refusal] : "a refusal that the documents do not have";
 }
 
 static bool replies_with(const struct step *step, size_t place, uint32_t type)
@@ -116,6 +116,8 @@ static void explain_low(struct words *words, const struct step *step)
 
 static const char *why_rejected(const struct step *step)
 {
+    if (type_of(&step->in) == FIXGW_TYPE_TRADE_CAPTURE_REPORT)
+        return "rule 6, N = E, a report from a member: ";
     if (!is_clean(&step->in))
         return "rule 6, N = E, a verdict: ";
     if (type_of(&step->in) == FIXGW_TYPE_RESEND_REQUEST)

@@ -1,10 +1,10 @@
-/* The calls by which a C host reaches the gateway core of one FIXT 1.1 session (libfixgw.a). Document 01 decides what
-   each call answers; this header says it in C terms. `|` stands for the byte 1. */
+/* The calls by which a C host reaches the gateway core of one FIXT 1.1 session (libfixgw.a). Documents 01 and 02
+   decide what each call answers; this header says it in C terms. `|` stands for the byte 1. */
 #ifndef FIXGW_H
 #define FIXGW_H
 
 /* The version of this header, as major * 10000 + minor * 100 + patch. fixgw_version() answers that of the library. */
-#define FIXGW_VERSION 10100
+#define FIXGW_VERSION 10200
 
 /* Only these two headers are needed. A compiler that has none, but names its types, is served as well. */
 #ifdef __has_include
@@ -52,9 +52,10 @@ enum fixgw_refusal {
     FIXGW_REFUSED_REPLY_ROOM = 6,           /* a reply buffer under FIXGW_LEAST_REPLY_ROOM bytes */
     FIXGW_REFUSED_TIME = 7,                 /* a time at or past FIXGW_END_OF_TIME */
     FIXGW_REFUSED_VALUE = 8,                /* a value or a type to write that the dictionary would reject */
-    FIXGW_REFUSED_WRITE_ROOM = 9,           /* the writer: a buffer shorter than the message */
-    FIXGW_REFUSED_NOT_A_FRAME = 10,         /* not exactly one good frame; for fields and verdict, no body */
-    FIXGW_REFUSED_RECORD = 11               /* the session's record breaks its ranges */
+    FIXGW_REFUSED_WRITE_ROOM = 9,           /* the writer and a report: a buffer shorter than the message */
+    FIXGW_REFUSED_NOT_A_FRAME = 10,         /* not exactly one good frame; for what is read from a body, no body */
+    FIXGW_REFUSED_RECORD = 11,              /* the session's record breaks its ranges */
+    FIXGW_REFUSED_REPORT_LENGTH = 12        /* a report longer than FIXGW_REPORT_MOST bytes */
 };
 
 /* 373, SessionRejectReason: what a verdict finds and what a Reject carries. */
@@ -91,7 +92,8 @@ enum fixgw_type {
     FIXGW_TYPE_LOGOUT = 0x35,
     FIXGW_TYPE_LOGON = 0x41,
     FIXGW_TYPE_ORDER_CANCEL_REQUEST = 0x46,             /* F */
-    FIXGW_TYPE_TRADE_CAPTURE_REPORT_REQUEST = 0x4144    /* AD */
+    FIXGW_TYPE_TRADE_CAPTURE_REPORT_REQUEST = 0x4144,   /* AD */
+    FIXGW_TYPE_TRADE_CAPTURE_REPORT = 0x4145            /* AE */
 };
 
 enum fixgw_tag {
@@ -102,6 +104,8 @@ enum fixgw_tag {
     FIXGW_TAG_CL_ORD_ID = 11,
     FIXGW_TAG_END_SEQ_NO = 16,
     FIXGW_TAG_SECURITY_ID_SOURCE = 22,
+    FIXGW_TAG_LAST_PX = 31,
+    FIXGW_TAG_LAST_QTY = 32,
     FIXGW_TAG_MSG_SEQ_NUM = 34,
     FIXGW_TAG_MSG_TYPE = 35,
     FIXGW_TAG_NEW_SEQ_NO = 36,
@@ -115,6 +119,7 @@ enum fixgw_tag {
     FIXGW_TAG_TARGET_COMP_ID = 56,
     FIXGW_TAG_TEXT = 58,
     FIXGW_TAG_TRANSACT_TIME = 60,
+    FIXGW_TAG_SETTL_DATE = 64,
     FIXGW_TAG_TRADE_DATE = 75,
     FIXGW_TAG_POSS_RESEND = 97,
     FIXGW_TAG_ENCRYPT_METHOD = 98,
@@ -131,14 +136,18 @@ enum fixgw_tag {
     FIXGW_TAG_PARTY_ID = 448,
     FIXGW_TAG_PARTY_ROLE = 452,
     FIXGW_TAG_NO_PARTY_IDS = 453,
+    FIXGW_TAG_NO_SIDES = 552,
     FIXGW_TAG_TRADE_REQUEST_ID = 568,
     FIXGW_TAG_TRADE_REQUEST_TYPE = 569,
+    FIXGW_TAG_TRADE_REPORT_ID = 571,
+    FIXGW_TAG_MATCH_TYPE = 574,
     FIXGW_TAG_NO_DATES = 580,
     FIXGW_TAG_TRD_TYPE = 828,
     FIXGW_TAG_FIRM_TRADE_ID = 1041,
     FIXGW_TAG_APPL_VER_ID = 1128,
     FIXGW_TAG_DEFAULT_APPL_VER_ID = 1137,
-    FIXGW_TAG_SESSION_STATUS = 1409
+    FIXGW_TAG_SESSION_STATUS = 1409,
+    FIXGW_TAG_SIDE_EXEC_ID = 1427
 };
 
 /* ---- Bytes of the line ------------------------------------------------------------------------------------------- */
@@ -327,6 +336,213 @@ uint32_t fixgw_test_request(const uint8_t comp_ids[FIXGW_COMP_IDS], uint64_t *wo
                             const uint8_t *id, size_t id_len, uint64_t time_us, uint8_t *buf, size_t buf_len,
                             uint64_t out[1]);
 
+/* ---- Trade capture reports --------------------------------------------------------------------------------------- */
+
+/* A report's values as the two calls below take and give them, one layout both ways: FIXGW_REPORT_WORDS words with a
+   text beside them, the host's for a report that is written, the body itself for one that is read.
+   A value has three words at 3 * place: {given, a, b}. `given` is 0 for an absent one. The two decimals are the whole
+   number a, all their digits without the point, with b places behind it: 12.50 is {1, 1250, 2}. Any other value is the
+   byte string text[a .. b).
+   Behind these stands the number of parties, and then of each party, without a word for `given`, the start and the end
+   in the text of 448, of 447 and of 452. The counts 552 and 453 are no values: 552 is 1, and 453 is written if there is
+   a party. */
+enum fixgw_report_place {
+    FIXGW_REPORT_PLACE_TRADE_REPORT_ID = 0, /* 571, 1 to 32 bytes */
+    FIXGW_REPORT_PLACE_TRD_TYPE,            /* 828: 0 regular trade, 54 PC trade, 99 RFQ trade */
+    FIXGW_REPORT_PLACE_TRANSACT_TIME,       /* 60, YYYYMMDD-HH:MM:SS, alone or with 3 or 6 decimals */
+    FIXGW_REPORT_PLACE_LAST_QTY,            /* 32, a decimal */
+    FIXGW_REPORT_PLACE_LAST_PX,             /* 31, a decimal */
+    FIXGW_REPORT_PLACE_SETTL_DATE,          /* 64, YYYYMMDD, optional */
+    FIXGW_REPORT_PLACE_MATCH_TYPE,          /* 574: 2 PC trade, 4 continuous trading, 7 auction, 22 RFQ trade */
+    FIXGW_REPORT_PLACE_SECURITY_ID,         /* 48, 1 to 32 bytes */
+    FIXGW_REPORT_PLACE_SECURITY_ID_SOURCE,  /* 22: 8 */
+    FIXGW_REPORT_PLACE_SIDE,                /* 54: 1 buy, 2 sell */
+    FIXGW_REPORT_PLACE_SIDE_EXEC_ID,        /* 1427, 1 to 32 bytes, optional */
+    FIXGW_REPORT_TAGS
+};
+
+enum {
+    FIXGW_REPORT_PARTIES = 8,               /* the most that a report has */
+    FIXGW_REPORT_WORD_PARTIES = 3 * FIXGW_REPORT_TAGS,  /* the number of parties */
+    FIXGW_REPORT_WORD_PARTY,                            /* six words for each party from here on */
+    FIXGW_REPORT_WORDS = FIXGW_REPORT_WORD_PARTY + 6 * FIXGW_REPORT_PARTIES,    /* 82 */
+    FIXGW_REPORT_MOST = 512                 /* bytes of the longest report: a buffer of so many has room for each */
+};
+
+/* Writes one Trade Capture Report, whole, at the front of buf, under the session's next number; last sent becomes
+   time_us. Use struct fixgw_report_draft and its functions below to fill the values.
+   0: out is {report length}, at most FIXGW_REPORT_MOST; buf keeps its bytes behind it.
+   11, 7, 2 (it is not Active), 5, 8, 12 (the report would be longer than FIXGW_REPORT_MOST), 9 (buf is shorter than the
+   report), looked for in this order: out is {0}, buf keeps all of its bytes, and the record stays as it is, except that
+   5 sets it Closed. 8 is a value that the dictionary would reject, a required one absent, a byte string that does not
+   lie in text, a decimal above 999,999,999,999,999 or with more than 8 places, or more than 8 parties. */
+uint32_t fixgw_report(const uint8_t comp_ids[FIXGW_COMP_IDS], uint64_t *words, size_t words_len,
+                      const uint64_t values[FIXGW_REPORT_WORDS], const uint8_t *text, size_t text_len,
+                      uint64_t time_us, uint8_t *buf, size_t buf_len, uint64_t out[1]);
+
+/* The values of the Trade Capture Report that a body is, as from a log (fixgw_body finds the body of a frame). It
+   belongs to no session, and asks nothing of the order of the fields that the verdict does not ask.
+   0: out is {0, 0, 0} and values holds them, with places in the body; the words of what is absent are 0. Or the body is
+   no clean report: out is {1, reason, tag} as fixgw_verdict has it, {1, 11, 35} for a clean body of another type, and
+   every word of values is 0. 10: no body; every word of out and of values is 0. */
+uint32_t fixgw_report_values(const uint8_t *body, size_t len, uint64_t values[FIXGW_REPORT_WORDS], uint64_t out[3]);
+
+/* ---- A report's values, filled and read -------------------------------------------------------------------------- */
+
+/* The place of a tag among a report's values, FIXGW_REPORT_TAGS for any other tag. */
+static inline size_t fixgw_report_place_of(uint32_t tag)
+{
+    static const uint32_t tags[FIXGW_REPORT_TAGS] = {
+        FIXGW_TAG_TRADE_REPORT_ID, FIXGW_TAG_TRD_TYPE, FIXGW_TAG_TRANSACT_TIME, FIXGW_TAG_LAST_QTY, FIXGW_TAG_LAST_PX,
+        FIXGW_TAG_SETTL_DATE, FIXGW_TAG_MATCH_TYPE, FIXGW_TAG_SECURITY_ID, FIXGW_TAG_SECURITY_ID_SOURCE,
+        FIXGW_TAG_SIDE, FIXGW_TAG_SIDE_EXEC_ID
+    };
+    size_t place = 0;
+    while (place < FIXGW_REPORT_TAGS && tags[place] != tag)
+        place++;
+    return place;
+}
+
+static inline int fixgw_report_is_decimal(size_t place)
+{
+    return place == FIXGW_REPORT_PLACE_LAST_QTY || place == FIXGW_REPORT_PLACE_LAST_PX;
+}
+
+/* A report that is being filled: its values, and the text that their bytes are copied into, one behind the other. Empty
+   it, give each value once, add the parties in order, and hand it to fixgw_session_report. What the functions below
+   cannot take (another tag, bytes for a decimal or a decimal for bytes, more bytes than there is room for, a ninth
+   party) is not left out: the report then counts nine parties, which is refusal 8. */
+enum { FIXGW_REPORT_TEXT = 512 };           /* bytes; all that a report may hold has 414 */
+
+struct fixgw_report_draft {
+    uint64_t values[FIXGW_REPORT_WORDS];
+    size_t text_len;
+    uint8_t text[FIXGW_REPORT_TEXT];
+};
+
+static inline void fixgw_report_empty(struct fixgw_report_draft *draft)
+{
+    for (size_t i = 0; i < FIXGW_REPORT_WORDS; i++)
+        draft->values[i] = 0;
+    draft->text_len = 0;
+}
+
+static inline void fixgw_report_spoil(struct fixgw_report_draft *draft)
+{
+    draft->values[FIXGW_REPORT_WORD_PARTIES] = FIXGW_REPORT_PARTIES + 1;
+}
+
+/* Copies bytes behind the others and puts their start and end into two words. */
+static inline void fixgw_report_put(struct fixgw_report_draft *draft, uint64_t *start_end, const uint8_t *bytes,
+                                    size_t len)
+{
+    if (len > FIXGW_REPORT_TEXT - draft->text_len) {
+        fixgw_report_spoil(draft);
+        return;
+    }
+    start_end[0] = draft->text_len;
+    for (size_t i = 0; i < len; i++)
+        draft->text[draft->text_len++] = bytes[i];
+    start_end[1] = draft->text_len;
+}
+
+/* Gives 571, 828, 60, 64, 574, 48, 22, 54 or 1427. */
+static inline void fixgw_report_give(struct fixgw_report_draft *draft, uint32_t tag, const uint8_t *bytes, size_t len)
+{
+    size_t place = fixgw_report_place_of(tag);
+    if (place == FIXGW_REPORT_TAGS || fixgw_report_is_decimal(place)) {
+        fixgw_report_spoil(draft);
+        return;
+    }
+    draft->values[3 * place] = 1;
+    fixgw_report_put(draft, &draft->values[3 * place + 1], bytes, len);
+}
+
+/* Gives 32 or 31: 12.50 is the whole number 1250 with 2 places. */
+static inline void fixgw_report_give_decimal(struct fixgw_report_draft *draft, uint32_t tag, uint64_t whole,
+                                             uint64_t places)
+{
+    size_t place = fixgw_report_place_of(tag);
+    if (!fixgw_report_is_decimal(place)) {
+        fixgw_report_spoil(draft);
+        return;
+    }
+    draft->values[3 * place] = 1;
+    draft->values[3 * place + 1] = whole;
+    draft->values[3 * place + 2] = places;
+}
+
+/* Adds a party behind the others, whole: 448, 447 and 452. */
+static inline void fixgw_report_add_party(struct fixgw_report_draft *draft, const uint8_t *id, size_t id_len,
+                                          const uint8_t *source, size_t source_len, const uint8_t *role,
+                                          size_t role_len)
+{
+    uint64_t *count = &draft->values[FIXGW_REPORT_WORD_PARTIES];
+    if (*count >= FIXGW_REPORT_PARTIES) {
+        fixgw_report_spoil(draft);
+        return;
+    }
+    uint64_t *party = &draft->values[FIXGW_REPORT_WORD_PARTY + 6 * *count];
+    (*count)++;
+    fixgw_report_put(draft, party, id, id_len);
+    fixgw_report_put(draft, party + 2, source, source_len);
+    fixgw_report_put(draft, party + 4, role, role_len);
+}
+
+/* What stands in values, with their text: the body, behind fixgw_report_values. A value that is absent is {NULL, 0}, an
+   absent decimal 0 with 9 places, which none has. */
+struct fixgw_bytes { const uint8_t *at; size_t len; };
+struct fixgw_decimal { uint64_t whole, places; };
+struct fixgw_party { struct fixgw_bytes id, source, role; };    /* 448, 447, 452 */
+
+static inline struct fixgw_bytes fixgw_report_bytes(const uint8_t *text, const uint64_t *start_end, int is_given)
+{
+    struct fixgw_bytes bytes = { 0, 0 };
+    if (is_given) {
+        bytes.at = text + start_end[0];
+        bytes.len = (size_t)(start_end[1] - start_end[0]);
+    }
+    return bytes;
+}
+
+static inline struct fixgw_bytes fixgw_report_value(const uint64_t values[FIXGW_REPORT_WORDS], const uint8_t *text,
+                                                    uint32_t tag)
+{
+    size_t place = fixgw_report_place_of(tag);
+    int is_bytes = place < FIXGW_REPORT_TAGS && !fixgw_report_is_decimal(place);
+    return fixgw_report_bytes(text, &values[3 * place + 1], is_bytes && values[3 * place] != 0);
+}
+
+static inline struct fixgw_decimal fixgw_report_decimal(const uint64_t values[FIXGW_REPORT_WORDS], uint32_t tag)
+{
+    size_t place = fixgw_report_place_of(tag);
+    struct fixgw_decimal decimal = { 0, 9 };
+    if (fixgw_report_is_decimal(place) && values[3 * place] != 0) {
+        decimal.whole = values[3 * place + 1];
+        decimal.places = values[3 * place + 2];
+    }
+    return decimal;
+}
+
+static inline size_t fixgw_report_parties(const uint64_t values[FIXGW_REPORT_WORDS])
+{
+    uint64_t count = values[FIXGW_REPORT_WORD_PARTIES];
+    return count < FIXGW_REPORT_PARTIES ? (size_t)count : FIXGW_REPORT_PARTIES;
+}
+
+/* The party of this number, from 0 on. */
+static inline struct fixgw_party fixgw_report_party(const uint64_t values[FIXGW_REPORT_WORDS], const uint8_t *text,
+                                                    size_t number)
+{
+    int is_there = number < fixgw_report_parties(values);
+    const uint64_t *words = &values[FIXGW_REPORT_WORD_PARTY + (is_there ? 6 * number : 0)];
+    struct fixgw_party party;
+    party.id = fixgw_report_bytes(text, words, is_there);
+    party.source = fixgw_report_bytes(text, words + 2, is_there);
+    party.role = fixgw_report_bytes(text, words + 4, is_there);
+    return party;
+}
+
 /* ---- The same over the record as one struct ---------------------------------------------------------------------- */
 
 static inline uint8_t *fixgw_comp_ids(struct fixgw_session *session)
@@ -369,6 +585,13 @@ static inline uint32_t fixgw_session_test_request(struct fixgw_session *session,
 {
     return fixgw_test_request(fixgw_comp_ids(session), session->words, FIXGW_WORDS, id, id_len, time_us, buf, buf_len,
                               out);
+}
+
+static inline uint32_t fixgw_session_report(struct fixgw_session *session, const struct fixgw_report_draft *draft,
+                                            uint64_t time_us, uint8_t *buf, size_t buf_len, uint64_t out[1])
+{
+    return fixgw_report(fixgw_comp_ids(session), session->words, FIXGW_WORDS, draft->values, draft->text,
+                        draft->text_len, time_us, buf, buf_len, out);
 }
 
 /* A MsgType as a number of fixgw_type; 0 for one that is not of one or two bytes, or begins with a byte 0. */

@@ -99,6 +99,34 @@ static void play(const char *what, size_t noise, const char *const *bodies, int 
     close(pair[1]);
 }
 
+/* One trade on a line that is up. */
+static void play_trade(const char *what, const char *id)
+{
+    struct trade trade = { id, "20240102-09:30:00", "133215", "1", "FIRM", 1250, 10125, 0, 0 };
+    uint8_t came[1024];
+    int pair[2];
+    socketpair(AF_UNIX, SOCK_STREAM, 0, pair);
+    struct line line = { .socket = pair[0], .peer = &peer };
+    int goes_on = report(&line, &trade);
+    printf("%s: %s, refusal %u, %s\n", what, goes_on ? "on" : "off", trade.refusal, trade.is_told ? "told" : "not told");
+    ssize_t got = recv(pair[1], came, sizeof came, MSG_DONTWAIT);
+    print_bytes(came, got > 0 ? (size_t)got : 0);
+    printf("\nnext out %lu\n", (unsigned long)peer.session.words[FIXGW_WORD_NEXT_OUT]);
+    close(pair[0]);
+    close(pair[1]);
+}
+
+static void play_trades(void)
+{
+    fixgw_session_new(&peer.session, (const uint8_t *)"GW", 2, (const uint8_t *)"MM", 2);
+    play_trade("a trade while Waiting", "T-1");
+    peer.session.words[FIXGW_WORD_STATUS] = FIXGW_ACTIVE;
+    play_trade("a trade alone", "T-1");
+    play_trade("a trade with too long a name", "A-TRADE-WITH-A-NAME-OF-33-LETTERS");
+    disk_fails = 1;
+    play_trade("a trade while the disk fails", "T-2");
+}
+
 #define HEADER(type, sender, number) "35=" type "|49=" sender "|56=GW|34=" number "|52=20240102-09:30:00|"
 #define LOGON(sender, number) HEADER("A", sender, number) "98=0|108=30|1137=9|"
 #define ORDER(number) HEADER("F", "MM", number) "11=C|41=O|54=1|48=133215|22=8|60=20240102-09:30:00|"
@@ -125,5 +153,8 @@ int main(void)
     play("and works again", 0, again, 0);
     step_of_clock = 20000000;
     play("silence", 0, silent, 1);
+    step_of_clock = 0;
+    now = 1704187800000000;
+    play_trades();
     return 0;
 }
