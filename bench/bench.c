@@ -1,27 +1,18 @@
-/* The cost of reading, verdict, step and tick, each beside plain C that does the same.
+/* The cost of reading, verdict, step, tick and report, each beside plain C that does the same.
    One line a section: NUMBER|WHAT|BYTES|MESSAGES|SIDE|REPEATS|NANOSECONDS. */
-#include "../host/libc.h"
-#include "fixgw.h"
-#include "plain.h"
+#include "bench.h"
 
 enum {
     LINE_ROOM = 4096,
-    LONG = 200000,                          /* bytes of the long rows; the short ones have a tenth */
     TURNS = 5,
     MARK_OF_COUNTER = 0x7fe00000            /* close() of this begins a section for a counting emulator, + n ends it */
 };
 
-#define CALL_TIME 1704187800000000u         /* 20240102-09:30:00.000000 */
-
-static uint64_t sink;                       /* so that no call is left out as useless */
+uint64_t sink;
 
 /* ---- What is read ------------------------------------------------------------------------------------------------ */
 
-struct bytes {
-    uint8_t at[LONG + 8];
-    size_t len, body, body_len;             /* of a frame also where its body lies */
-};
-
+struct bytes report;
 static struct bytes heartbeat, request, greatest, test_request, noise, marks, torn, stream;
 
 static void add(struct bytes *to, const char *text)
@@ -37,8 +28,7 @@ static void add_number(struct bytes *to, size_t number)
     to->at[to->len++] = (uint8_t)('0' + number % 10);
 }
 
-/* A frame around a body in text. */
-static void make_frame(struct bytes *frame, const char *body)
+void make_frame(struct bytes *frame, const char *body)
 {
     uint32_t sum = 0;
     frame->len = 0;
@@ -56,9 +46,6 @@ static void make_frame(struct bytes *frame, const char *body)
     add_number(frame, sum % 256 % 10);
     add(frame, "|");
 }
-
-#define NUMBERED(type, number) "35=" type "|49=MM|56=GW|34=" number "|52=20240102-09:30:00.000000|"
-#define HEADER(type) NUMBERED(type, "2")
 
 /* A Heartbeat whose body is filled up to 2,048 bytes with fields that no dictionary has. */
 static void make_greatest(void)
@@ -90,6 +77,7 @@ static void make_all(void)
     make_frame(&request, HEADER("AD") "568=TR-20240102-000001|569=0|263=0|828=0|453=2|448=TRADER-0000007|447=D|452=12|"
                "448=MEMBERFIRM|447=D|452=1|22=8|48=GB00BH4HKS39|580=2|75=20231228|75=20231229|58=End of year|");
     make_greatest();
+    make_frame(&report, REPORT_HEADER REPORT_TRADE REPORT_SIDE REPORT_PARTIES);
     make_repeated(&noise, "0123456789 abcdefghijklmnopqrstuvwxyz|=.,-");
     make_repeated(&marks, "8=FIXT.1.1|9=");
     make_repeated(&torn, "8=FIXT.1.1|9=2048|35=0|49=MM|");
@@ -101,7 +89,7 @@ static void make_all(void)
 
 /* ---- What is measured -------------------------------------------------------------------------------------------- */
 
-enum kind { NOTHING, READ, VERDICT, STEP, TICK, STREAM };
+enum kind { NOTHING, READ, VERDICT, STEP, TICK, STREAM, REPORT, REPORT_VALUES };
 enum side { OURS, PLAIN };
 
 struct row {
@@ -133,6 +121,9 @@ static const struct row rows[] = {
     { "step, body of 2,048", STEP, &greatest, 0, 500 },
     { "step, Test Request and its answer", STEP, &test_request, 0, 2000 },
     { "tick, Heartbeat out", TICK, &heartbeat, 0, 2000 },
+    { "verdict, AE with two parties", VERDICT, &report, 0, 2000 },
+    { "report, AE with two parties", REPORT, &report, 0, 2000 },
+    { "report-values, AE with two parties", REPORT_VALUES, &report, 0, 2000 },
 };
 
 enum { ROWS = sizeof rows / sizeof rows[0] };
@@ -175,10 +166,9 @@ static void verdict_plain(const uint8_t *body, size_t len)
 #define RECORD(ours_len, peer_len, ...) \
     { ours_len, "GW", peer_len, "MM", { FIXGW_RECORD_VERSION, __VA_ARGS__ } }
 
-static const struct fixgw_session active = RECORD(2, 2, FIXGW_ACTIVE, 2, 2, 30, 0);
+const struct fixgw_session active = RECORD(2, 2, FIXGW_ACTIVE, 2, 2, 30, 0);
 
-/* The same record for the plain side. */
-static struct plain_session plain_of(const struct fixgw_session *session)
+struct plain_session plain_of(const struct fixgw_session *session)
 {
     struct plain_session plain = {
         .ours_size = session->ours_len, .peer_size = session->peer_len, .status = session->words[FIXGW_WORD_STATUS],
@@ -200,13 +190,13 @@ static void make_records(void)
     plain_record = plain_active = plain_of(&active);
 }
 
-static struct fixgw_session *set_back(void)
+struct fixgw_session *set_back(void)
 {
     memcpy(our_record.words, active.words, FIXGW_WORDS_USED * sizeof active.words[0]);
     return &our_record;
 }
 
-static struct plain_session *set_back_plain(void)
+struct plain_session *set_back_plain(void)
 {
     plain_record.status = plain_active.status;
     plain_record.expected = plain_active.expected;
@@ -289,13 +279,17 @@ static void run_once(const struct row *row, enum side side)
     case STEP: (side == OURS ? step_ours : step_plain)(bytes, len); break;
     case STREAM: (side == OURS ? stream_ours : stream_plain)(bytes, len); break;
     case TICK: (side == OURS ? tick_ours : tick_plain)(); break;
+    case REPORT: (side == OURS ? report_ours : report_plain)(); break;
+    case REPORT_VALUES:
+        (side == OURS ? values_ours : values_plain)(bytes + row->bytes->body, row->bytes->body_len);
+        break;
     case NOTHING: break;
     }
 }
 
 /* ---- Both sides answer alike ------------------------------------------------------------------------------------- */
 
-static void insist(int holds, const char *what)
+void insist(int holds, const char *what)
 {
     if (holds)
         return;
@@ -322,15 +316,7 @@ static void check_verdict(const struct row *row)
     insist(fixgw_verdict(frame->at + frame->body, frame->body_len, out) == FIXGW_OK && out[0] == 0, row->what);
 }
 
-/* Both sides of one call on a session: the records and the buffers behind it must be the same, byte by byte. */
-struct pair {
-    const char *what;
-    struct fixgw_session ours;
-    struct plain_session plain;
-    uint8_t our_reply[FIXGW_LEAST_REPLY_ROOM], plain_reply[FIXGW_LEAST_REPLY_ROOM];
-};
-
-static struct pair pair_on(const struct fixgw_session *session, const char *what)
+struct pair pair_on(const struct fixgw_session *session, const char *what)
 {
     struct pair pair = { .what = what, .ours = *session, .plain = plain_of(session) };
     for (size_t i = 0; i < FIXGW_LEAST_REPLY_ROOM; i++)
@@ -338,7 +324,7 @@ static struct pair pair_on(const struct fixgw_session *session, const char *what
     return pair;
 }
 
-static bool refusal_met[FIXGW_REFUSED_RECORD + 1], reply_met[256];  /* by the type of a first reply */
+static bool refusal_met[FIXGW_REFUSED_REPORT_LENGTH + 1], reply_met[256];   /* by the type of a first reply */
 
 /* The type of the first message of a reply, which has one byte; 0 for no reply. */
 static uint8_t first_type(const uint8_t *reply, size_t len)
@@ -349,7 +335,7 @@ static uint8_t first_type(const uint8_t *reply, size_t len)
     return reply[found[0] + body[0] + 3];
 }
 
-static void check_pair(const struct pair *pair, uint32_t refusal, uint32_t plain_refusal, size_t reply_len)
+void check_pair(const struct pair *pair, uint32_t refusal, uint32_t plain_refusal, size_t reply_len)
 {
     struct plain_session ours = plain_of(&pair->ours);
     insist(refusal == plain_refusal, pair->what);
@@ -401,7 +387,9 @@ static const char *const bodies[] = {
     HEADER("F") "11=C-1|41=C-0|54=1|48=GB00BH4HKS39|22=8|60=20240102-09:30:00|", HEADER("F") "11=C-1|",
     HEADER("AD") "568=R|569=0|453=1|448=P|447=D|452=12|22=8|48=GB00BH4HKS39|580=1|75=20240229|",
     HEADER("AD") "568=R|569=0|22=8|48=GB00BH4HKS39|580=1|75=20230229|", HEADER("AD") "20001=a|",
-    HEADER("Z"), HEADER(""), HEADER("AE"), "35=Z|34=2|", "35=||",
+    HEADER("AE"), HEADER("AE") REPORT_TRADE REPORT_SIDE REPORT_PARTIES, HEADER("AE") REPORT_TRADE "552=1|",
+    HEADER("AE") "43=Y|" REPORT_TRADE, HEADER("E"), HEADER("0") "571=T|", HEADER("AD") "568=R|571=T|",
+    HEADER("Z"), HEADER(""), HEADER("AF"), "35=Z|34=2|", "35=||",
     "35=0|49=MM|56=GW|52=20240102-09:30:00|", NUMBERED("0", "02"), NUMBERED("0", "0"), NUMBERED("0", "1234567890"),
     NUMBERED("0", ""), NUMBERED("0", "2x"), NUMBERED("0", "2|34=9"), NUMBERED("0", "999999999"),
     "35=0|56=GW|34=2|52=20240102-09:30:00|", "35=0|49=MMX|56=GW|34=2|52=20240102-09:30:00|",
@@ -456,18 +444,22 @@ static void check_calls(const struct fixgw_session *session)
     check_tick("a tick without room", session, CALL_TIME, ROOM - 1);
 }
 
-/* Steps and ticks of all kinds: every refusal that they can give is met, and every type that they can write. */
+/* Steps, ticks and reports of all kinds: every refusal that they can give is met, and every type that they can write. */
 static void check_sessions(void)
 {
-    static const uint8_t refusals[] = { 0, 2, 3, 4, 5, 6, 7, 10, 11 };
+    static const uint8_t refusals[] = { 0, 2, 3, 4, 5, 6, 7, 8, 9, 10, 11, 12 };
     for (size_t i = 0; i < RECORDS; i++) {
         check_bodies(&records[i]);
         check_calls(&records[i]);
+        check_reports(&records[i]);
     }
     for (size_t i = 0; i < sizeof refusals; i++)
         insist(refusal_met[refusals[i]], "the refusals of a session");
     for (const char *type = "02345A"; *type; type++)
         insist(reply_met[(uint8_t)*type], "the replies of a session");
+    for (size_t i = 0; i < BODIES; i++)
+        check_values(bodies[i]);
+    check_report_bodies();
 }
 
 static void check_all(void)
@@ -536,6 +528,7 @@ int main(int count, char **words)
 {
     make_all();
     make_records();
+    make_draft();
     check_all();
     if (count == 3 && number_of(words[1]) < 2 * ROWS) {
         measure(number_of(words[1]), number_of(words[2]), 1);

@@ -1,6 +1,6 @@
-/* A plain C11 frame reader and verdict of document 01, written for speed: memchr for the scans, a sum that the compiler
-   turns into vector code, one table of tags. It shares nothing with the library. */
-#include "plain.h"
+/* A plain C11 frame reader and verdict of documents 01 and 02, written for speed: memchr for the scans, a sum that the
+   compiler turns into vector code, one table of tags. It shares nothing with the library. */
+#include "plain_values.h"
 
 #define BAR 1
 
@@ -21,11 +21,6 @@ struct look {
     size_t length;
     size_t next;
 };
-
-static int is_digit(uint8_t byte)
-{
-    return (uint8_t)(byte - '0') <= 9;
-}
 
 /* The first mark that lies in s[from..n) whole, or n. No two marks overlap. */
 static size_t next_mark(const uint8_t *s, size_t from, size_t n)
@@ -133,18 +128,18 @@ size_t plain_read(const uint8_t *s, size_t n, size_t *skip_or_drop)
 
 /* ---- The dictionary ---------------------------------------------------------------------------------------------- */
 
-enum { T0 = 1, T1 = 2, T2 = 4, T3 = 8, T4 = 16, T5 = 32, TA = 64, TF = 128, TAD = 256, ALL = 511 };
+enum { T0 = 1, T1 = 2, T2 = 4, T3 = 8, T4 = 16, T5 = 32, TA = 64, TF = 128, TAD = 256, TAE = 512, ALL = 1023 };
 
-#define APPLICATION (TF | TAD)
+#define APPLICATION (TF | TAD | TAE)
 
-enum kind { STRING, LIST, NUMBER, YES_NO, TIME, DATE };
+enum kind { STRING, LIST, NUMBER, YES_NO, TIME, DATE, DECIMAL };
 
-/* Places in the table, in the order of document 01; each is a bit of the marks. 0 is no place. */
+/* Places in the table, in the order of document 01, then 02's; each is a bit of the marks. 0 is no place. */
 enum place {
     NONE, P35, P49, P56, P34, P52, P43, P97, P122, P1128,
     P112, P7, P16, P45, P371, P372, P373, P58, P36, P123, P1409, P98, P108, P1137, P141,
     P11, P41, P54, P48, P22, P60, P453, P568, P569, P263, P828, P580, P1041,
-    P448, P447, P452, P75, PLACES
+    P448, P447, P452, P75, P571, P32, P31, P64, P574, P552, P1427, PLACES
 };
 
 #define HEADER_PLACES (P1128 + 1)           /* places below are the header's */
@@ -152,18 +147,21 @@ enum place {
 #define C1(a) (a)                           /* a listed value of one or two bytes as a number */
 #define C2(a, b) ((a) << 8 | (b))
 #define MOST 999999999
+#define DECIMAL_DIGITS 15                   /* of the whole number, the point left out */
+#define DECIMAL_PLACES 8
 
 struct entry {
     uint16_t messages;                      /* in which it may stand */
     uint8_t kind;
     uint32_t least, greatest;               /* of a number; greatest also is a string's length */
     uint16_t list[5];
+    uint16_t in_report;                     /* what AE lists beside that, or 0 */
 };
 
-#define TEXT(messages, longest) { messages, STRING, 0, longest, { 0 } }
-#define FROM(messages, least, greatest) { messages, NUMBER, least, greatest, { 0 } }
-#define SHAPED(messages, kind) { messages, kind, 0, 0, { 0 } }
-#define ONE_OF(messages, ...) { messages, LIST, 0, 0, { __VA_ARGS__ } }
+#define TEXT(messages, longest) { messages, STRING, 0, longest, { 0 }, 0 }
+#define FROM(messages, least, greatest) { messages, NUMBER, least, greatest, { 0 }, 0 }
+#define SHAPED(messages, kind) { messages, kind, 0, 0, { 0 }, 0 }
+#define ONE_OF(messages, ...) { messages, LIST, 0, 0, { __VA_ARGS__ }, 0 }
 
 static const struct entry ENTRIES[PLACES] = {
     [P35] = TEXT(ALL, 32), [P49] = TEXT(ALL, 32), [P56] = TEXT(ALL, 32), [P34] = FROM(ALL, 1, MOST),
@@ -174,39 +172,50 @@ static const struct entry ENTRIES[PLACES] = {
     [P58] = TEXT(T3 | T5 | TAD, 256), [P36] = FROM(T4, 1, MOST), [P123] = SHAPED(T4, YES_NO),
     [P1409] = FROM(T5, 0, MOST),
     [P98] = ONE_OF(TA, C1('0')), [P108] = FROM(TA, 1, 60), [P1137] = ONE_OF(TA, C1('9')), [P141] = SHAPED(TA, YES_NO),
-    [P11] = TEXT(TF, 32), [P41] = TEXT(TF, 32), [P54] = ONE_OF(TF, C1('1'), C1('2')), [P48] = TEXT(APPLICATION, 32),
+    [P11] = TEXT(TF, 32), [P41] = TEXT(TF, 32), [P54] = ONE_OF(TF | TAE, C1('1'), C1('2')),
+    [P48] = TEXT(APPLICATION, 32),
     [P22] = ONE_OF(APPLICATION, C1('8')), [P60] = SHAPED(APPLICATION, TIME), [P453] = FROM(APPLICATION, 1, 8),
     [P568] = TEXT(TAD, 32), [P569] = ONE_OF(TAD, C1('0')), [P263] = ONE_OF(TAD, C1('0')),
-    [P828] = ONE_OF(TAD, C1('0'), C2('5', '4')), [P580] = FROM(TAD, 1, 2), [P1041] = TEXT(TAD, 32),
+    [P828] = { TAD | TAE, LIST, 0, 0, { C1('0'), C2('5', '4') }, C2('9', '9') },
+    [P580] = FROM(TAD, 1, 2), [P1041] = TEXT(TAD, 32),
     [P448] = TEXT(APPLICATION, 32), [P447] = ONE_OF(APPLICATION, C1('D')),
     [P452] = ONE_OF(APPLICATION, C1('1'), C1('3'), C2('1', '2'), C2('1', '7'), C2('7', '6')),
     [P75] = SHAPED(TAD, DATE),
+    [P571] = TEXT(TAE, 32), [P32] = SHAPED(TAE, DECIMAL), [P31] = SHAPED(TAE, DECIMAL), [P64] = SHAPED(TAE, DATE),
+    [P574] = ONE_OF(TAE, C1('2'), C1('4'), C1('7'), C2('2', '2')), [P552] = FROM(TAE, 1, 1), [P1427] = TEXT(TAE, 32),
 };
 
-#define GREATEST_TAG 1409
+#define GREATEST_TAG 1427
 
 static const uint8_t PLACE_OF[GREATEST_TAG + 1] = {
     [35] = P35, [49] = P49, [56] = P56, [34] = P34, [52] = P52, [43] = P43, [97] = P97, [122] = P122, [1128] = P1128,
     [112] = P112, [7] = P7, [16] = P16, [45] = P45, [371] = P371, [372] = P372, [373] = P373, [58] = P58, [36] = P36,
     [123] = P123, [1409] = P1409, [98] = P98, [108] = P108, [1137] = P1137, [141] = P141, [11] = P11, [41] = P41,
     [54] = P54, [48] = P48, [22] = P22, [60] = P60, [453] = P453, [568] = P568, [569] = P569, [263] = P263,
-    [828] = P828, [580] = P580, [1041] = P1041, [448] = P448, [447] = P447, [452] = P452, [75] = P75,
+    [828] = P828, [580] = P580, [1041] = P1041, [448] = P448, [447] = P447, [452] = P452, [75] = P75, [571] = P571,
+    [32] = P32, [31] = P31, [64] = P64, [574] = P574, [552] = P552, [1427] = P1427,
 };
 
 struct group {
-    uint16_t messages, count_tag;
+    uint16_t count_tag;
     uint8_t first;                          /* its first member's place */
     uint64_t members;
     uint16_t required[4];                   /* tags, in group order, up to a 0 */
 };
 
-static const struct group PARTIES = { APPLICATION, 453, P448, BIT(P448) | BIT(P447) | BIT(P452), { 448, 447, 452 } };
-static const struct group SIDES = { TAD, 580, P75, BIT(P75) | BIT(P60), { 75 } };
+#define PARTY_MEMBERS (BIT(P448) | BIT(P447) | BIT(P452))
+#define DATE_MEMBERS (BIT(P75) | BIT(P60))
+#define SIDE_MEMBERS (BIT(P54) | BIT(P1427) | BIT(P453))
+
+static const struct group PARTIES = { 453, P448, PARTY_MEMBERS, { 448, 447, 452 } };
+static const struct group DATES = { 580, P75, DATE_MEMBERS, { 75 } };
+static const struct group SIDES = { 552, P54, SIDE_MEMBERS, { 54 } };
 
 struct message {
     uint16_t bit;
     uint64_t required;
-    uint16_t order[7];                      /* the required tags behind the header's, up to a 0 */
+    uint64_t members;                       /* places that are a group's in it */
+    uint16_t order[10];                     /* the required tags behind the header's, up to a 0 */
 };
 
 #define REQUIRED_HEADER (BIT(P35) | BIT(P49) | BIT(P56) | BIT(P34) | BIT(P52))
@@ -214,17 +223,19 @@ struct message {
 static const uint16_t HEADER_ORDER[] = { 35, 49, 56, 34, 52, 0 };
 
 static const struct message MESSAGES[] = {
-    { T0, REQUIRED_HEADER, { 0 } },
-    { T1, REQUIRED_HEADER | BIT(P112), { 112 } },
-    { T2, REQUIRED_HEADER | BIT(P7) | BIT(P16), { 7, 16 } },
-    { T3, REQUIRED_HEADER | BIT(P45), { 45 } },
-    { T4, REQUIRED_HEADER | BIT(P36), { 36 } },
-    { T5, REQUIRED_HEADER, { 0 } },
-    { TA, REQUIRED_HEADER | BIT(P98) | BIT(P108) | BIT(P1137), { 98, 108, 1137 } },
-    { TF, REQUIRED_HEADER | BIT(P11) | BIT(P41) | BIT(P54) | BIT(P48) | BIT(P22) | BIT(P60),
+    { T0, REQUIRED_HEADER, 0, { 0 } },
+    { T1, REQUIRED_HEADER | BIT(P112), 0, { 112 } },
+    { T2, REQUIRED_HEADER | BIT(P7) | BIT(P16), 0, { 7, 16 } },
+    { T3, REQUIRED_HEADER | BIT(P45), 0, { 45 } },
+    { T4, REQUIRED_HEADER | BIT(P36), 0, { 36 } },
+    { T5, REQUIRED_HEADER, 0, { 0 } },
+    { TA, REQUIRED_HEADER | BIT(P98) | BIT(P108) | BIT(P1137), 0, { 98, 108, 1137 } },
+    { TF, REQUIRED_HEADER | BIT(P11) | BIT(P41) | BIT(P54) | BIT(P48) | BIT(P22) | BIT(P60), PARTY_MEMBERS,
       { 11, 41, 54, 48, 22, 60 } },
-    { TAD, REQUIRED_HEADER | BIT(P568) | BIT(P569) | BIT(P22) | BIT(P48) | BIT(P580),
+    { TAD, REQUIRED_HEADER | BIT(P568) | BIT(P569) | BIT(P22) | BIT(P48) | BIT(P580), PARTY_MEMBERS | DATE_MEMBERS,
       { 568, 569, 22, 48, 580 } },
+    { TAE, REQUIRED_HEADER | BIT(P571) | BIT(P828) | BIT(P60) | BIT(P32) | BIT(P31) | BIT(P574) | BIT(P48) | BIT(P22)
+      | BIT(P552), PARTY_MEMBERS | SIDE_MEMBERS, { 571, 828, 60, 32, 31, 574, 48, 22, 552 } },
 };
 
 static const struct message *message_of(const uint8_t *type)
@@ -239,26 +250,12 @@ static const struct message *message_of(const uint8_t *type)
         default: return 0;
         }
     }
-    return type[0] == 'A' && type[1] == 'D' && type[2] == BAR ? &MESSAGES[8] : 0;
+    if (type[0] != 'A' || type[2] != BAR)
+        return 0;
+    return type[1] == 'D' ? &MESSAGES[8] : type[1] == 'E' ? &MESSAGES[9] : 0;
 }
 
 /* ---- Values: 0, or the reason 6 or 5 ----------------------------------------------------------------------------- */
-
-static int all_digits(const uint8_t *s, size_t n)
-{
-    unsigned bad = 0;
-    for (size_t i = 0; i < n; i++)
-        bad |= !is_digit(s[i]);
-    return !bad;
-}
-
-static uint32_t number(const uint8_t *s, size_t n)
-{
-    uint32_t value = 0;
-    for (size_t i = 0; i < n; i++)
-        value = 10 * value + (uint32_t)(s[i] - '0');
-    return value;
-}
 
 static uint32_t check_number(const struct entry *entry, const uint8_t *s, size_t n)
 {
@@ -268,7 +265,7 @@ static uint32_t check_number(const struct entry *entry, const uint8_t *s, size_t
     return value < entry->least || value > entry->greatest ? 5 : 0;
 }
 
-static uint32_t check_list(const struct entry *entry, const uint8_t *s, size_t n)
+static uint32_t check_list(const struct entry *entry, uint16_t message, const uint8_t *s, size_t n)
 {
     if (n > 2 || s[0] == 0)
         return 5;
@@ -276,46 +273,34 @@ static uint32_t check_list(const struct entry *entry, const uint8_t *s, size_t n
     for (size_t i = 0; i < 5; i++)
         if (entry->list[i] == value)
             return 0;
-    return 5;
+    return entry->in_report == value && message == TAE ? 0 : 5;
 }
 
-static uint32_t calendar(const uint8_t *s)
+/* Digits without leading zero but a lone 0, then a point only if digits follow. */
+static uint32_t check_decimal(const uint8_t *s, size_t n)
 {
-    static const uint8_t days[13] = { 0, 31, 29, 31, 30, 31, 30, 31, 31, 30, 31, 30, 31 };
-    uint32_t year = number(s, 4), month = number(s + 4, 2), day = number(s + 6, 2);
-    if (year == 0 || month == 0 || month > 12 || day == 0 || day > days[month])
-        return 5;
-    int leap = year % 4 == 0 && (year % 100 != 0 || year % 400 == 0);
-    return month == 2 && day == 29 && !leap ? 5 : 0;
+    size_t front = 0, places = 0;
+    while (front < n && is_digit(s[front]))
+        front++;
+    if (front == 0 || (s[0] == '0' && front > 1))
+        return 6;
+    if (front < n) {
+        places = n - front - 1;
+        if (s[front] != '.' || places == 0 || !all_digits(s + front + 1, places))
+            return 6;
+    }
+    return places > DECIMAL_PLACES || front + places > DECIMAL_DIGITS ? 5 : 0;
 }
 
-static uint32_t check_date(const uint8_t *s, size_t n)
-{
-    return n != 8 || !all_digits(s, 8) ? 6 : calendar(s);
-}
-
-static uint32_t check_time(const uint8_t *s, size_t n)
-{
-    if (n != 17 && n != 21 && n != 24)
-        return 6;
-    if (s[8] != '-' || s[11] != ':' || s[14] != ':' || !all_digits(s, 8) || !all_digits(s + 9, 2)
-        || !all_digits(s + 12, 2) || !all_digits(s + 15, 2))
-        return 6;
-    if (n > 17 && (s[17] != '.' || !all_digits(s + 18, n - 18)))
-        return 6;
-    if (number(s + 9, 2) > 23 || number(s + 12, 2) > 59 || number(s + 15, 2) > 60)
-        return 5;
-    return calendar(s);
-}
-
-static uint32_t check_value(const struct entry *entry, const uint8_t *s, size_t n)
+static uint32_t check_value(const struct entry *entry, uint16_t message, const uint8_t *s, size_t n)
 {
     switch (entry->kind) {
     case NUMBER: return check_number(entry, s, n);
-    case LIST: return check_list(entry, s, n);
+    case LIST: return check_list(entry, message, s, n);
     case YES_NO: return n == 1 && (s[0] == 'Y' || s[0] == 'N') ? 0 : 6;
     case TIME: return check_time(s, n);
     case DATE: return check_date(s, n);
+    case DECIMAL: return check_decimal(s, n);
     default: return n > entry->greatest ? 5 : 0;
     }
 }
@@ -327,13 +312,20 @@ struct field {
     const uint8_t *value, *end;
 };
 
+/* A group that is open, or none. */
+struct open {
+    const struct group *group;
+    uint64_t instance;                      /* places met in its last instance */
+    uint32_t count, instances;
+};
+
 struct walk {
     const struct message *message;
     uint64_t seen;                          /* marks of the places outside groups */
     uint64_t members;                       /* places that are a group's in this message */
-    const struct group *group;              /* the open one */
-    uint64_t instance;                      /* places met in its last instance */
-    uint32_t count, instances;
+    struct open in;                         /* the innermost group */
+    struct open around[2];                  /* what it stands in, from outside */
+    unsigned depth;
     int past_header;
 };
 
@@ -350,75 +342,79 @@ static uint32_t missing(const uint16_t *order, uint64_t seen)
     return 0;
 }
 
-static uint32_t missing_member(const struct walk *walk)
+static uint32_t missing_member(const struct open *in)
 {
-    return walk->instances ? missing(walk->group->required, walk->instance) : 0;
+    return in->instances ? missing(in->group->required, in->instance) : 0;
 }
 
 static uint32_t end_of_group(struct walk *walk)
 {
-    uint32_t found = missing_member(walk);
+    uint32_t found = missing_member(&walk->in);
     if (found)
         return found;
-    if (walk->instances != walk->count)
-        return finding(16, walk->group->count_tag);
-    walk->group = 0;
+    if (walk->in.instances != walk->in.count)
+        return finding(16, walk->in.group->count_tag);
+    walk->in = walk->around[--walk->depth];
     return 0;
 }
 
 static void open_group(struct walk *walk, const struct group *group, const struct field *field)
 {
-    walk->group = group;
-    walk->count = number(field->value, (size_t)(field->end - field->value));
-    walk->instances = 0;
-    walk->instance = 0;
+    walk->around[walk->depth++] = walk->in;
+    walk->in.group = group;
+    walk->in.count = number(field->value, (size_t)(field->end - field->value));
+    walk->in.instances = 0;
+    walk->in.instance = 0;
 }
 
-/* Step 1, for a field of this place; malformed and unknown ones have no place. */
+/* Step 1, for a field of this place; malformed and unknown ones have no place. One field may end several groups. */
 static uint32_t step_1(struct walk *walk, unsigned place)
 {
-    if (!walk->group)
-        return 0;
-    if (!(walk->group->members & BIT(place)))
-        return end_of_group(walk);
-    return place == walk->group->first ? missing_member(walk) : 0;
+    while (walk->in.group) {
+        if (walk->in.group->members & BIT(place))
+            return place == walk->in.group->first ? missing_member(&walk->in) : 0;
+        uint32_t found = end_of_group(walk);
+        if (found)
+            return found;
+    }
+    return 0;
 }
 
 /* Step 8, for a member of one of this message's groups. */
-static uint32_t step_8(struct walk *walk, unsigned place, uint32_t tag)
+static uint32_t step_8(const struct open *in, unsigned place, uint32_t tag)
 {
-    const struct group *group = walk->group;
-    if (!group || !(group->members & BIT(place)))
+    if (!in->group || !(in->group->members & BIT(place)))
         return finding(15, tag);
-    if (place == group->first)
+    if (place == in->group->first)
         return 0;
-    if (walk->instances == 0)
+    if (in->instances == 0)
         return finding(15, tag);
-    return walk->instance & BIT(place) ? finding(13, tag) : 0;
+    return in->instance & BIT(place) ? finding(13, tag) : 0;
 }
 
-static void take_member(struct walk *walk, unsigned place)
+static void take_member(struct open *in, unsigned place)
 {
-    if (place == walk->group->first) {
-        walk->instances++;
-        walk->instance = 0;
+    if (place == in->group->first) {
+        in->instances++;
+        in->instance = 0;
     }
-    walk->instance |= BIT(place);
+    in->instance |= BIT(place);
 }
 
 static void take(struct walk *walk, unsigned place, const struct field *field)
 {
-    if (walk->members & BIT(place)) {
-        take_member(walk, place);
-        return;
+    if (walk->members & BIT(place))
+        take_member(&walk->in, place);
+    else {
+        walk->seen |= BIT(place);
+        if (place >= HEADER_PLACES)
+            walk->past_header = 1;
     }
-    walk->seen |= BIT(place);
-    if (place >= HEADER_PLACES)
-        walk->past_header = 1;
-    if (place == P453)
-        open_group(walk, &PARTIES, field);
-    if (place == P580)
-        open_group(walk, &SIDES, field);
+    switch (place) {
+    case P453: open_group(walk, &PARTIES, field); break;
+    case P580: open_group(walk, &DATES, field); break;
+    case P552: open_group(walk, &SIDES, field); break;
+    }
 }
 
 /* Steps 2 to 5 where the tag has no place: malformed, unknown, or one of 8, 9 and 10. */
@@ -437,7 +433,7 @@ static uint32_t at_field(struct walk *walk, const struct field *field)
     uint32_t tag = field->tag;
     unsigned place = tag <= GREATEST_TAG ? PLACE_OF[tag] : NONE;
     uint32_t found = step_1(walk, place);
-    if (found)
+    if (__builtin_expect(found != 0, 0))                    /* else the compiler takes all that follows to be rare */
         return found;
     if (place == NONE)
         return without_place(walk, field);
@@ -450,11 +446,12 @@ static uint32_t at_field(struct walk *walk, const struct field *field)
     if (place < HEADER_PLACES && walk->past_header)
         return finding(14, tag);
     if (walk->members & BIT(place)) {
-        found = step_8(walk, place, tag);
+        found = step_8(&walk->in, place, tag);
         if (found)
             return found;
     }
-    uint32_t reason = check_value(&ENTRIES[place], field->value, (size_t)(field->end - field->value));
+    size_t size = (size_t)(field->end - field->value);
+    uint32_t reason = check_value(&ENTRIES[place], walk->message->bit, field->value, size);
     if (reason)
         return finding(reason, tag);
     take(walk, place, field);
@@ -463,7 +460,9 @@ static uint32_t at_field(struct walk *walk, const struct field *field)
 
 static uint32_t at_end(struct walk *walk)
 {
-    uint32_t found = walk->group ? end_of_group(walk) : 0;
+    uint32_t found = 0;
+    while (walk->in.group && !found)
+        found = end_of_group(walk);
     if (found || !(walk->message->required & ~walk->seen))
         return found;
     found = missing(HEADER_ORDER, walk->seen);
@@ -493,8 +492,7 @@ uint32_t plain_verdict(const uint8_t *body, size_t n)
     struct walk walk = { .message = message_of(body + 3) };
     if (!walk.message)
         return finding(11, 35);
-    walk.members = (walk.message->bit & PARTIES.messages ? PARTIES.members : 0)
-        | (walk.message->bit & SIDES.messages ? SIDES.members : 0);
+    walk.members = walk.message->members;
     const uint8_t *end = body + n;
     for (const uint8_t *p = body; p < end;) {
         struct field field = next_field(p, end);

@@ -1,4 +1,4 @@
-/* A plain C11 frame reader, verdict and session of document 01, the measure that the library's speed is held against.
+/* A plain C11 frame reader, verdict and session of documents 01 and 02, the measure that the library's speed is held to.
    The few declarations stand here because the compiler may come without the C library's headers. */
 #ifndef PLAIN_H
 #define PLAIN_H
@@ -37,5 +37,15 @@ struct plain_session {
 uint32_t plain_step(struct plain_session *session, const uint8_t *frame, size_t len, uint64_t time, uint8_t *buf,
                     size_t room, uint64_t out[2]);
 uint32_t plain_tick(struct plain_session *session, uint64_t time, uint8_t *buf, size_t room, uint64_t out[1]);
+
+enum { PLAIN_PARTIES = 8, PLAIN_WORDS = 82 };
+
+/* A report: 0 or a refusal; out is {report length}. The values lie as the library's: eleven of three words {given, a,
+   b}, the number of parties, and six words for each of eight parties, places in the text. */
+uint32_t plain_report(struct plain_session *session, const uint64_t values[PLAIN_WORDS], const uint8_t *text,
+                      size_t text_size, uint64_t time, uint8_t *buf, size_t room, uint64_t out[1]);
+
+/* The values of a report's body: 0 or refusal 10; out is {0, 0, 0} or {1, reason, tag}. */
+uint32_t plain_report_values(const uint8_t *body, size_t n, uint64_t values[PLAIN_WORDS], uint64_t out[3]);
 
 #endif

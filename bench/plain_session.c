@@ -1,23 +1,9 @@
-/* A plain C11 session of document 01, its step and its tick, over the reader and verdict of plain.c: the moves change
-   the record and write their replies straight away. It shares nothing with the library. */
-#include "plain.h"
-
-#define BAR 1
-#define MARK "8=FIXT.1.1\0019="
-#define MARK_SIZE (sizeof MARK - 1)
-#define MOST_DIGITS 9
-#define LAST_USABLE 999999990
-#define LEAST_ROOM 512
-#define TRAILER_SIZE 7
-#define END_OF_TIME 253402300800000000u
-
-enum { WAITING, ACTIVE, CLOSED };
-
-/* The refusals. */
-enum { IS_CLOSED = 2, NOT_A_LOGON, BAD_LOGON, USED_UP, NO_ROOM, PAST_TIME, NOT_A_FRAME = 10, BAD_RECORD };
+/* A plain C11 session of documents 01 and 02, its step and its tick, over the reader and verdict of plain.c: the moves
+   change the record and write their replies straight away. It shares nothing with the library. */
+#include "plain_inside.h"
 
 /* 373 of a Reject, and 1409 of a Logout. */
-enum { REQUIRED_MISSING = 1, BAD_VALUE = 5, BAD_COMP_ID = 9, OTHER = 99 };
+enum { REQUIRED_MISSING = 1, BAD_VALUE = 5, BAD_COMP_ID = 9, BAD_TYPE = 11, OTHER = 99 };
 enum { LOGOUT_COMPLETE = 4, ENDED_BY_GATEWAY = 101 };
 
 /* The value of a field; nowhere if the field is absent. */
@@ -34,120 +20,26 @@ struct call {
     const uint8_t *body, *end;
     struct value number, sender, target;    /* 34, 49 and 56 */
     uint64_t n;                             /* N, or 0 if it is unreadable */
-    uint8_t type;                           /* one of the nine, with D for AD, or 0 */
+    uint8_t type;                           /* one of the ten, with D for AD and E for AE, or 0 */
     int delivered;
 };
 
 /* ---- Writing ----------------------------------------------------------------------------------------------------- */
 
-/* A field is written with the `|` of the one before it; the last one's comes when the message goes out. */
-#define PUT(to, text) put(to, (const uint8_t *)(text), sizeof text - 1)
-
 #define BODY_ROOM 256                       /* the longest body is a Heartbeat's with 112, 145 bytes */
 
-static uint8_t *put(uint8_t *to, const uint8_t *s, size_t n)
-{
-    memcpy(to, s, n);
-    return to + n;
-}
-
-/* All eleven bytes at once; what is written next covers those behind the CompID. */
-static uint8_t *put_comp_id(uint8_t *to, const uint8_t id[PLAIN_COMP_ID], size_t size)
-{
-    memcpy(to, id, PLAIN_COMP_ID);
-    return to + size;
-}
-
-/* A number of at most nine digits. */
-static uint8_t *put_number(uint8_t *to, uint64_t number)
-{
-    uint32_t rest = (uint32_t)number;
-    size_t width = 1;
-    for (uint32_t n = rest; n >= 10; n /= 10)
-        width++;
-    for (size_t i = width; i-- > 0; rest /= 10)
-        to[i] = (uint8_t)('0' + rest % 10);
-    return to + width;
-}
-
-/* Two digits. */
-static uint8_t *put_pair(uint8_t *to, uint32_t number)
-{
-    static const char pairs[] = "0001020304050607080910111213141516171819202122232425262728293031323334353637383940"
-        "414243444546474849505152535455565758596061626364656667686970717273747576777879808182838485868788899091929394"
-        "9596979899";
-    return put(to, (const uint8_t *)pairs + 2 * number, 2);
-}
-
-/* YYYYMMDD of a day since 1970. Years are counted from 1 March, so that the leap day is a year's last. */
-static uint8_t *put_date(uint8_t *to, uint32_t day)
-{
-    uint32_t since = day + 719468, era = since / 146097, of_era = since % 146097;
-    uint32_t year_of_era = (of_era - of_era / 1460 + of_era / 36524 - of_era / 146096) / 365;
-    uint32_t of_year = of_era - (365 * year_of_era + year_of_era / 4 - year_of_era / 100);
-    uint32_t from_march = (5 * of_year + 2) / 153;
-    uint32_t month = from_march < 10 ? from_march + 3 : from_march - 9;
-    uint32_t year = 400 * era + year_of_era + (month < 3);
-    to = put_pair(to, year / 100);
-    to = put_pair(to, year % 100);
-    to = put_pair(to, month);
-    return put_pair(to, of_year - (153 * from_march + 2) / 5 + 1);
-}
-
-/* YYYYMMDD-HH:MM:SS.ssssss */
-static uint8_t *put_time(uint8_t *to, uint64_t time)
-{
-    uint64_t seconds = time / 1000000;
-    uint32_t micros = (uint32_t)(time % 1000000), of_day = (uint32_t)(seconds % 86400);
-    to = put_date(to, (uint32_t)(seconds / 86400));
-    *to++ = '-';
-    to = put_pair(to, of_day / 3600);
-    *to++ = ':';
-    to = put_pair(to, of_day / 60 % 60);
-    *to++ = ':';
-    to = put_pair(to, of_day % 60);
-    *to++ = '.';
-    to = put_pair(to, micros / 10000);
-    to = put_pair(to, micros / 100 % 100);
-    return put_pair(to, micros % 100);
-}
-
-/* 35, 49, 56 and 34. */
-static uint8_t *put_ids(uint8_t *to, const struct call *call, char type, uint64_t number)
-{
-    const struct plain_session *session = call->session;
-    to = PUT(to, "35=");
-    *to++ = (uint8_t)type;
-    to = PUT(to, "\00149=");
-    to = put_comp_id(to, session->ours, session->ours_size);
-    to = PUT(to, "\00156=");
-    to = put_comp_id(to, session->peer, session->peer_size);
-    to = PUT(to, "\00134=");
-    return put_number(to, number);
-}
-
-/* The same, with the next number, and 52. */
+/* 35, 49, 56, 34 with the next number, and 52. */
 static uint8_t *put_header(uint8_t *to, struct call *call, char type)
 {
-    to = put_ids(to, call, type, call->session->next_out++);
+    to = put_ids(to, call->session, type, call->session->next_out++);
     to = PUT(to, "\00152=");
     return put_time(to, call->time);
 }
 
-/* The frame around a body. */
 static void send_body(struct call *call, uint8_t *body, uint8_t *end)
 {
-    uint8_t *front = call->reply, *to = PUT(front, MARK);
     *end++ = BAR;
-    to = put_number(to, (uint64_t)(end - body));
-    *to++ = BAR;
-    to = put(to, body, (size_t)(end - body));
-    uint8_t sum = plain_sum(front, (size_t)(to - front));
-    to = PUT(to, "10=");
-    *to++ = (uint8_t)('0' + sum / 100);
-    to = put_pair(to, sum % 100);
-    *to++ = BAR;
-    call->reply = to;
+    call->reply = put_frame(call->reply, body, (size_t)(end - body));
     call->session->last_sent = call->time;
 }
 
@@ -173,7 +65,7 @@ static void send_resend_request(struct call *call)
 static uint8_t *put_type(uint8_t *to, uint8_t type)
 {
     to = PUT(to, "\001372=");
-    if (type == 'D')
+    if (type == 'D' || type == 'E')
         *to++ = 'A';
     *to++ = type;
     return to;
@@ -198,7 +90,7 @@ static void send_reject(struct call *call, uint32_t reason, uint32_t tag)
 /* A gap fill has the number of the first message that it stands for, not the next one. */
 static void send_gap_fill(struct call *call, uint64_t begin, uint64_t next)
 {
-    uint8_t body[BODY_ROOM], *to = put_ids(body, call, '4', begin);
+    uint8_t body[BODY_ROOM], *to = put_ids(body, call->session, '4', begin);
     to = PUT(to, "\00143=Y\00152=");
     to = put_time(to, call->time);
     to = PUT(to, "\001122=");
@@ -310,7 +202,7 @@ static uint8_t type_at(const uint8_t *type)
 {
     if (type[1] == BAR)
         return (type[0] >= '0' && type[0] <= '5') || type[0] == 'A' || type[0] == 'F' ? type[0] : 0;
-    return type[0] == 'A' && type[1] == 'D' && type[2] == BAR ? 'D' : 0;
+    return type[0] == 'A' && (type[1] == 'D' || type[1] == 'E') && type[2] == BAR ? type[1] : 0;
 }
 
 /* The CompID's tag that is missing or not as it should be, or 0. */
@@ -328,12 +220,6 @@ static uint32_t verdict(const struct call *call)
 }
 
 /* ---- Waiting ----------------------------------------------------------------------------------------------------- */
-
-static uint32_t closed(struct plain_session *session, uint32_t refusal)
-{
-    session->status = CLOSED;
-    return refusal;
-}
 
 static void accept_logon(struct call *call, int reset)
 {
@@ -453,8 +339,20 @@ static void resend(struct call *call)
         send_reject(call, BAD_VALUE, tag);
 }
 
+/* A report from a member, whatever its verdict. The Reject names no type. */
+static void reject_report(struct call *call)
+{
+    call->session->expected++;
+    call->type = 0;
+    send_reject(call, BAD_TYPE, 35);
+}
+
 static void in_turn(struct call *call)
 {
+    if (call->type == 'E') {
+        reject_report(call);
+        return;
+    }
     uint32_t found = verdict(call);
     call->session->expected++;
     if (found) {
@@ -493,33 +391,6 @@ static void active(struct call *call)
 }
 
 /* ---- The calls --------------------------------------------------------------------------------------------------- */
-
-static int is_comp_id(const uint8_t *id, uint64_t size)
-{
-    if (size < 1 || size > PLAIN_COMP_ID)
-        return 0;
-    for (size_t i = 0; i < size; i++)
-        if (id[i] == BAR)
-            return 0;
-    return 1;
-}
-
-static int is_numbered(uint64_t number)
-{
-    return number >= 1 && number <= 999999999;
-}
-
-static int in_range(const struct plain_session *session)
-{
-    return is_comp_id(session->ours, session->ours_size) && is_comp_id(session->peer, session->peer_size)
-        && session->status <= CLOSED && is_numbered(session->expected) && is_numbered(session->next_out)
-        && session->heartbeat >= 1 && session->heartbeat <= 60;
-}
-
-static int is_used_up(const struct plain_session *session)
-{
-    return session->expected > LAST_USABLE || session->next_out > LAST_USABLE;
-}
 
 static int is_one_frame(const uint8_t *frame, size_t len)
 {

@@ -1,0 +1,166 @@
+/* What plain_session.c and plain_report.c share, inline in both: the refusals, the record's ranges, and how a message is
+   put. */
+#ifndef PLAIN_INSIDE_H
+#define PLAIN_INSIDE_H
+
+#include "plain.h"
+
+#define BAR 1
+#define MARK "8=FIXT.1.1\0019="
+#define MARK_SIZE (sizeof MARK - 1)
+#define MOST_DIGITS 9
+#define LAST_USABLE 999999990
+#define LEAST_ROOM 512
+#define TRAILER_SIZE 7
+#define END_OF_TIME 253402300800000000u
+
+enum { WAITING, ACTIVE, CLOSED };
+
+/* The refusals. */
+enum {
+    IS_CLOSED = 2, NOT_A_LOGON, BAD_LOGON, USED_UP, NO_ROOM, PAST_TIME, BAD_VALUES, SHORT_BUFFER, NOT_A_FRAME,
+    BAD_RECORD, LONG_REPORT
+};
+
+/* ---- The record -------------------------------------------------------------------------------------------------- */
+
+static inline uint32_t closed(struct plain_session *session, uint32_t refusal)
+{
+    session->status = CLOSED;
+    return refusal;
+}
+
+static inline int is_comp_id(const uint8_t *id, uint64_t size)
+{
+    if (size < 1 || size > PLAIN_COMP_ID)
+        return 0;
+    for (size_t i = 0; i < size; i++)
+        if (id[i] == BAR)
+            return 0;
+    return 1;
+}
+
+static inline int is_numbered(uint64_t number)
+{
+    return number >= 1 && number <= 999999999;
+}
+
+static inline int in_range(const struct plain_session *session)
+{
+    return is_comp_id(session->ours, session->ours_size) && is_comp_id(session->peer, session->peer_size)
+        && session->status <= CLOSED && is_numbered(session->expected) && is_numbered(session->next_out)
+        && session->heartbeat >= 1 && session->heartbeat <= 60;
+}
+
+static inline int is_used_up(const struct plain_session *session)
+{
+    return session->expected > LAST_USABLE || session->next_out > LAST_USABLE;
+}
+
+/* ---- Writing ----------------------------------------------------------------------------------------------------- */
+
+/* A field is written with the `|` of the one before it; the last one's comes when the message goes out. */
+#define PUT(to, text) put(to, (const uint8_t *)(text), sizeof text - 1)
+
+static inline uint8_t *put(uint8_t *to, const uint8_t *s, size_t n)
+{
+    memcpy(to, s, n);
+    return to + n;
+}
+
+/* All eleven bytes at once; what is written next covers those behind the CompID. */
+static inline uint8_t *put_comp_id(uint8_t *to, const uint8_t id[PLAIN_COMP_ID], size_t size)
+{
+    memcpy(to, id, PLAIN_COMP_ID);
+    return to + size;
+}
+
+/* A number of at most nine digits. */
+static inline uint8_t *put_number(uint8_t *to, uint64_t number)
+{
+    uint32_t rest = (uint32_t)number;
+    size_t width = 1;
+    for (uint32_t n = rest; n >= 10; n /= 10)
+        width++;
+    for (size_t i = width; i-- > 0; rest /= 10)
+        to[i] = (uint8_t)('0' + rest % 10);
+    return to + width;
+}
+
+/* Two digits. */
+static inline uint8_t *put_pair(uint8_t *to, uint32_t number)
+{
+    static const char pairs[] = "0001020304050607080910111213141516171819202122232425262728293031323334353637383940"
+        "414243444546474849505152535455565758596061626364656667686970717273747576777879808182838485868788899091929394"
+        "9596979899";
+    return put(to, (const uint8_t *)pairs + 2 * number, 2);
+}
+
+/* YYYYMMDD of a day since 1970. Years are counted from 1 March, so that the leap day is a year's last. */
+static inline uint8_t *put_date(uint8_t *to, uint32_t day)
+{
+    uint32_t since = day + 719468, era = since / 146097, of_era = since % 146097;
+    uint32_t year_of_era = (of_era - of_era / 1460 + of_era / 36524 - of_era / 146096) / 365;
+    uint32_t of_year = of_era - (365 * year_of_era + year_of_era / 4 - year_of_era / 100);
+    uint32_t from_march = (5 * of_year + 2) / 153;
+    uint32_t month = from_march < 10 ? from_march + 3 : from_march - 9;
+    uint32_t year = 400 * era + year_of_era + (month < 3);
+    to = put_pair(to, year / 100);
+    to = put_pair(to, year % 100);
+    to = put_pair(to, month);
+    return put_pair(to, of_year - (153 * from_march + 2) / 5 + 1);
+}
+
+/* YYYYMMDD-HH:MM:SS.ssssss */
+static inline uint8_t *put_time(uint8_t *to, uint64_t time)
+{
+    uint64_t seconds = time / 1000000;
+    uint32_t micros = (uint32_t)(time % 1000000), of_day = (uint32_t)(seconds % 86400);
+    to = put_date(to, (uint32_t)(seconds / 86400));
+    *to++ = '-';
+    to = put_pair(to, of_day / 3600);
+    *to++ = ':';
+    to = put_pair(to, of_day / 60 % 60);
+    *to++ = ':';
+    to = put_pair(to, of_day % 60);
+    *to++ = '.';
+    to = put_pair(to, micros / 10000);
+    to = put_pair(to, micros / 100 % 100);
+    return put_pair(to, micros % 100);
+}
+
+/* 49, 56 and 34. */
+static inline uint8_t *put_comp_ids(uint8_t *to, const struct plain_session *session, uint64_t number)
+{
+    to = PUT(to, "\00149=");
+    to = put_comp_id(to, session->ours, session->ours_size);
+    to = PUT(to, "\00156=");
+    to = put_comp_id(to, session->peer, session->peer_size);
+    to = PUT(to, "\00134=");
+    return put_number(to, number);
+}
+
+/* 35, 49, 56 and 34. */
+static inline uint8_t *put_ids(uint8_t *to, const struct plain_session *session, char type, uint64_t number)
+{
+    to = PUT(to, "35=");
+    *to++ = (uint8_t)type;
+    return put_comp_ids(to, session, number);
+}
+
+/* The frame around a body, which ends with `|`; where it ends. */
+static inline uint8_t *put_frame(uint8_t *front, const uint8_t *body, size_t size)
+{
+    uint8_t *to = PUT(front, MARK);
+    to = put_number(to, size);
+    *to++ = BAR;
+    to = put(to, body, size);
+    uint8_t sum = plain_sum(front, (size_t)(to - front));
+    to = PUT(to, "10=");
+    *to++ = (uint8_t)('0' + sum / 100);
+    to = put_pair(to, sum % 100);
+    *to++ = BAR;
+    return to;
+}
+
+#endif

@@ -1,0 +1,57 @@
+/* Forms of values that plain.c and plain_report.c share, inline in both: 0, or the reason 6 or 5. */
+#ifndef PLAIN_VALUES_H
+#define PLAIN_VALUES_H
+
+#include "plain.h"
+
+static inline int is_digit(uint8_t byte)
+{
+    return (uint8_t)(byte - '0') <= 9;
+}
+
+static inline int all_digits(const uint8_t *s, size_t n)
+{
+    unsigned bad = 0;
+    for (size_t i = 0; i < n; i++)
+        bad |= !is_digit(s[i]);
+    return !bad;
+}
+
+static inline uint32_t number(const uint8_t *s, size_t n)
+{
+    uint32_t value = 0;
+    for (size_t i = 0; i < n; i++)
+        value = 10 * value + (uint32_t)(s[i] - '0');
+    return value;
+}
+
+static inline uint32_t calendar(const uint8_t *s)
+{
+    static const uint8_t days[13] = { 0, 31, 29, 31, 30, 31, 30, 31, 31, 30, 31, 30, 31 };
+    uint32_t year = number(s, 4), month = number(s + 4, 2), day = number(s + 6, 2);
+    if (year == 0 || month == 0 || month > 12 || day == 0 || day > days[month])
+        return 5;
+    int leap = year % 4 == 0 && (year % 100 != 0 || year % 400 == 0);
+    return month == 2 && day == 29 && !leap ? 5 : 0;
+}
+
+static inline uint32_t check_date(const uint8_t *s, size_t n)
+{
+    return n != 8 || !all_digits(s, 8) ? 6 : calendar(s);
+}
+
+static inline uint32_t check_time(const uint8_t *s, size_t n)
+{
+    if (n != 17 && n != 21 && n != 24)
+        return 6;
+    if (s[8] != '-' || s[11] != ':' || s[14] != ':' || !all_digits(s, 8) || !all_digits(s + 9, 2)
+        || !all_digits(s + 12, 2) || !all_digits(s + 15, 2))
+        return 6;
+    if (n > 17 && (s[17] != '.' || !all_digits(s + 18, n - 18)))
+        return 6;
+    if (number(s + 9, 2) > 23 || number(s + 12, 2) > 59 || number(s + 15, 2) > 60)
+        return 5;
+    return calendar(s);
+}
+
+#endif
