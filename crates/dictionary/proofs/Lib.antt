@@ -5,6 +5,8 @@ pub mod Saying
 pub mod Opening
 pub mod Walking
 pub mod Turns
+pub mod Nesting
+pub mod TopWalk
 pub mod Types
 pub mod Clean
 pub mod Promise

@@ -3,7 +3,7 @@ use Prim.Native.Nat.{ℕ}
 use native.Mathlib.Omega.{arith}
 use borrow.Author.Tests.{eqb-true, not-true}
 use mathlib.Core.Path.{_≡_, refl, ap, sym, _∙_, subst}
-use mathlib.Core.List.{List, [], _∷_, _++_}
+use mathlib.Core.List.{List, [], _∷_, _++_, append-assoc}
 use mathlib.Core.Bool.{Bool, true, false, cond, not, _||_, false≢true}
 use mathlib.Core.Logic.{inl, inr}
 use lib.Dec.{eqb}
@@ -16,6 +16,7 @@ use Rattle.table.specs.Dictionary.{Row, Group, №453, №580, №552, groups, 
 use Rattle.dictionary.specs.Verdict.{Open, _when_, opened, rule9}
 use Rattle.table.specs.code.Held.{bitOf, isNumeric, kindFor, Three, Right}
 use Rattle.dictionary.specs.code.Held.{Flat, away, within, Over, Counted, Noted, outsideOf}
+use Rattle.dictionary.specs.code.Nested.{Opened}
 use Rattle.table.specs.declared.MsgType.{MsgType}
 use Rattle.dictionary.specs.declared.Says.the-variants.{Nothing, Reason}
 use Rattle.dictionary.specs.declared.groups.State.{State}
@@ -155,3 +156,25 @@ module _ {e : Entry} {st : State} {v : Bytes} {over b : Bool} (R : Right e) (O :
 
   pub noted-other : {r : State} → b ≡ false → r ≡ outsideOf over → Noted st (e .tag) v r
   noted-other {r} q h = subst (Noted st (e .tag) v) (sym h) (record { over = O; none = refl; opens = λ m met l s. rw (opens-none m (e .tag) v (sym (R .counts) ∙ sym p ∙ q)) (away refl) })
+
+-- THE GROUP THAT A COUNT OPENS, outside groups or in one
+own-row : (m : MsgType) (t : ℕ) → listed header t ≡ false → listed (rowsOf m) t ≡ true → listed (fields m ++ allMembers (groupsOf m)) t ≡ true
+unfolding rowsOf
+own-row m t n h = rw (append-assoc header (fields m) (allMembers (groupsOf m)), any-append (λ (r : Row). eqb (r .tag) t) header (fields m ++ allMembers (groupsOf m)), n) at h
+
+module _ {e : Entry} {v : Bytes} {over b : Bool} (R : Right e) (p : b ≡ bitOf (e .marks) 30) where
+  pub opened-count : {n : ℕ} → b ≡ true → Counted v n → Opened over (e .tag) v (record { over = over; group = e .tag; count = n; begun = 0 })
+  unfolding newly
+  opened-count {n} q C = record {
+    same = refl;
+    none = refl;
+    opens = λ m met l s.
+        let w = opens-three (e .tag) v (sym (R .counts) ∙ sym p ∙ q) in
+        let f = own-row m (e .tag) (ap (listed header) (w .1 .1) ∙ no-header (w .0) (w .1 .0)) l in
+        let i : isNumber v ≡ true = sym (numeric (meaning (kindFor m (e .kind))) v (R .counts-number m (sym p ∙ q))) ∙ ap (λ (x : Kind). formed x v) (R .kind-in m l) ∙ rule9-silent m (e .tag) v s in
+        rw (opens-here m (e .tag) v f, w .1 .2)
+        (within (record { three = w .1 .0; counter = w .1 .1; count = C .is i; begun = refl; last = λ z. absurd (false≢true (sym z)) }));
+  }
+
+  pub opened-other : {r : State} → b ≡ false → r ≡ outsideOf over → Opened over (e .tag) v r
+  opened-other {r} q h = subst (Opened over (e .tag) v) (sym h) (record { same = refl; none = refl; opens = λ m met l s. rw (opens-none m (e .tag) v (sym (R .counts) ∙ sym p ∙ q)) (away refl) })

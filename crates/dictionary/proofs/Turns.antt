@@ -62,11 +62,11 @@ skips m {w} t v S u q e =
     rw (unknown-skipped m w t v (unknown-tag t u) (sym q), unknown-left t u (w .inside) v (S .stood), e)
     (record { marked = S .marked; over = S .over; stood = away refl })
 
-after-taken : (m : MsgType) (w : Past) (t : ℕ) (v : Bytes) (gs : List Open) → inDictionary t ≡ true → left (w .inside) (field t v) ≡ gs → after m w (field t v) ≡ taken m (w .seen) gs t v
+pub after-taken : (m : MsgType) (w : Past) (t : ℕ) (v : Bytes) (gs : List Open) → inDictionary t ≡ true → left (w .inside) (field t v) ≡ gs → after m w (field t v) ≡ taken m (w .seen) gs t v
 unfolding after
 after-taken m w t v gs k l = rw (known-not-skipped m t k, l)
 
-taken-outside : (m : MsgType) (seen : List ℕ) (t : ℕ) (v : Bytes) → taken m seen [] t v ≡ record { seen = t ∷ seen; inside = opened (groupsOf m) t v }
+pub taken-outside : (m : MsgType) (seen : List ℕ) (t : ℕ) (v : Bytes) → taken m seen [] t v ≡ record { seen = t ∷ seen; inside = opened (groupsOf m) t v }
 unfolding taken
 taken-outside m seen t v = refl
 

@@ -127,14 +127,14 @@ begins m body e = subst (λ (x : State). At m body (replicate 128 false) (replic
 })
 
 -- a part that is found fault with, and one that is not
-walk-on : (m : MsgType) (w : Past) (body part : Bytes) (says : Part) (at next : ℕ) → Step body at part says next
+pub walk-on : (m : MsgType) (w : Past) (body part : Bytes) (says : Part) (at next : ℕ) → Step body at part says next
     → walk m w (parts (drop at body)) ≡ verdictBy (said m w says) (walk m (after m w says) (parts (drop next body)))
 walk-on m w body part says at next S = ap (walk m w) (S .row) ∙ rw (S .part-is)
 
 by-reason : (s : Says) (a t : ℕ) (x y : Verdict) → s ≡ Reason a t → verdictBy s x ≡ verdictBy s y
 by-reason s a t x y e = rw e
 
-malformed-speaks : (m : MsgType) (w : Past) (x y : Verdict) → verdictBy (said m w malformed) x ≡ verdictBy (said m w malformed) y
+pub malformed-speaks : (m : MsgType) (w : Past) (x y : Verdict) → verdictBy (said m w malformed) x ≡ verdictBy (said m w malformed) y
 unfolding said rule2
 malformed-speaks m w x y = go (rule1 (w .inside) malformed)
   where

@@ -87,7 +87,7 @@ pub fn rule_1(st: State, met: &[bool; 128], group: u32, first: bool) -> Says
 }
 
 // The number that the value of a count field writes.
-fn count_of(v: &[u8]) -> u32
+pub fn count_of(v: &[u8]) -> u32
     ensures { λ r. ⌜ Counted (now (v .entry)) r ⌝ }
 {
     match kinds::read_number(v) {
@@ -97,7 +97,7 @@ fn count_of(v: &[u8]) -> u32
 }
 
 // A tag outside the header was met, this one included.
-fn over_with(over: bool, e: Entry) -> bool
+pub fn over_with(over: bool, e: Entry) -> bool
     requires { ⌜ Right e ⌝ }
     ensures { λ r. ⌜ Over over (e .tag) r ⌝ }
 {
@@ -125,7 +125,7 @@ fn noted(st: State, e: Entry, v: &[u8]) -> State
 }
 
 // The state behind a first member, which begins an instance.
-fn begun(st: State) -> State
+pub fn begun(st: State) -> State
     requires { ⌜ st .begun < 4096 ⌝ }
     ensures { λ r. ⌜ r ≡ begunOf st ⌝ }
 {

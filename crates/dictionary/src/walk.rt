@@ -34,7 +34,7 @@ ghost use Rattle.dictionary.specs.Verdict.{verdictBy, walk, nothingYet, 
 ghost use Rattle.dictionary.specs.code.Held.{isReport, Finished, Ended};
 
 // The verdict by what was said, where nothing more is to come.
-fn finding(said: Says) -> Verdict
+pub fn finding(said: Says) -> Verdict
     ensures { λ r. ⌜ r ≡ verdictBy said Verdict.Clean ⌝ }
 {
     match said {
@@ -44,7 +44,7 @@ fn finding(said: Says) -> Verdict
 }
 
 // At the end of the body: rule 1, then the first missing required tag, header first.
-fn finish(m: MsgType, st: State, seen: &[bool; 128], met: &[bool; 128]) -> Verdict
+pub fn finish(m: MsgType, st: State, seen: &[bool; 128], met: &[bool; 128]) -> Verdict
     ensures { λ r. ⌜ Finished m (now (seen .entry)) (now (met .entry)) st r ⌝ }
 {
     let end = closing(st, met);
