@@ -7,6 +7,7 @@ pub mod Walking
 pub mod Turns
 pub mod Nesting
 pub mod TopWalk
+pub mod Reports
 pub mod Types
 pub mod Clean
 pub mod Promise

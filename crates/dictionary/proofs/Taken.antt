@@ -77,7 +77,7 @@ walk-over m seen f = rw (none-missing (header ++ fields m) f)
         go true e false k h = absurd (false≢true (sym k ∙ f (r .tag) (or-first _ _ _ (eq-eqb (r .tag) (r .tag) refl) e)))
         go false e c k h = h
 
--- THE VERDICT on a body of one of the nine types is the walk along its parts
+-- THE VERDICT on a body of one of the ten types is the walk along its parts
 pub verdict-walks : (m : MsgType) (body : Bytes) → isBody body ≡ true → msgType body ≡ some m → verdict body ≡ walk m nothingYet (parts body)
 unfolding verdict
 verdict-walks m body b y = rw (b, y)

@@ -1,4 +1,4 @@
--- What is promised of the verdict, in document 01's words. Proved once, in proofs/Promise.antt.
+-- What is promised of the verdict, in the documents' words. Proved once, in proofs/Promise.antt.
 use Prim.Native.Nat.{ℕ, _≤_}
 use mathlib.Core.Path.{_≡_}
 use mathlib.Core.List.{List, [], _∷_, _++_}
@@ -24,8 +24,8 @@ pub record OfKind (m : MsgType) (t : ℕ) (v : Bytes) : Type 0 where
 abbrev pub required : List Row → ℕ → Bool
 required rows t = any (λ (r : Row). eqb (r .tag) t && r .required) rows
 
--- A field that no rule spoke of. "tag not in the dictionary: skipped in an administrative message, 3 in AD and F"; "not for this message: 2";
--- "empty value: 4"; and of its kind.
+-- A field that no rule spoke of. "tag not in the dictionary: skipped in an administrative message, 3 in AD and F", and in AE, "walked as AD and F
+-- are"; "not for this message: 2"; "empty value: 4"; and of its kind.
 pub record Passed (m : MsgType) (t : ℕ) (v : Bytes) : Type 0 where
   pub skipped : inDictionary t ≡ false → administrative m ≡ true
   pub own : inDictionary t ≡ true → listed (rowsOf m) t ≡ true
@@ -43,7 +43,7 @@ AllPassed m (p ∷ ps) = PassedPart m (partOf p) × AllPassed m ps
 
 -- what a clean verdict says of a body
 pub record CleanBody (body : Bytes) : Type 0 where
-  -- "MsgType outside the nine: reason 11": it is one of the nine
+  -- "MsgType outside the nine: reason 11": it is one of them or AE, document 02's "tenth type"
   pub type : MsgType
   pub named : msgType body ≡ some type
   -- every part is a field that passed
