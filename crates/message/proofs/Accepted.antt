@@ -14,11 +14,13 @@ use Rattle.bytes.proofs.Numerals.{within-is, numeral-true, numeral-means}
 use Rattle.bytes.proofs.Decimals.{decimal-numeral, decimal-worth}
 use Rattle.dates.specs.Date.{like, shapes}
 use Rattle.kinds.specs.Kind.{Kind, text, number_to_, Y/N, time, day, among, formed, allowed, isNumber}
+use Rattle.kinds.specs.Kind as Kinds
 use Rattle.kinds.proofs.Values.{same-true}
 use Rattle.table.specs.declared.MsgType.{MsgType}
 use Rattle.table.specs.Dictionary.{rowsOf, listed, kindIn}
 use Rattle.message.specs.Unfit.{rejected}
 use Rattle.message.specs.code.Writable.{longest, most}
+use Rattle.message.proofs.Pointed.{decimal-length}
 
 pub record Accepted (m : MsgType) (t : ℕ) (v : Bytes) : Type 0 where
   pub own : listed (rowsOf m) t ≡ true
@@ -77,6 +79,7 @@ kind-length (number x to y) v f a = number-length v f
 kind-length Y/N v f a = flag-length v (same v (fix "Y")) (same v (fix "N")) refl refl f
 kind-length time v f a = any-length (λ s. like s v) (length v) shapes (λ w. like-length w v) f
 kind-length day v f a = omega (arith, like-length (fix "YYYYMMDD") v f)
+kind-length Kinds.decimal v f a = decimal-length v f a
 kind-length (among l) v f a = any-length (λ w. same v w) (length v) l (λ w e. ap length (same-true v w e)) a
 
 -- A NUMBER of a kind from a to b, written in digits, is accepted if it lies between

@@ -4,6 +4,7 @@ pub mod Rows
 pub mod Frames
 pub mod Wholes
 pub mod Joined
+pub mod Pointed
 pub mod Accepted
 pub mod Seven
 pub mod Clean

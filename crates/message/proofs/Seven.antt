@@ -5,13 +5,13 @@ use mathlib.Core.List.{List, [], _∷_, _++_}
 use mathlib.Core.Bool.{Bool, true, false, cond, not, _&&_, _||_, false≢true}
 use mathlib.Core.Option.{some}
 use Rattle.table.specs.declared.MsgType.{MsgType}
-use Rattle.table.specs.declared.MsgType.the-variants.{Heartbeat, TestRequest, ResendRequest, Reject, SequenceReset, Logout, Logon, OrderCancelRequest, TradeCaptureReportRequest}
+use Rattle.table.specs.declared.MsgType.the-variants.{Heartbeat, TestRequest, ResendRequest, Reject, SequenceReset, Logout, Logon, OrderCancelRequest, TradeCaptureReportRequest, TradeCaptureReport}
 use lib.Dec.{eqb}
 use lib.ListN.{length}
 use native.Mathlib.Omega.{arith}
 use borrow.Author.Tests.{eqb-true, not-true}
 use Rattle.bytes.specs.Bytes.{Bytes, any, all, has, within, decimal}
-use Rattle.table.specs.Dictionary.{header, fields, №453, №580, code35, typeOf, administrative, listed, groupsOf, member, rowsOf, frameTag, inDictionary}
+use Rattle.table.specs.Dictionary.{header, fields, №453, №580, №552, code35, typeOf, administrative, listed, groupsOf, member, rowsOf, frameTag, inDictionary}
 use Rattle.bytes.proofs.Tests.{both, neither}
 use Rattle.dictionary.specs.Verdict.{msgType}
 use Rattle.fields.specs.Field.{firstField}
@@ -40,6 +40,7 @@ each P E Logout a = E .logout
 each P E Logon a = E .logon
 each P E OrderCancelRequest a = absurd (false≢true a)
 each P E TradeCaptureReportRequest a = absurd (false≢true a)
+each P E TradeCaptureReport a = absurd (false≢true a)
 
 -- THE TAGS OF A MESSAGE, in order: each is in the dictionary and listed for the message, no member of a group; none comes twice, and no header
 -- tag behind another
@@ -60,7 +61,7 @@ unfoldable pub wellListed : MsgType → Bool
 wellListed m = eqb (length (groupsOf m)) 0 && (inOrder m [] (35 ∷ order m) && (needed m && not (has (order m) 9 || has (order m) 35)))
 
 well-listed : (m : MsgType) → administrative m ≡ true → wellListed m ≡ true
-unfolding wellListed needed inOrder order own code35 header fields №453 №580 groupsOf member rowsOf inDictionary
+unfolding wellListed needed inOrder order own code35 header fields №453 №580 №552 groupsOf member rowsOf inDictionary
 well-listed = each (λ m. wellListed m ≡ true) (record { heartbeat = refl; test-request = refl; resend-request = refl; reject = refl; sequence-reset = refl; logout = refl; logon = refl })
 
 -- what the walk has to know of a message
@@ -96,7 +97,7 @@ message-is vs =
     (record { heartbeat = refl; test-request = refl; resend-request = refl; reject = refl; sequence-reset = refl; logout = refl; logon = refl })
 
 pub type-fits : (m : MsgType) → administrative m ≡ true → rejected m 35 (code35 m) ≡ false
-unfolding rejected rowsOf header fields groupsOf №453 №580 code35 formed allowed kindOf
+unfolding rejected rowsOf header fields groupsOf №453 №580 №552 code35 formed allowed kindOf
 type-fits =
     each (λ m. rejected m 35 (code35 m) ≡ false)
     (record { heartbeat = refl; test-request = refl; resend-request = refl; reject = refl; sequence-reset = refl; logout = refl; logon = refl })

@@ -12,7 +12,7 @@ use Rattle.bytes.specs.Bytes.{Bytes, fix, any, all, has, decimal}
 use Rattle.bytes.proofs.Tests.{both, neither, or-last}
 use Rattle.kinds.specs.Kind.{kindOf}
 use Rattle.table.specs.declared.MsgType.{MsgType}
-use Rattle.table.specs.Dictionary.{№453, №580, header, fields, code35, administrative, groupsOf, rowsOf, listed, kindIn}
+use Rattle.table.specs.Dictionary.{№453, №580, №552, header, fields, code35, administrative, groupsOf, rowsOf, listed, kindIn}
 use Rattle.message.specs.Message.{Value, _is_, shown, tagged, row, valued, own, order, message}
 use Rattle.message.specs.Unfit.{unwritable, unfit}
 use Rattle.message.specs.code.Writable.{most}
@@ -67,7 +67,7 @@ row-short m vs (t ∷ ts) f =
     omega (arith, length-append (tagged t (shown (vs t))) (row (valued vs ts)), field-short m t (shown (vs t)) (fine-first m vs t ts f), row-short m vs ts (fine-later m vs t ts f))
 
 widths-short : (m : MsgType) → administrative m ≡ true → leb (widths m (order m)) 485 ≡ true
-unfolding width widths order own code35 rowsOf header fields groupsOf №453 №580 kindOf decimal
+unfolding width widths order own code35 rowsOf header fields groupsOf №453 №580 №552 kindOf decimal
 widths-short =
     each (λ m. leb (widths m (order m)) 485 ≡ true)
     (record { heartbeat = refl; test-request = refl; resend-request = refl; reject = refl; sequence-reset = refl; logout = refl; logon = refl })

@@ -6,7 +6,7 @@ use lib.Dec.{eqb}
 use lib.ListN.{length}
 use Rattle.bytes.specs.Bytes.{Bytes, has}
 use Rattle.dates.specs.Date.{shapes}
-use Rattle.kinds.specs.Kind.{Kind, text, number_to_, Y/N, time, day, among, formed, allowed}
+use Rattle.kinds.specs.Kind.{Kind, text, number_to_, Y/N, time, day, decimal, among, formed, allowed}
 
 abbrev pub longest : List Bytes → ℕ
 longest [] = 0
@@ -18,6 +18,7 @@ most (number a to b) = 9
 most Y/N = 1
 most time = longest shapes
 most day = 8
+most decimal = 16
 most (among l) = longest l
 
 -- the bytes of a value of a kind are not to be written: rejected, but for the message
