@@ -15,7 +15,7 @@ use Rattle.kinds.specs.Kind.{Kind, kindOf}
 use Rattle.kinds.specs.Judged.{meaning}
 use Rattle.kinds.specs.declared.Kind.the-variants.{Text}
 use Rattle.table.specs.declared.MsgType.{MsgType}
-use Rattle.table.specs.Dictionary.{№453, №580, header, fields, code35, groupsOf, rowsOf, listed, kindIn, administrative}
+use Rattle.table.specs.Dictionary.{№453, №580, №552, header, fields, code35, groupsOf, rowsOf, listed, kindIn, administrative}
 use Rattle.table.specs.code.Held.{agree}
 use Rattle.table.proofs.Lists.{agree-true}
 use Rattle.message.specs.Message.{Value, absent, number, bytes, Field, _is_, own, order, field, row, valued}
@@ -81,7 +81,7 @@ sound-at k h =
 
 -- a tag has the same kind in every message
 kinds-same : (m : MsgType) → administrative m ≡ true → map (kindIn sevenRows) (order m) ≡ map (kindIn (rowsOf m)) (order m)
-unfolding order own code35 sevenRows rowsOf header fields №453 №580 groupsOf kindOf
+unfolding order own code35 sevenRows rowsOf header fields №453 №580 №552 groupsOf kindOf
 kinds-same =
     each (λ m. map (kindIn sevenRows) (order m) ≡ map (kindIn (rowsOf m)) (order m))
     (record { heartbeat = refl; test-request = refl; resend-request = refl; reject = refl; sequence-reset = refl; logout = refl; logon = refl })

@@ -11,6 +11,7 @@ use Rattle.bytes.proofs.Tests.{neither}
 use Rattle.bytes.proofs.Numerals.{numeral-means, value-below}
 use Rattle.bytes.proofs.Decimals.{decimal-worth}
 use Rattle.kinds.specs.Kind.{Kind, text, number_to_, Y/N, time, day, among, isNumber, formed, allowed}
+use Rattle.kinds.specs.Kind as Kinds
 use Rattle.kinds.proofs.Values.{same-true}
 use Rattle.table.specs.declared.MsgType.{MsgType}
 use Rattle.table.specs.Dictionary.{rowsOf, listed, kindIn}
@@ -49,6 +50,7 @@ unwritten-large (number a to b) n i h = rw (large-number n h) (go (eqb (length (
 unwritten-large Y/N n i h = absurd (false≢true i)
 unwritten-large time n i h = absurd (false≢true i)
 unwritten-large day n i h = absurd (false≢true i)
+unwritten-large Kinds.decimal n i h = absurd (false≢true i)
 unwritten-large (among l) n i h = absurd (false≢true i)
 
 -- IN A MESSAGE that has the tag

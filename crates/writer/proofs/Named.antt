@@ -12,8 +12,8 @@ use Rattle.bytes.specs.Bytes.{Bytes, fix, same}
 use Rattle.bytes.proofs.Tests.{both, allBelow, at-below}
 use Rattle.kinds.proofs.Values.{same-long}
 use Rattle.table.specs.declared.MsgType.{MsgType}
-use Rattle.table.specs.declared.MsgType.the-variants.{OrderCancelRequest, TradeCaptureReportRequest}
-use Rattle.table.specs.Dictionary.{code35, walked, typeAmong, typeOf, rowsOf, listed, administrative}
+use Rattle.table.specs.declared.MsgType.the-variants.{OrderCancelRequest, TradeCaptureReportRequest, TradeCaptureReport}
+use Rattle.table.specs.Dictionary.{code35, theTen, typeAmong, typeOf, rowsOf, listed, administrative}
 use Rattle.table.specs.code.Held.{agree}
 use Rattle.table.proofs.Lists.{agree-true}
 use Rattle.dictionary.proofs.Types.{one-byte, type-coded}
@@ -26,9 +26,9 @@ use Rattle.writer.specs.code.Held.{typeIn, bitOf, tagAt, Marked}
 
 -- THE TYPE
 -- one of the others is none of the seven
-application : (b : Bool) (m : MsgType) → administrative m ≡ false → ifAdministrative (cond b (some m) none) ≡ none
-application true m a = rw a
-application false m a = refl
+application : (b : Bool) (m : MsgType) (o : Option MsgType) → administrative m ≡ false → ifAdministrative o ≡ none → ifAdministrative (cond b (some m) o) ≡ none
+application true m o a e = rw a
+application false m o a e = e
 
 pub typed : (v : Bytes) → length v ≡ 1 → (x : ℕ) (m : MsgType) → admin (x ∷ []) ≡ some m → getD v 0 0 ≡ x → typeIn (Is m) ≡ admin v
 typed v one x m a e = sym (ap admin (sym (one-byte v one) ∙ ap (λ (z : ℕ). z ∷ []) e) ∙ a)
@@ -40,14 +40,14 @@ type-other v one a b c d e f g =
     sym
     (ap admin (sym (one-byte v one))
     ∙ rw (ne-eqb _ 48 a, ne-eqb _ 49 b, ne-eqb _ 50 c, ne-eqb _ 51 d, ne-eqb _ 52 e, ne-eqb _ 53 f, ne-eqb _ 65 g)
-    (application (eqb (getD v 0 0) 70 && true) OrderCancelRequest refl))
+    (application (eqb (getD v 0 0) 70 && true) OrderCancelRequest none refl refl))
 
 pub type-long : (v : Bytes) → (length v ≡ 1 → ⊥) → typeIn Other ≡ admin v
 unfolding admin typeOf code35 administrative
 type-long v n =
     sym
     (rw (same-long v (fix "0") n, same-long v (fix "1") n, same-long v (fix "2") n, same-long v (fix "3") n, same-long v (fix "4") n, same-long v (fix "5") n, same-long v (fix "A") n, same-long v (fix "F") n)
-    (application (same v (fix "AD")) TradeCaptureReportRequest refl))
+    (application (same v (fix "AD")) TradeCaptureReportRequest _ refl (application (same v (fix "AE")) TradeCaptureReport none refl refl)))
 
 -- the type's bytes are the code of the message, which is one of the seven
 pub record Named (m : MsgType) (v : Bytes) : Type 0 where
@@ -56,13 +56,13 @@ pub record Named (m : MsgType) (v : Bytes) : Type 0 where
 
 pub named-by : (v : Bytes) (m : MsgType) → some m ≡ admin v → Named m v
 unfolding admin typeOf
-named-by v m e = go (typeAmong walked v) refl e
+named-by v m e = go (typeAmong theTen v) refl e
   where
-    inner : (n : MsgType) (b : Bool) → administrative n ≡ b → typeAmong walked v ≡ some n → some m ≡ cond b (some n) none → Named m v
+    inner : (n : MsgType) (b : Bool) → administrative n ≡ b → typeAmong theTen v ≡ some n → some m ≡ cond b (some n) none → Named m v
     inner n true a k e = let q : m ≡ n = cc in record { administers = ap administrative q ∙ a; coded = type-coded v m (k ∙ ap some (sym q)) }
     inner n false a k e = let z : _≡_ {A = ℕ} 0 1 = cc in absurd (omega arith)
 
-    go : (o : Option MsgType) → typeAmong walked v ≡ o → some m ≡ ifAdministrative o → Named m v
+    go : (o : Option MsgType) → typeAmong theTen v ≡ o → some m ≡ ifAdministrative o → Named m v
     go none k e = let z : _≡_ {A = ℕ} 0 1 = cc in absurd (omega arith)
     go (some n) k e = inner n (administrative n) refl k e
 

@@ -14,7 +14,7 @@ use Rattle.fields.specs.Field.{firstField}
 use Rattle.kinds.specs.Kind.{kindOf}
 use Rattle.kinds.proofs.Values.{same-true}
 use Rattle.table.specs.declared.MsgType.{MsgType}
-use Rattle.table.specs.Dictionary.{№453, №580, header, fields, code35, administrative, groupsOf, rowsOf, listed}
+use Rattle.table.specs.Dictionary.{№453, №580, №552, header, fields, code35, administrative, groupsOf, rowsOf, listed}
 use Rattle.message.specs.Message.{Value, shown, tagged, row, valued, own, order, message}
 use Rattle.message.specs.Unfit.{unfit}
 use Rattle.message.specs.ReadsBack.{ReadsBack}
@@ -53,7 +53,7 @@ unfoldable pub wellTagged : MsgType → Bool
 wellTagged m = all (has tags) (order m) && same (filtered (listed (rowsOf m)) tags) (order m)
 
 well-tagged : (m : MsgType) → administrative m ≡ true → wellTagged m ≡ true
-unfolding wellTagged filtered tags order own code35 header fields №453 №580 groupsOf rowsOf
+unfolding wellTagged filtered tags order own code35 header fields №453 №580 №552 groupsOf rowsOf
 well-tagged = each (λ m. wellTagged m ≡ true) (record { heartbeat = refl; test-request = refl; resend-request = refl; reject = refl; sequence-reset = refl; logout = refl; logon = refl })
 
 pub record Tagged (m : MsgType) : Type 0 where
@@ -87,7 +87,7 @@ all-tags m a vs f =
 
 -- HOW LONG the row of the first k values is
 widths-short : (m : MsgType) → administrative m ≡ true → leb (widths m tags) 485 ≡ true
-unfolding width widths tags rowsOf header fields groupsOf №453 №580 kindOf decimal
+unfolding width widths tags rowsOf header fields groupsOf №453 №580 №552 kindOf decimal
 widths-short =
     each (λ m. leb (widths m tags) 485 ≡ true)
     (record { heartbeat = refl; test-request = refl; resend-request = refl; reject = refl; sequence-reset = refl; logout = refl; logon = refl })

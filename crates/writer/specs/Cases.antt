@@ -53,6 +53,7 @@ pub record Cases : Type 0 where
       ≡ fix "35=3|49=GW|56=MM|34=2|52=20240102-09:30:00.000000|45=5|371=0|"
   -- refusal 8: another type, a required value absent, one that is not in the text; it stands before 9
   pub type-F : (buf : Bytes) → write (fix "F") of-beat text buf ≡ refusing Unfit buf
+  pub type-AE : (buf : Bytes) → write (fix "AE") of-beat text buf ≡ refusing Unfit buf
   pub absent-52 : (buf : Bytes) → write (fix "0") no-52 text buf ≡ refusing Unfit buf
   pub outside-52 : write (fix "0") past-52 text [] ≡ refusing Unfit []
   -- refusal 9: of 73 bytes, 72 are one too few

@@ -2,7 +2,7 @@
 use Prim.Native.Nat.{ℕ}
 use mathlib.Core.List.{List, [], _∷_}
 use mathlib.Core.Bool.{Bool, true, false}
-use Rattle.kinds.specs.Kind.{Kind, text, number_to_, Y/N, time, day, among, kindOf}
+use Rattle.kinds.specs.Kind.{Kind, text, number_to_, Y/N, time, day, decimal, among, kindOf}
 
 unfoldable pub tags : List ℕ
 tags =
@@ -15,6 +15,7 @@ isNumeric (number a to b) = true
 isNumeric Y/N = false
 isNumeric time = false
 isNumeric day = false
+isNumeric decimal = false
 isNumeric (among l) = false
 
 unfoldable pub numeric : ℕ → Bool

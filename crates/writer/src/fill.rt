@@ -65,6 +65,7 @@ fn is_number(kind: Kind) -> bool
         Kind::Flag => false,
         Kind::Time => false,
         Kind::Day => false,
+        Kind::Decimal => false,
         Kind::OneOf(_) => false,
     }
 }

@@ -112,6 +112,7 @@ pub fn marks_of(m: MsgType) -> Marks
         MsgType::Logon => OF_A,
         MsgType::OrderCancelRequest => NONE,
         MsgType::TradeCaptureReportRequest => NONE,
+        MsgType::TradeCaptureReport => NONE,
     }
 }
 
