@@ -12,7 +12,7 @@ use Rattle.bytes.proofs.Numerals.{is-within}
 use Rattle.kinds.specs.Kind.{text, number_to_, Y/N, time, kindOf, formed, allowed}
 use Rattle.table.specs.declared.MsgType.{MsgType}
 use Rattle.table.specs.declared.MsgType.the-variants.{Heartbeat, TestRequest, ResendRequest, Reject, SequenceReset, Logout, Logon}
-use Rattle.table.specs.Dictionary.{№453, №580, header, fields, code35, groupsOf, rowsOf, listed, kindIn, administrative}
+use Rattle.table.specs.Dictionary.{№453, №580, №552, header, fields, code35, groupsOf, rowsOf, listed, kindIn, administrative}
 use Rattle.message.specs.Message.{Value, absent, shown, own, order, valued}
 use Rattle.message.specs.Unfit.{rejected, required, unwritable, unfit}
 use Rattle.replies.specs.Promise.{TextOf, TimeOf, Sendable}
@@ -61,11 +61,11 @@ module _ (m : MsgType) (t : ℕ) (own : listed (rowsOf m) t ≡ true) where
 
 -- 98 and 1137 have one value each
 encrypt-fit : rejected Logon 98 (fix "0") ≡ false
-unfolding rejected rowsOf header fields №453 №580 groupsOf kindOf formed allowed
+unfolding rejected rowsOf header fields №453 №580 №552 groupsOf kindOf formed allowed
 encrypt-fit = refl
 
 version-fit : rejected Logon 1137 (fix "9") ≡ false
-unfolding rejected rowsOf header fields №453 №580 groupsOf kindOf formed allowed
+unfolding rejected rowsOf header fields №453 №580 №552 groupsOf kindOf formed allowed
 version-fit = refl
 
 -- a value that may be absent
@@ -107,26 +107,26 @@ module _ (ours peers : Bytes) (n : ℕ) (stamp : Bytes) (S : Sendable ours peers
       }
 
   pub heartbeat-fit : (there : Bool) (id : Bytes) → (there ≡ true → TextOf 64 id) → AllFit Heartbeat (ofHeartbeat ours peers n stamp (optional there id))
-  unfolding order own required rowsOf header fields №453 №580 groupsOf kindOf administrative code35
+  unfolding order own required rowsOf header fields №453 №580 №552 groupsOf kindOf administrative code35
   heartbeat-fit there id T =
       let H = in-header Heartbeat refl in
       rw (H .from, H .target, H .seq, H .sent, optional-fit Heartbeat 112 there id refl (λ e. text-fit Heartbeat 112 refl 64 64 id refl (T e) (omega arith)))
 
   pub test-request-fit : (id : Bytes) → TextOf 64 id → AllFit TestRequest (ofTestRequest ours peers n stamp id)
-  unfolding order own required rowsOf header fields №453 №580 groupsOf kindOf administrative code35
+  unfolding order own required rowsOf header fields №453 №580 №552 groupsOf kindOf administrative code35
   test-request-fit id T =
       let H = in-header TestRequest refl in
       rw (H .from, H .target, H .seq, H .sent, text-fit TestRequest 112 refl 64 64 id refl T (omega arith))
 
   pub logon-fit : (seconds : ℕ) (reset : Bool) → 1 ≤ seconds → seconds ≤ 60 → AllFit Logon (ofLogon ours peers n stamp seconds (optional reset (fix "Y")))
-  unfolding order own required rowsOf header fields №453 №580 groupsOf kindOf administrative code35
+  unfolding order own required rowsOf header fields №453 №580 №552 groupsOf kindOf administrative code35
   logon-fit seconds reset low high =
       let H = in-header Logon refl in
       rw
       (H .from, H .target, H .seq, H .sent, encrypt-fit, number-fit Logon 108 refl 1 60 seconds refl low high (omega arith), version-fit, optional-fit Logon 141 reset (fix "Y") refl (λ e. flag-fit Logon 141 refl refl))
 
   pub resend-request-fit : (expected : ℕ) → 1 ≤ expected → expected ≤ 999_999_999 → AllFit ResendRequest (ofResendRequest ours peers n stamp expected)
-  unfolding order own required rowsOf header fields №453 №580 groupsOf kindOf administrative code35
+  unfolding order own required rowsOf header fields №453 №580 №552 groupsOf kindOf administrative code35
   resend-request-fit expected low high =
       let H = in-header ResendRequest refl in
       rw
@@ -134,21 +134,21 @@ module _ (ours peers : Bytes) (n : ℕ) (stamp : Bytes) (S : Sendable ours peers
 
   pub reject-fit : (refused tag : ℕ) (typed : Bool) (kind : Bytes) (why : ℕ) → 1 ≤ refused → refused ≤ 999_999_999 → tag ≤ 999_999_999 → (typed ≡ true → TextOf 2 kind) → why ≤ 999_999_999
       → AllFit Reject (ofReject ours peers n stamp refused tag (optional typed kind) why)
-  unfolding order own required rowsOf header fields №453 №580 groupsOf kindOf administrative code35
+  unfolding order own required rowsOf header fields №453 №580 №552 groupsOf kindOf administrative code35
   reject-fit refused tag typed kind why low high small T few =
       let H = in-header Reject refl in
       rw
       (H .from, H .target, H .seq, H .sent, number-fit Reject 45 refl 1 999_999_999 refused refl low high (omega arith), unless-zero-fit Reject 371 tag refl (number-fit Reject 371 refl 0 999_999_999 tag refl (omega arith) small (omega arith)), optional-fit Reject 372 typed kind refl (λ e. text-fit Reject 372 refl 32 2 kind refl (T e) (omega arith)), number-fit Reject 373 refl 0 999_999_999 why refl (omega arith) few (omega arith))
 
   pub gap-fill-fit : (next : ℕ) → 1 ≤ next → next ≤ 999_999_999 → AllFit SequenceReset (ofGapFill ours peers n stamp next)
-  unfolding order own required rowsOf header fields №453 №580 groupsOf kindOf administrative code35
+  unfolding order own required rowsOf header fields №453 №580 №552 groupsOf kindOf administrative code35
   gap-fill-fit next low high =
       let H = in-header SequenceReset refl in
       rw
       (H .from, H .target, H .seq, flag-fit SequenceReset 43 refl refl, H .sent, H .first-sent, flag-fit SequenceReset 123 refl refl, number-fit SequenceReset 36 refl 1 999_999_999 next refl low high (omega arith))
 
   pub logout-fit : (status : ℕ) → status ≤ 999_999_999 → AllFit Logout (ofLogout ours peers n stamp status)
-  unfolding order own required rowsOf header fields №453 №580 groupsOf kindOf administrative code35
+  unfolding order own required rowsOf header fields №453 №580 №552 groupsOf kindOf administrative code35
   logout-fit status few =
       let H = in-header Logout refl in
       rw (H .from, H .target, H .seq, H .sent, number-fit Logout 1409 refl 0 999_999_999 status refl (omega arith) few (omega arith))

@@ -27,7 +27,7 @@ sendable ours peers n time at len = leb (length ours) 11 && leb (length peers) 1
 abbrev pub echoable : Bytes → Bool
 echoable id = leb (length id) 64
 
--- of a Reject besides: its numbers, and a type as short as the nine, also where it is not written
+-- of a Reject besides: its numbers, and a type as short as the ten, also where it is not written
 unfoldable pub rejectable : ℕ → ℕ → Bytes → ℕ → Bool
 rejectable refused tag type why = nineDigits refused && nineDigits tag && leb (length type) 2 && nineDigits why
 

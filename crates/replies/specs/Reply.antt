@@ -36,7 +36,7 @@ module _ (ours peers : Bytes) (n : ℕ) (time : Bytes) where
   abbrev pub ofResendRequest : ℕ → ℕ → Value
   ofResendRequest expected = values (7 is number expected ∷ 16 is number 0 ∷ [])
 
-  -- "Reject writes 45 (N), 371 unless 0, 372 only if the type is one of the nine, 373."
+  -- "Reject writes 45 (N), 371 unless 0, 372 only if the type is one of the nine, 373." (Document 02 adds a tenth.)
   abbrev pub ofReject : ℕ → ℕ → Value → ℕ → ℕ → Value
   ofReject refused tag type reason = values (45 is number refused ∷ 371 is unlessZero tag ∷ 372 is type ∷ 373 is number reason ∷ [])
 
