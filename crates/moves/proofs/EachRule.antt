@@ -18,7 +18,7 @@ use Rattle.moves.specs.Words.{first, _when_, _otherwise_, speaks}
 use Rattle.moves.specs.Session.{Session}
 use Rattle.moves.specs.Seen.{isIt, repeated, isClean}
 use Rattle.moves.specs.Moves.{Deeds, Heartbeat, Write, Fill-to, Reset-to, Anew, Deliver, #, N, type, readable, reject, rejection, logout, resend-request, counted, unserved, served, logon, reset, no-reset, waiting, stranger, rule-1, rule-2, bare-reset, rule-3, too-high, rule-4, too-low, rule-5, filled, in-turn, rule-6, active}
-use Rattle.moves.specs.Moves.{OurPeer, bare}
+use Rattle.moves.specs.Moves.{OurPeer, bare, reject-type}
 use Rattle.moves.proofs.Words.{then-by, said-when, said-first, said-otherwise, Said, not-said, all-silent}
 use Rattle.moves.proofs.Readings.{is-clean}
 
@@ -42,6 +42,7 @@ pub record EachLogon (P : Deeds → Type 0) (s : Session) (body : Bytes) : Type 
 
 -- A MESSAGE IN TURN
 pub record EachTurn (P : Deeds → Type 0) (s : Session) (body : Bytes) : Type 0 where
+  pub report : type s body "AE" ≡ true → P (counted s body (reject-type s body))
   pub finding : isClean (verdict body) ≡ false → P (counted s body (rejection s body))
   pub test : verdict body ≡ Clean → type s body "1" ≡ true → P (counted s body (Write (Heartbeat (repeated (firstField 112 body))) ∷ []))
   pub resend : verdict body ≡ Clean → type s body "2" ≡ true → P (counted s body (unserved s body otherwise served s body))
@@ -133,7 +134,8 @@ module _ (P : Deeds → Type 0) (s : Session) (body : Bytes) where
   unfolding in-turn
   each-turn R =
       said-otherwise P
-      ((counted s body (rejection s body) when not (isClean (verdict body)))
+      ((counted s body (reject-type s body) when type s body "AE")
+      ∷ (counted s body (rejection s body) when not (isClean (verdict body)))
       ∷ (counted s body (Write (Heartbeat (repeated (firstField 112 body))) ∷ []) when type s body "1")
       ∷ (counted s body (unserved s body otherwise served s body) when type s body "2")
       ∷ (filled s body when type s body "4")
@@ -141,13 +143,14 @@ module _ (P : Deeds → Type 0) (s : Session) (body : Bytes) where
       ∷ (counted s body (reject s body 99 35) when type s body "A")
       ∷ (counted s body (Deliver ∷ []) when (type s body "AD" || type s body "F"))
       ∷ []) (counted s body [])
-      (then-by (said-when P _ _ (λ e. R .finding (not-true _ e))) (λ n. let c = is-clean (verdict body) (not-false _ (not-said (counted s body (rejection s body)) _ n)) in
+      (then-by (said-when P _ _ (λ e. R .report e)) (λ n₀.
+      then-by (said-when P _ _ (λ e. R .finding (not-true _ e))) (λ n. let c = is-clean (verdict body) (not-false _ (not-said (counted s body (rejection s body)) _ n)) in
       then-by (said-when P _ _ (λ e. R .test c e)) (λ n₁.
       then-by (said-when P _ _ (λ e. R .resend c e)) (λ n₂.
       then-by (said-when P _ _ (λ e. R .gap e)) (λ n₄.
       then-by (said-when P _ _ (λ e. R .logout e)) (λ n₅.
       then-by (said-when P _ _ (λ e. R .logon e)) (λ n₆.
-      then-by (said-when P _ _ (λ e. R .application c e)) (λ n₇. R .other))))))))
+      then-by (said-when P _ _ (λ e. R .application c e)) (λ n₇. R .other)))))))))
 
   -- RULE 2, and all six
   our-peer : rule-2 s body ≡ none → OurPeer s body

@@ -6,7 +6,7 @@ use mathlib.Core.Bool.{Bool, true, false, not, _&&_}
 use borrow.Author.Tests.{not-true, not-false}
 use Rattle.moves.specs.code.Plan.{behind, isNothing}
 use Rattle.moves.specs.declared.plan.Letter.{Letter}
-use Rattle.moves.specs.declared.plan.Letter.the-variants.{Heartbeat, Echo, Logon, Ask, Reject, Logout, Test}
+use Rattle.moves.specs.declared.plan.Letter.the-variants.{Heartbeat, Echo, Logon, Ask, Reject, RejectType, Logout, Test}
 
 -- THE NEXT NUMBER behind a message
 pub behind-beat : (n : ℕ) {l : Letter} → l ≡ Heartbeat → n + 1 ≡ behind n l
@@ -24,13 +24,16 @@ behind-ask n e = rw (e)
 pub behind-reject : (n : ℕ) {l : Letter} {reason tag : ℕ} → l ≡ Reject reason tag → n + 1 ≡ behind n l
 behind-reject n e = rw (e)
 
+pub behind-reject-type : (n : ℕ) {l : Letter} → l ≡ RejectType → n + 1 ≡ behind n l
+behind-reject-type n e = rw (e)
+
 pub behind-logout : (n : ℕ) {l : Letter} {why : ℕ} → l ≡ Logout why → n + 1 ≡ behind n l
 behind-logout n e = rw (e)
 
 pub behind-test : (n : ℕ) {l : Letter} → l ≡ Test → n + 1 ≡ behind n l
 behind-test n e = rw (e)
 
-pub ruleset behinds = (behind-beat, behind-echo, behind-logon, behind-ask, behind-reject, behind-logout, behind-test)
+pub ruleset behinds = (behind-beat, behind-echo, behind-logon, behind-ask, behind-reject, behind-reject-type, behind-logout, behind-test)
 
 -- NOTHING is written
 pub not-quiet : {b : Bool} (f g : Letter) → b ≡ isNothing f → not b ≡ true → false ≡ (isNothing f && isNothing g)

@@ -85,7 +85,7 @@ module _ (s : Session) (body : Bytes) where
   abbrev pub clean : Bool
   clean = isClean (verdict body)
 
-  -- "Reject writes 45 (N), 371 unless 0, 372 only if the type is one of the nine, 373."
+  -- "Reject writes 45 (N), 371 unless 0, 372 only if the type is one of the nine, 373." Document 02: "with AE as a tenth type".
   unfoldable pub reject : ℕ → ℕ → Deeds
   reject reason tag = Write (Reject N tag (repeated (codeOf (msgType body))) reason) ∷ []
 
@@ -200,9 +200,14 @@ module _ (s : Session) (body : Bytes) where
   unfoldable pub filled : Deeds
   filled = if # 36 ≤? N then counted (reject 5 36) else Fill-to (# 36) ∷ []
 
+  -- Document 02: "in rule 6 an AE from a member, whatever its verdict, is Reject 11, tag 35, no 372."
+  unfoldable pub reject-type : Deeds
+  reject-type = Write (Reject N 35 absent 11) ∷ []
+
   unfoldable pub in-turn : Deeds
   in-turn = first
-      (counted rejection when not clean ∷
+      (counted reject-type when type "AE" ∷
+      counted rejection when not clean ∷
       counted (Write (Heartbeat (repeated (the 112))) ∷ []) when type "1" ∷
       counted (unserved otherwise served) when type "2" ∷
       filled when type "4" ∷

@@ -26,7 +26,7 @@ abbrev pub numberIn : ℕ → ℕ → Option Bytes → Option ℕ
 numberIn a b none = none
 numberIn a b (some v) = value v when (isNumber v && within a b (value v))
 
--- what stands behind `35=` for one of the nine types
+-- what stands behind `35=` for one of the ten types
 abbrev pub codeOf : Option MsgType → Option Bytes
 codeOf none = none
 codeOf (some m) = some (code35 m)

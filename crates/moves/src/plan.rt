@@ -20,6 +20,8 @@ pub enum Letter {
     Ask { from: u64 },
     // A Reject of the message that came.
     Reject { reason: u64, tag: u64 },
+    // A Reject of a type that no member may send: 11, tag 35, without 372.
+    RejectType,
     // A gap fill, which has its own number and uses no new one.
     Fill { begin: u64, new: u64 },
     Logout { why: u64 },
@@ -154,6 +156,7 @@ pub fn next_after(l: Letter, n: u64) -> u64
         }
         Letter::Ask { from: _ } => one,
         Letter::Reject { reason: _, tag: _ } => one,
+        Letter::RejectType => one,
         Letter::Fill { begin: _, new: _ } => n,
         Letter::Logout { why: _ } => one,
         Letter::Test => one,
@@ -170,6 +173,7 @@ fn is_nothing(l: Letter) -> bool
         Letter::Logon { anew: _ } => false,
         Letter::Ask { from: _ } => false,
         Letter::Reject { reason: _, tag: _ } => false,
+        Letter::RejectType => false,
         Letter::Fill { begin: _, new: _ } => false,
         Letter::Logout { why: _ } => false,
         Letter::Test => false,

@@ -107,6 +107,7 @@ fn type_byte(t: Named) -> u8
         MsgType::Logon => b'A',
         MsgType::OrderCancelRequest => b'F',
         MsgType::TradeCaptureReportRequest => b'D',
+        MsgType::TradeCaptureReport => b'E',
     }
 }
 

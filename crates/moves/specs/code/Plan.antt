@@ -22,7 +22,7 @@ use Rattle.moves.specs.declared.record.Status.{Status}
 use Rattle.moves.specs.declared.record.Status.the-variants.{Active, Closed}
 use Rattle.moves.specs.declared.plan.Plan.{Plan}
 use Rattle.moves.specs.declared.plan.Letter.{Letter}
-use Rattle.moves.specs.declared.plan.Letter.the-variants.{Nothing, Heartbeat, Echo, Logon, Ask, Reject, Fill, Logout, Test}
+use Rattle.moves.specs.declared.plan.Letter.the-variants.{Nothing, Heartbeat, Echo, Logon, Ask, Reject, RejectType, Fill, Logout, Test}
 
 -- E + 1, or not
 abbrev pub raised : Bool → ℕ → ℕ
@@ -67,6 +67,7 @@ lettersOf body n Echo = (n, Words.Heartbeat (repeated (firstField 112 body))) �
 lettersOf body n (Logon anew) = (cond anew 1 n, Words.Logon (repeated (firstField 98 body)) (repeated (firstField 108 body)) (repeated (firstField 1137 body)) (optional anew (fix "Y"))) ∷ []
 lettersOf body n (Ask from) = (n, Words.ResendRequest from) ∷ []
 lettersOf body n (Reject reason tag) = (n, Words.Reject (numberIn 1 999_999_999 (firstField 34 body) otherwise 0) tag (repeated (codeOf (msgType body))) reason) ∷ []
+lettersOf body n RejectType = (n, Words.Reject (numberIn 1 999_999_999 (firstField 34 body) otherwise 0) 35 absent 11) ∷ []
 lettersOf body n (Fill begin new) = (begin, Words.GapFill new) ∷ []
 lettersOf body n (Logout why) = (n, Words.Logout why) ∷ []
 lettersOf id n Test = (n, Words.TestRequest id) ∷ []
@@ -79,6 +80,7 @@ behind n Echo = n + 1
 behind n (Logon anew) = cond anew 2 (n + 1)
 behind n (Ask from) = n + 1
 behind n (Reject reason tag) = n + 1
+behind n RejectType = n + 1
 behind n (Fill begin new) = n
 behind n (Logout why) = n + 1
 behind n Test = n + 1
@@ -94,6 +96,7 @@ isNothing Echo = false
 isNothing (Logon anew) = false
 isNothing (Ask from) = false
 isNothing (Reject reason tag) = false
+isNothing RejectType = false
 isNothing (Fill begin new) = false
 isNothing (Logout why) = false
 isNothing Test = false
@@ -130,7 +133,7 @@ module _ (s : Session) (body : Bytes) where
   unfoldable pub fillTo : ℕ
   fillTo = cond (eqb (e s body) 0) (L s body) (min (e s body) (L s body)) + 1
 
--- the first byte of a type's code, the last of AD's, or 0
+-- the first byte of a type's code, the last of AD's and AE's, or 0
 abbrev pub typeByte : Option MsgType → ℕ
 typeByte none = 0
 typeByte (some MsgType.Heartbeat) = 48
@@ -142,6 +145,7 @@ typeByte (some MsgType.Logout) = 53
 typeByte (some MsgType.Logon) = 65
 typeByte (some MsgType.OrderCancelRequest) = 70
 typeByte (some MsgType.TradeCaptureReportRequest) = 68
+typeByte (some MsgType.TradeCaptureReport) = 69
 
 unfoldable pub isBareReset : Bytes → Bool
 isBareReset body = isIt (fix "4") (codeOf (msgType body)) && not (isIt (fix "Y") (firstField 123 body))
