@@ -16,13 +16,13 @@ use Rattle.dictionary.specs.Verdict.{verdict, msgType}
 use Rattle.moves.specs.Words.{speaks, first, _when_, _otherwise_}
 use Rattle.moves.specs.Session.{Session}
 use Rattle.moves.specs.Seen.{isIt, isClean, numberIn}
-use Rattle.moves.specs.Moves.{#, N, readable, reject, logout, counted, unserved, served, stranger, rule-1, rule-2, bare-reset, rule-3, too-high, rule-4, too-low, rule-5, filled, in-turn, rule-6, active, logon, reset, no-reset, waiting}
+use Rattle.moves.specs.Moves.{#, N, readable, reject, reject-type, logout, counted, unserved, served, stranger, rule-1, rule-2, bare-reset, rule-3, too-high, rule-4, too-low, rule-5, filled, in-turn, rule-6, active, logon, reset, no-reset, waiting}
 use Rattle.moves.specs.code.Plan.{planned, summed, counts, expects, closes, delivers, accepts, raised, rejectedBy, typeByte, isBareReset, strangeTag}
 use Rattle.moves.specs.code.Reads.{NumberIn}
 use Rattle.moves.specs.declared.plan.Plan.{Plan}
 use Rattle.moves.specs.declared.plan.Letter.{Letter}
-use Rattle.moves.specs.declared.plan.Letter.the-variants.{Nothing, Echo, Ask, Reject, Logout}
-use Rattle.moves.proofs.Types.{agree-1, agree-2, agree-4, agree-5, agree-A, agree-F, agree-AD, is-type, not-type}
+use Rattle.moves.specs.declared.plan.Letter.the-variants.{Nothing, Echo, Ask, Reject, RejectType, Logout}
+use Rattle.moves.proofs.Types.{agree-1, agree-2, agree-4, agree-5, agree-A, agree-F, agree-AD, agree-AE, is-type, not-type}
 
 -- N is 0 where it is unreadable, and only there
 spoken : (o : Option Bytes) → speaks (numberIn 1 999_999_999 o) ≡ not (eqb (numberIn 1 999_999_999 o otherwise 0) 0)
@@ -49,48 +49,54 @@ is-readable s {body = body} R z = spoken (firstField 34 body) ∙ ap not (ne-eqb
 
 module _ (s : Session) (body : Bytes) where
   -- RULE 6
-  pub turn-verdict : {v : Verdict} {b : Bool} {l : Letter} {p : Plan} → v ≡ verdict body → b ≡ isClean v → not b ≡ true → l ≡ rejectedBy v → p ≡ counts s l → planned body s p ≡ summed s (in-turn s body)
-  unfolding in-turn reject readable
-  turn-verdict {b = b} e k h q w = rw (w, q, ← e, ← k, not-true b h)
+  module _ {x : ℕ} (e : x ≡ typeByte (msgType body)) where
+    pub turn-report : x ≡ 69 → {p : Plan} → p ≡ counts s RejectType → planned body s p ≡ summed s (in-turn s body)
+    unfolding in-turn reject-type readable
+    turn-report h pw = rw (pw, is-type agree-AE body e h)
 
-  module _ {v : Verdict} {b : Bool} {x : ℕ} (f : v ≡ verdict body) (k : b ≡ isClean v) (q : not b ≡ false) (e : x ≡ typeByte (msgType body)) where
-    pub turn-1 : x ≡ 49 → {p : Plan} → p ≡ counts s Echo → planned body s p ≡ summed s (in-turn s body)
-    unfolding in-turn reject readable
-    turn-1 h pw = rw (pw, ← f, ← k, not-false b q, is-type agree-1 body e h)
+    module _ (h₀ : x ≡ 69 → ⊥) {v : Verdict} {b : Bool} (f : v ≡ verdict body) (k : b ≡ isClean v) where
+      pub turn-verdict : not b ≡ true → {l : Letter} → l ≡ rejectedBy v → {p : Plan} → p ≡ counts s l → planned body s p ≡ summed s (in-turn s body)
+      unfolding in-turn reject readable
+      turn-verdict h q w = rw (w, q, not-type agree-AE body e h₀, ← f, ← k, not-true b h)
 
-    module _ (h₁ : x ≡ 49 → ⊥) where
-      pub turn-2 : x ≡ 50 → (p : Plan) → planned body s p ≡ summed s (counted s body (unserved s body otherwise served s body)) → planned body s p ≡ summed s (in-turn s body)
-      unfolding in-turn
-      turn-2 h p w = w ∙ rw (← f, ← k, not-false b q, not-type agree-1 body e h₁, is-type agree-2 body e h)
+      module _ (q : not b ≡ false) where
+        pub turn-1 : x ≡ 49 → {p : Plan} → p ≡ counts s Echo → planned body s p ≡ summed s (in-turn s body)
+        unfolding in-turn reject readable
+        turn-1 h pw = rw (pw, not-type agree-AE body e h₀, ← f, ← k, not-false b q, is-type agree-1 body e h)
 
-      module _ (h₂ : x ≡ 50 → ⊥) where
-        pub turn-4 : x ≡ 52 → (p : Plan) → planned body s p ≡ summed s (filled s body) → planned body s p ≡ summed s (in-turn s body)
-        unfolding in-turn
-        turn-4 h p w = w ∙ rw (← f, ← k, not-false b q, not-type agree-1 body e h₁, not-type agree-2 body e h₂, is-type agree-4 body e h)
+        module _ (h₁ : x ≡ 49 → ⊥) where
+          pub turn-2 : x ≡ 50 → (p : Plan) → planned body s p ≡ summed s (counted s body (unserved s body otherwise served s body)) → planned body s p ≡ summed s (in-turn s body)
+          unfolding in-turn
+          turn-2 h p w = w ∙ rw (not-type agree-AE body e h₀, ← f, ← k, not-false b q, not-type agree-1 body e h₁, is-type agree-2 body e h)
 
-        module _ (h₄ : x ≡ 52 → ⊥) where
-          pub turn-5 : x ≡ 53 → {p : Plan} → p ≡ closes s (Logout 4) Nothing (s .E + 1) → planned body s p ≡ summed s (in-turn s body)
-          unfolding in-turn reject readable
-          turn-5 h pw = rw (pw, ← f, ← k, not-false b q, not-type agree-1 body e h₁, not-type agree-2 body e h₂, not-type agree-4 body e h₄, is-type agree-5 body e h)
+          module _ (h₂ : x ≡ 50 → ⊥) where
+            pub turn-4 : x ≡ 52 → (p : Plan) → planned body s p ≡ summed s (filled s body) → planned body s p ≡ summed s (in-turn s body)
+            unfolding in-turn
+            turn-4 h p w = w ∙ rw (not-type agree-AE body e h₀, ← f, ← k, not-false b q, not-type agree-1 body e h₁, not-type agree-2 body e h₂, is-type agree-4 body e h)
 
-          module _ (h₅ : x ≡ 53 → ⊥) where
-            pub turn-A : x ≡ 65 → {p : Plan} → p ≡ counts s (Reject 99 35) → planned body s p ≡ summed s (in-turn s body)
-            unfolding in-turn reject readable
-            turn-A h pw = rw (pw, ← f, ← k, not-false b q, not-type agree-1 body e h₁, not-type agree-2 body e h₂, not-type agree-4 body e h₄, not-type agree-5 body e h₅, is-type agree-A body e h)
-
-            module _ (h₆ : x ≡ 65 → ⊥) where
-              pub turn-AD : x ≡ 68 → {p : Plan} → p ≡ delivers s → planned body s p ≡ summed s (in-turn s body)
+            module _ (h₄ : x ≡ 52 → ⊥) where
+              pub turn-5 : x ≡ 53 → {p : Plan} → p ≡ closes s (Logout 4) Nothing (s .E + 1) → planned body s p ≡ summed s (in-turn s body)
               unfolding in-turn reject readable
-              turn-AD h pw = rw (pw, ← f, ← k, not-false b q, not-type agree-1 body e h₁, not-type agree-2 body e h₂, not-type agree-4 body e h₄, not-type agree-5 body e h₅, not-type agree-A body e h₆, is-type agree-AD body e h)
+              turn-5 h pw = rw (pw, not-type agree-AE body e h₀, ← f, ← k, not-false b q, not-type agree-1 body e h₁, not-type agree-2 body e h₂, not-type agree-4 body e h₄, is-type agree-5 body e h)
 
-              module _ (h₇ : x ≡ 68 → ⊥) where
-                pub turn-F : x ≡ 70 → {p : Plan} → p ≡ delivers s → planned body s p ≡ summed s (in-turn s body)
+              module _ (h₅ : x ≡ 53 → ⊥) where
+                pub turn-A : x ≡ 65 → {p : Plan} → p ≡ counts s (Reject 99 35) → planned body s p ≡ summed s (in-turn s body)
                 unfolding in-turn reject readable
-                turn-F h pw = rw (pw, ← f, ← k, not-false b q, not-type agree-1 body e h₁, not-type agree-2 body e h₂, not-type agree-4 body e h₄, not-type agree-5 body e h₅, not-type agree-A body e h₆, not-type agree-AD body e h₇, is-type agree-F body e h)
+                turn-A h pw = rw (pw, not-type agree-AE body e h₀, ← f, ← k, not-false b q, not-type agree-1 body e h₁, not-type agree-2 body e h₂, not-type agree-4 body e h₄, not-type agree-5 body e h₅, is-type agree-A body e h)
 
-                pub turn-other : (x ≡ 70 → ⊥) → {p : Plan} → p ≡ expects s (s .E + 1) → planned body s p ≡ summed s (in-turn s body)
-                unfolding in-turn reject readable
-                turn-other h pw = rw (pw, ← f, ← k, not-false b q, not-type agree-1 body e h₁, not-type agree-2 body e h₂, not-type agree-4 body e h₄, not-type agree-5 body e h₅, not-type agree-A body e h₆, not-type agree-AD body e h₇, not-type agree-F body e h)
+                module _ (h₆ : x ≡ 65 → ⊥) where
+                  pub turn-AD : x ≡ 68 → {p : Plan} → p ≡ delivers s → planned body s p ≡ summed s (in-turn s body)
+                  unfolding in-turn reject readable
+                  turn-AD h pw = rw (pw, not-type agree-AE body e h₀, ← f, ← k, not-false b q, not-type agree-1 body e h₁, not-type agree-2 body e h₂, not-type agree-4 body e h₄, not-type agree-5 body e h₅, not-type agree-A body e h₆, is-type agree-AD body e h)
+
+                  module _ (h₇ : x ≡ 68 → ⊥) where
+                    pub turn-F : x ≡ 70 → {p : Plan} → p ≡ delivers s → planned body s p ≡ summed s (in-turn s body)
+                    unfolding in-turn reject readable
+                    turn-F h pw = rw (pw, not-type agree-AE body e h₀, ← f, ← k, not-false b q, not-type agree-1 body e h₁, not-type agree-2 body e h₂, not-type agree-4 body e h₄, not-type agree-5 body e h₅, not-type agree-A body e h₆, not-type agree-AD body e h₇, is-type agree-F body e h)
+
+                    pub turn-other : (x ≡ 70 → ⊥) → {p : Plan} → p ≡ expects s (s .E + 1) → planned body s p ≡ summed s (in-turn s body)
+                    unfolding in-turn reject readable
+                    turn-other h pw = rw (pw, not-type agree-AE body e h₀, ← f, ← k, not-false b q, not-type agree-1 body e h₁, not-type agree-2 body e h₂, not-type agree-4 body e h₄, not-type agree-5 body e h₅, not-type agree-A body e h₆, not-type agree-AD body e h₇, not-type agree-F body e h)
 
   -- THE RULES, each by its test
   two-is : rule-2 s body ≡ cond (eqb (strangeTag s body) 0) none (some (stranger s body (strangeTag s body)))
@@ -167,4 +173,4 @@ module _ (s : Session) (body : Bytes) where
       unfolding waiting reset no-reset logon reject readable
       logon-high h l q pw = let k : s .E < n = omega arith in rw (pw, ← p, h, ← (is-N s R), le-ltb n (s .E) l, ne-eqb n (s .E) q, lt-ltb (s .E) n k, seconds)
 
-pub ruleset choosing = (turn-verdict, turn-1, turn-2, turn-4, turn-5, turn-A, turn-AD, turn-F, turn-other, first-1, first-2, first-3, first-4, first-5, first-6, logon-anew, logon-late, logon-low, logon-next, logon-high)
+pub ruleset choosing = (turn-report, turn-verdict, turn-1, turn-2, turn-4, turn-5, turn-A, turn-AD, turn-F, turn-other, first-1, first-2, first-3, first-4, first-5, first-6, logon-anew, logon-late, logon-low, logon-next, logon-high)

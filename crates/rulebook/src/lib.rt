@@ -30,7 +30,7 @@ ghost use Rattle.fields.specs.First.{First};
 ghost use Rattle.dictionary.specs.Verdict.{msgType};
 ghost use Rattle.moves.specs.Moves.{N, acceptable, waiting, active, bare-reset, too-high, too-low, filled, in-turn};
 ghost use Rattle.moves.specs.Held.{sessionOf};
-ghost use Rattle.moves.specs.code.Plan.{planned, summed, closes, raised, rejectedBy, strangeTag, isBareReset, typeByte, Ready};
+ghost use Rattle.moves.specs.code.Plan.{planned, summed, counts, closes, raised, rejectedBy, strangeTag, isBareReset, typeByte, Ready};
 
 fn rejected(v: Verdict) -> Letter
     ensures { λ l. ⌜ l ≡ rejectedBy v ⌝ }
@@ -165,6 +165,14 @@ fn rule_5(r: Record, body: &[u8]) -> Plan
     saying(r, Letter::Nothing, Letter::Nothing)
 }
 
+// A Reject of the message that came, and E + 1.
+fn rejecting(r: Record, reason: u64, tag: u64) -> Plan
+    requires { ⌜ Ready r ⌝ }
+    ensures { λ p. ⌜ p ≡ counts (sessionOf r) (Letter.Reject reason tag) ⌝ }
+{
+    counting(r, Letter::Reject { reason, tag })
+}
+
 // Rule 6, type 4: a gap fill.
 fn filled(r: Record, n: u64, body: &[u8]) -> Plan
     requires { ⌜ Ready r × (n ≡ N (sessionOf r) (now body)) ⌝ }
@@ -172,17 +180,20 @@ fn filled(r: Record, n: u64, body: &[u8]) -> Plan
 {
     let new = number_in(body, 36, 0);
     if new <= n {
-        return counting(r, Letter::Reject { reason: 5, tag: 36 });
+        return rejecting(r, 5, 36);
     }
     expecting(r, new)
 }
 
-// Rule 6: N = E.
+// Rule 6: N = E. No verdict is asked for on a Trade Capture Report.
 fn rule_6(r: Record, n: u64, t: u8, body: &[u8]) -> Plan
     requires { ⌜ Ready r × (n ≡ N (sessionOf r) (now body)) × (t ≡ typeByte (msgType (now body))) ⌝ }
     ensures { λ p. ⌜ planned (now (body .entry)) (sessionOf r) p ≡ summed (sessionOf r) (in-turn (sessionOf r) (now (body .entry))) ⌝ }
 {
     let up = r.expected + 1;
+    if t == b'E' {
+        return counting(r, Letter::RejectType);
+    }
     let v = verdict_on(body);
     if !is_clean(v) {
         return counting(r, rejected(v));
@@ -200,13 +211,7 @@ fn rule_6(r: Record, n: u64, t: u8, body: &[u8]) -> Plan
         return closing(r, Letter::Logout { why: 4 }, Letter::Nothing, up);
     }
     if t == b'A' {
-        return counting(
-            r,
-            Letter::Reject {
-                reason: 99,
-                tag: 35,
-            },
-        );
+        return rejecting(r, 99, 35);
     }
     if t == b'D' {
         return delivering(r);
