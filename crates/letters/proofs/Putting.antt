@@ -24,11 +24,11 @@ use Rattle.moves.specs.Seen.{repeated}
 use Rattle.moves.specs.Moves as Words
 use Rattle.moves.specs.Moves.{letter, #}
 use Rattle.moves.specs.code.Plan.{lettersOf, behind, Ready}
-use Rattle.letters.specs.code.Put.{bytesOf, AllPut, rejectOf, logonOf, Sending}
+use Rattle.letters.specs.code.Put.{bytesOf, AllPut, rejectOf, typeRejectOf, logonOf, Sending}
 use Rattle.letters.specs.code.Fit.{FitId, FitLogon}
 use Rattle.moves.specs.declared.record.Record.{Record}
 use Rattle.moves.specs.declared.plan.Letter.{Letter}
-use Rattle.moves.specs.declared.plan.Letter.the-variants.{Nothing, Heartbeat, Echo, Logon, Ask, Reject, Fill, Logout, Test}
+use Rattle.moves.specs.declared.plan.Letter.the-variants.{Nothing, Heartbeat, Echo, Logon, Ask, Reject, RejectType, Fill, Logout, Test}
 use Rattle.letters.proofs.Replying.{was-put}
 use Rattle.letters.proofs.Carried.{logon-seconds}
 
@@ -90,6 +90,9 @@ module _ (ours peers stamp body d d′ : Bytes) (n at to : ℕ) (l : Letter) (S 
 
   pub put-reject : {reason tag : ℕ} → l ≡ Reject reason tag → Wrote d d′ at to (rejectOf ours peers n stamp body reason tag) → to ≤ at + replyRoom → Put
   put-reject e w h = alone e refl w h
+
+  pub put-reject-type : l ≡ RejectType → Wrote d d′ at to (typeRejectOf ours peers n stamp body) → to ≤ at + replyRoom → Put
+  put-reject-type e w h = alone e refl w h
 
   pub put-fill : {begin new : ℕ} → l ≡ Fill begin new → Replied ours peers begin stamp (nineDigits new) d d′ at to (Reply.gapFill ours peers begin stamp new) → Put
   put-fill {begin = begin} {new = new} e R =

@@ -30,7 +30,7 @@ ghost use Rattle.replies.specs.Reply.{optional, heartbeat};
 ghost use Rattle.replies.specs.Replied.{replyRoom};
 ghost use Rattle.message.specs.Wrote.{Wrote};
 ghost use Rattle.moves.specs.Seen.{repeated};
-ghost use Rattle.letters.specs.code.Put.{Repeats, rejectOf, logonOf, bytesOf, AllPut, Sending};
+ghost use Rattle.letters.specs.code.Put.{Repeats, rejectOf, typeRejectOf, logonOf, bytesOf, AllPut, Sending};
 ghost use Rattle.moves.specs.code.Plan.{lettersOf, behind, Ready};
 
 // Where the type of a body lies, if it is one that a Reject can repeat.
@@ -82,6 +82,24 @@ fn put_reject(
     };
     let v = &body[start..end];
     reject(buf, at, us, them, n, stamp, refused, tag, true, v, reason)
+}
+
+// A Reject of a message whose type no member may send: 11, tag 35, without 372.
+fn put_reject_type(
+    buf: &mut [u8],
+    at: usize,
+    us: &[u8],
+    them: &[u8],
+    n: u64,
+    stamp: &[u8],
+    body: &[u8],
+) -> usize
+    requires { ⌜ Sending (now us) (now them) n at (now stamp) (now buf) ⌝ }
+    ensures bytes { λ r. ⌜ Wrote (now (buf .entry)) (now (buf .exit)) at r (typeRejectOf (now (us .entry)) (now (them .entry)) n (now (stamp .entry)) (now (body .entry))) ⌝ }
+    ensures room { λ r. ⌜ r ≤ at + replyRoom ⌝ }
+{
+    let refused = number_in(body, 34, 1);
+    reject(buf, at, us, them, n, stamp, refused, 35, false, b"", 11)
 }
 
 // A Heartbeat with the 112 of a Test Request.
@@ -160,6 +178,7 @@ fn put(
             reason,
             tag,
         ),
+        Letter::RejectType => put_reject_type(buf, at, us, them, n, stamp, body),
         Letter::Fill { begin, new } => gap_fill(buf, at, us, them, begin, stamp, new),
         Letter::Logout { why } => logout(buf, at, us, them, n, stamp, why),
         Letter::Test => test_request(buf, at, us, them, n, stamp, body),

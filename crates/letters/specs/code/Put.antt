@@ -32,10 +32,13 @@ Repeats body (At start end) =
     (start ≤ end) × (end ≤ length body) × (length (take (end - start) (drop start body)) ≤ 2) × (repeated (codeOf (msgType body)) ≡ bytes (take (end - start) (drop start body)))
 Repeats body Absent = repeated (codeOf (msgType body)) ≡ absent
 
--- the two messages that are put by values of the body, from ours to peers as number n
+-- the three messages that are put by values of the body, from ours to peers as number n
 module _ (ours peers : Bytes) (n : ℕ) (stamp body : Bytes) where
   abbrev pub rejectOf : ℕ → ℕ → Bytes
   rejectOf reason tag = Reply.reject ours peers n stamp (numberIn 1 999_999_999 (firstField 34 body) otherwise 0) tag (repeated (codeOf (msgType body))) reason
+
+  abbrev pub typeRejectOf : Bytes
+  typeRejectOf = Reply.reject ours peers n stamp (numberIn 1 999_999_999 (firstField 34 body) otherwise 0) 35 absent 11
 
   abbrev pub logonOf : Value → Bytes
   logonOf reset = Reply.logon ours peers n stamp (numberIn 0 999_999_999 (firstField 108 body) otherwise 0) reset
