@@ -7,8 +7,8 @@ mod played;
 use begin::blank;
 use begin::in_eleven;
 use frame::body_of;
-use gates::is_active;
-use gates::is_spent;
+pub use gates::is_active;
+pub use gates::is_spent;
 use gates::logon_gate;
 use gates::step_gate;
 use moves::Letter;
@@ -23,13 +23,13 @@ use moves::turned;
 use own::is_test_id;
 use own::own_gate;
 use played::play;
-use played::unchanged;
+pub use played::unchanged;
 use rulebook::active;
 use rulebook::waiting;
 ghost use mathlib.Core.Path.{_≡_};
+ghost use mathlib.Core.List.{[]};
 ghost use Prim.Native.Nat.{_≤_, _<_};
 ghost use lib.ListN.{length};
-ghost use Rattle.bytes.specs.Bytes.{Bytes};
 ghost use Rattle.calendar.specs.Time.{limit};
 ghost use Rattle.session.specs.Refusals.{No};
 ghost use Rattle.moves.specs.Session.{turned};
@@ -48,8 +48,10 @@ pub enum Refusal {
     BufferShort,
     TimePast,
     BadValue,
+    NoRoom,
     NotOneFrame,
     BadRecord,
+    ReportTooLong,
 }
 
 // The document's number of a refusal.
@@ -64,8 +66,10 @@ pub fn refusal_number(k: Refusal) -> u32
         Refusal::BufferShort => 6,
         Refusal::TimePast => 7,
         Refusal::BadValue => 8,
+        Refusal::NoRoom => 9,
         Refusal::NotOneFrame => 10,
         Refusal::BadRecord => 11,
+        Refusal::ReportTooLong => 12,
     }
 }
 
@@ -93,8 +97,8 @@ pub enum Gate {
 }
 
 // A refusal: the session is Closed under 3, 4 and 5, and unchanged under the others.
-fn refused(r: Record, k: Refusal) -> Answered
-    ensures { λ a. ⌜ ((buf : Bytes) → a ≡ answeredBy r (refusing k (sessionOf r) buf)) ⌝ }
+pub fn refused(r: Record, k: Refusal) -> Answered
+    ensures { λ a. ⌜ a ≡ answeredBy r (refusing k (sessionOf r) []) ⌝ }
 {
     let answer = Answer::Refused(k);
     let closed = turned(r, Status::Closed);
@@ -106,8 +110,10 @@ fn refused(r: Record, k: Refusal) -> Answered
         Refusal::BufferShort => unchanged(r, answer),
         Refusal::TimePast => unchanged(r, answer),
         Refusal::BadValue => unchanged(r, answer),
+        Refusal::NoRoom => unchanged(r, answer),
         Refusal::NotOneFrame => unchanged(r, answer),
         Refusal::BadRecord => unchanged(r, answer),
+        Refusal::ReportTooLong => unchanged(r, answer),
     }
 }
 

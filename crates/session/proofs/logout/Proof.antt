@@ -22,7 +22,7 @@ returns : tie.Need-returns
 unfolding logout
 returns c =
     let a = c .before .before .before .before .before .before .args in
-    own-shut (a .r) (unsendable (sessionOf (a .r)) (a .time) (length (a .buf .now))) (a .time) farewell (a .buf .now) (c .before .before .before .before .own-gate .ensures) (c .before .before .gate .given .1) (c .refused .ensures (a .buf .now))
+    own-shut (a .r) (unsendable (sessionOf (a .r)) (a .time) (length (a .buf .now))) (a .time) farewell (a .buf .now) (c .before .before .before .before .own-gate .ensures) (c .before .before .gate .given .1) (c .refused .ensures)
 
 returns-2 : tie.Need-returns-2
 unfolding logout

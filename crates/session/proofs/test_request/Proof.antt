@@ -13,7 +13,7 @@ use Rattle.session.proofs.test_request.Tie as tie
 returns : tie.Need-returns
 returns c =
     let a = c .before .before .before .before .before .before .before .before .args in
-    test-8 (a .r) (a .id .now) (a .time) (a .buf .now) (c .before .before .before .before .before .own-gate .ensures) (c .before .before .before .enum-told .given .1) (c .before .before .is-test-id .ensures) (c .before .if1 .taken) (c .refused2 .ensures (a .buf .now))
+    test-8 (a .r) (a .id .now) (a .time) (a .buf .now) (c .before .before .before .before .before .own-gate .ensures) (c .before .before .before .enum-told .given .1) (c .before .before .is-test-id .ensures) (c .before .if1 .taken) (c .refused2 .ensures)
 
 play-requires : tie.Need-play-requires
 play-requires c κs =
@@ -26,7 +26,7 @@ play-requires c κs =
 returns-2 : tie.Need-returns-2
 returns-2 c =
     let a = c .before .before .before .before .before .before .before .args in
-    test-shut (a .r) (a .id .now) (a .time) (a .buf .now) (c .before .before .before .before .own-gate .ensures) (c .before .before .gate .given .1) (c .refused .ensures (a .buf .now))
+    test-shut (a .r) (a .id .now) (a .time) (a .buf .now) (c .before .before .before .before .own-gate .ensures) (c .before .before .gate .given .1) (c .refused .ensures)
 
 returns-3 : tie.Need-returns-3
 returns-3 c =
