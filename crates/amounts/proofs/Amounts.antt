@@ -9,7 +9,7 @@ use lib.Dec.{eqb, leb}
 use lib.ListN.{length, drop, getD, length-append}
 use borrow.Author.Tests.{eq-eqb, ne-eqb, eqb-true, eqb-false}
 use Rattle.bytes.specs.Bytes.{Bytes, fix, all, starts, within, digit, value, valueFrom, decimal}
-use Rattle.frame.proofs.Lists.{valueFrom-append}
+use Rattle.bytes.proofs.Lists.{valueFrom-append}
 use Rattle.bytes.proofs.Tests.{both, all-append}
 use Rattle.bytes.proofs.Numerals.{Numeral, digit-is, is-digit, is-within, digits-row}
 use Rattle.bytes.proofs.Decimals.{decimal-worth, decimal-numeral, numeral-decimal}

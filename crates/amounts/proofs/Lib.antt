@@ -1,1 +1,2 @@
 pub mod Amounts
+pub mod Placing
