@@ -16,7 +16,7 @@ use Rattle.dictionary.specs.Verdict.{nothingYet, walk}
 use Rattle.dictionary.proofs.Taken.{at, Taken, walk-field, walk-over}
 use Rattle.message.specs.Message.{Value, _is_, shown, order, valued}
 use Rattle.message.specs.Unfit.{required, unwritable, unfit}
-use Rattle.message.proofs.Rows.{partsOf, withPart}
+use Rattle.message.proofs.Cutting.{partsOf, withPart}
 use Rattle.message.proofs.Accepted.{Accepted, accepted}
 use Rattle.message.proofs.Seven.{inPlace, inOrder, needed, known}
 

@@ -15,23 +15,20 @@ use Rattle.frame.proofs.Marks.{fixt-ok}
 use Rattle.bytes.proofs.Numerals.{numeral-true}
 use Rattle.bytes.proofs.Decimals.{decimal-numeral, decimal-worth}
 use Rattle.message.specs.Message.{Field, _is_, shown, tagged, row, framed}
-use Rattle.message.proofs.Rows.{Plain, Fit, FitOne, decimal-digits, plain-part, part-field}
+use Rattle.message.proofs.Cutting.{decimal-digits, part-field}
+use Rattle.message.proofs.Rows.{Plain, Fit, FitOne, plain-part}
 
--- no `|9=` in it; it doesn't begin with `9=`; bytes; it is empty or ends in `|`
+-- no `|9=` in it; it doesn't begin with `9=`; bytes
 abbrev pub Clear : Bytes → Type 0
 Clear l = (i : ℕ) → getD l i 0 ≡ 1 → getD l (suc i) 0 ≡ 57 → getD l (suc (suc i)) 0 ≡ 61 → ⊥
 
 abbrev pub NoNine : Bytes → Type 0
 NoNine l = getD l 0 0 ≡ 57 → getD l 1 0 ≡ 61 → ⊥
 
-abbrev pub Ends : Bytes → Type 0
-Ends l = 0 < length l → getD l (length l - 1) 0 ≡ 1
-
 pub record Sound (l : Bytes) : Type 0 where
   pub clear : Clear l
   pub no-nine : NoNine l
   pub all-bytes : Byted l
-  pub ends : Ends l
 
 clear-part : (p r : Bytes) → Plain p → NoNine r → Clear r → Clear (p ++ (1 ∷ r))
 clear-part [] r h s c zero a b d = s b d
@@ -50,14 +47,6 @@ bytes-part [] r h k (suc i) = k i
 bytes-part (x ∷ p) r h k zero = h .0 .1
 bytes-part (x ∷ p) r h k (suc i) = bytes-part p r (h .1) k i
 
-ends-cons : (x : ℕ) (r : Bytes) → (length r ≡ 0 → x ≡ 1) → Ends r → Ends (x ∷ r)
-ends-cons x [] k e h = k refl
-ends-cons x (y ∷ r) k e h = let n : length (x ∷ y ∷ r) - 1 ≡ suc (length (y ∷ r) - 1) = omega arith in ap (λ (j : ℕ). getD (x ∷ y ∷ r) j 0) n ∙ e (omega arith)
-
-ends-part : (p r : Bytes) → Ends r → Ends (p ++ (1 ∷ r))
-ends-part [] r e = ends-cons 1 r (λ k. refl) e
-ends-part (x ∷ p) r e = ends-cons x (p ++ (1 ∷ r)) (λ k. absurd (omega (arith, length-append p (1 ∷ r)))) (ends-part p r e)
-
 sound-part : (t : ℕ) (v r : Bytes) → (t ≡ 9 → ⊥) → Plain v → Sound r → Sound ((decimal t ++ (61 ∷ v)) ++ (1 ∷ r))
 sound-part t v r n h s =
     let p : Plain (decimal t ++ (61 ∷ v)) = plain-part t v h in
@@ -66,16 +55,35 @@ sound-part t v r n h s =
       clear = clear-part (decimal t ++ (61 ∷ v)) r p (s .no-nine) (s .clear);
       no-nine = subst NoNine (sym e) (other-tag (decimal t) (v ++ (1 ∷ r)) (decimal-digits t) (λ k. n (sym (decimal-worth t) ∙ k)));
       all-bytes = bytes-part (decimal t ++ (61 ∷ v)) r p (s .all-bytes);
-      ends = ends-part (decimal t ++ (61 ∷ v)) r (s .ends);
     }
 
 pub sound-row : (fs : List Field) → Fit fs → Sound (row fs)
-sound-row [] h = record { clear = λ i a b c. absurd (omega arith); no-nine = λ a b. absurd (omega arith); all-bytes = λ i. omega arith; ends = λ k. absurd (omega arith) }
+sound-row [] h = record { clear = λ i a b c. absurd (omega arith); no-nine = λ a b. absurd (omega arith); all-bytes = λ i. omega arith }
 sound-row ((t is v) ∷ fs) h = go (shown v) (h .0) (sound-row fs (h .1))
   where
     go : (o : Option Bytes) → FitOne t o → Sound (row fs) → Sound (tagged t o ++ row fs)
     go none g s = s
     go (some w) g s = subst Sound (sym (part-field (decimal t) w (row fs))) (sound-part t w (row fs) (g .0) (g .1) s)
+
+-- a row is empty or ends in `|`, whatever its values
+abbrev pub Ends : Bytes → Type 0
+Ends l = 0 < length l → getD l (length l - 1) 0 ≡ 1
+
+ends-cons : (x : ℕ) (r : Bytes) → (length r ≡ 0 → x ≡ 1) → Ends r → Ends (x ∷ r)
+ends-cons x [] k e h = k refl
+ends-cons x (y ∷ r) k e h = let n : length (x ∷ y ∷ r) - 1 ≡ suc (length (y ∷ r) - 1) = omega arith in ap (λ (j : ℕ). getD (x ∷ y ∷ r) j 0) n ∙ e (omega arith)
+
+ends-part : (p r : Bytes) → Ends r → Ends (p ++ (1 ∷ r))
+ends-part [] r e = ends-cons 1 r (λ k. refl) e
+ends-part (x ∷ p) r e = ends-cons x (p ++ (1 ∷ r)) (λ k. absurd (omega (arith, length-append p (1 ∷ r)))) (ends-part p r e)
+
+pub row-ends : (fs : List Field) → Ends (row fs)
+row-ends [] = λ k. absurd (omega arith)
+row-ends ((t is v) ∷ fs) = go (shown v) (row-ends fs)
+  where
+    go : (o : Option Bytes) → Ends (row fs) → Ends (tagged t o ++ row fs)
+    go none e = e
+    go (some w) e = subst Ends (sym (part-field (decimal t) w (row fs))) (ends-part (decimal t ++ (61 ∷ w)) (row fs) e)
 
 -- a second mark would have a `|9=`
 pub no-mark : (l : Bytes) → Clear l → (q : ℕ) → At l q (fixt .mark) → ⊥
@@ -114,12 +122,12 @@ framed-length b =
     (arith, length-append (front fixt ds b) (trailer (sumOf fixt ds b)), length-append (fixt .mark) (ds ++ (1 ∷ b)), length-append ds (1 ∷ b))
 
 -- a sound body in its frame is a good frame
-module _ (b : Bytes) (s : Sound b) (begins : At b 0 (fix "35=")) (low : 5 ≤ length b) (high : length b ≤ 2048) where
+module _ (b : Bytes) (s : Sound b) (begins : At b 0 (fix "35=")) (ends : Ends b) (low : 5 ≤ length b) (high : length b ≤ 2048) where
   pub its-length : Length fixt (decimal (length b))
   its-length = length-good (length b) low high
 
   pub its-inner : Body (value (decimal (length b))) b
-  its-inner = inside b (s .all-bytes) begins (s .ends (omega arith))
+  its-inner = inside b (s .all-bytes) begins (ends (omega arith))
 
   abbrev pub good-framed : Good fixt (framed b)
   good-framed =

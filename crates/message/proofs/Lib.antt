@@ -1,5 +1,6 @@
 pub mod Writes
 pub mod Leftward
+pub mod Cutting
 pub mod Rows
 pub mod Frames
 pub mod Wholes

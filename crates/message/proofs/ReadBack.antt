@@ -19,8 +19,9 @@ use Rattle.dictionary.specs.Verdict.{verdict, walk, nothingYet}
 use Rattle.message.specs.ReadsBack.{ReadsBack}
 use Rattle.message.specs.Message.{Value, bytes, shown, row, order, valued, message, written}
 use Rattle.message.specs.Unfit.{unwritable}
-use Rattle.message.proofs.Rows.{Plain, plain-of, plain-decimal, Fit, FitOne, partsOf, cut-row, orLater, shownFor, first-of-row}
-use Rattle.message.proofs.Frames.{sound-row, good-framed, begins-35}
+use Rattle.message.proofs.Cutting.{partsOf, cut-free, orLater, shownFor, first-free}
+use Rattle.message.proofs.Rows.{Plain, plain-of, plain-decimal, Fit, FitOne, fit-free}
+use Rattle.message.proofs.Frames.{sound-row, row-ends, good-framed, begins-35}
 use Rattle.message.proofs.Wholes.{body-true}
 use Rattle.message.proofs.Accepted.{accepted}
 use Rattle.message.proofs.Seven.{known, withType, message-is, type-fits, type-read}
@@ -107,19 +108,18 @@ module _ (m : MsgType) (a : administrative m ≡ true) (vs : ℕ → Value) (fin
   written-good : (G : Good fixt (written m vs)) × (G .body ≡ body)
   unfolding written
   written-good =
-      (good-framed body (sound-row (message m vs) well-formed) (begins-35 (code35 m) (row (valued vs (order m)))) (its-bounds .0) (its-bounds .1), refl)
+      (good-framed body (sound-row (message m vs) well-formed) (begins-35 (code35 m) (row (valued vs (order m)))) (row-ends (message m vs)) (its-bounds .0) (its-bounds .1), refl)
 
   -- A CLEAN VERDICT
   written-clean : verdict body ≡ Clean
   written-clean =
-      let S = sound-row (message m vs) well-formed in
-      let B = body-true body (record { low = its-bounds .0; high = its-bounds .1; begins = begins-35 (code35 m) (row (valued vs (order m))); ends = S .ends (omega (arith, its-bounds .0)) }) in
-      let c = cut-row (message m vs) well-formed ∙ ap partsOf (message-is vs m a) in
+      let B = body-true body (record { low = its-bounds .0; high = its-bounds .1; begins = begins-35 (code35 m) (row (valued vs (order m))); ends = row-ends (message m vs) (omega (arith, its-bounds .0)) }) in
+      let c = cut-free (message m vs) (fit-free (message m vs) well-formed) ∙ ap partsOf (message-is vs m a) in
       verdict-walks m body B (type-read (row (valued vs (order m))) m a) ∙ ap (walk m nothingYet) c ∙ message-clean m a (withType m vs) whole-fine
 
   -- THE VALUES ARE READ BACK: the first field of each tag is its value
   first-is : (t : ℕ) → firstField t body ≡ cond (has (35 ∷ order m) t) (shown (withType m vs t)) none
-  first-is t = first-of-row t (message m vs) well-formed ∙ ap (shownFor t) (message-is vs m a) ∙ shown-valued t (withType m vs) (35 ∷ order m)
+  first-is t = first-free t (message m vs) (fit-free (message m vs) well-formed) ∙ ap (shownFor t) (message-is vs m a) ∙ shown-valued t (withType m vs) (35 ∷ order m)
 
   value-back : (t : ℕ) → has (order m) t ≡ true → firstField t body ≡ shown (vs t)
   value-back t h = first-is t ∙ go (eqb 35 t) refl
