@@ -1,39 +1,37 @@
 -- The written decimal reads back as its two numbers, and a decimal that is read is the one that is written for them.
-use Prim.Native.Nat.{ℕ, zero, suc, _+_, _-_, _*_, _/_, _%_, _^_, _≤_, _<_}
-use native.Mathlib.Nat.{add-zero, pow-suc}
+use Prim.Native.Nat.{ℕ, zero, suc, _+_, _-_, _*_, _/_, _%_, _≤_}
+use native.Mathlib.Nat.{add-zero}
 use native.Mathlib.Omega.{arith}
 use mathlib.Core.Path.{_≡_, refl, sym, ap, _∙_, subst}
-use mathlib.Core.List.{List, [], _∷_, _++_, append-assoc, append-nil}
+use mathlib.Core.List.{[], _∷_, _++_, append-assoc, append-nil}
 use mathlib.Core.Bool.{Bool, true, false, cond, not, _&&_, _||_, and-false, false≢true}
-use lib.Dec.{eqb, leb}
-use lib.ListN.{length, drop, getD, length-append}
-use borrow.Author.Tests.{eq-eqb, ne-eqb, eqb-true, eqb-false}
-use Rattle.bytes.specs.Bytes.{Bytes, fix, all, starts, within, digit, value, valueFrom, decimal}
+use lib.Dec.{eqb}
+use lib.ListN.{length, drop, length-append}
+use borrow.Author.Tests.{ne-eqb, eqb-true, eqb-false}
+use Rattle.bytes.specs.Bytes.{Bytes, Byted, all, digit, value, valueFrom, decimal}
 use Rattle.bytes.proofs.Lists.{valueFrom-append}
 use Rattle.bytes.proofs.Tests.{both, all-append}
 use Rattle.bytes.proofs.Numerals.{Numeral, digit-is, is-digit, is-within, digits-row}
 use Rattle.bytes.proofs.Decimals.{decimal-worth, decimal-numeral, numeral-decimal}
-use Rattle.decimals.specs.Decimal.{leading, trailing, plain, pointed, isDecimal, placesOf, wholeOf, rangedOf, decimalOf}
-use Rattle.decimals.specs.declared.Decimal.{Decimal}
+use Rattle.decimals.specs.Decimal.{leading, trailing, plain, pointed, isDecimal, placesOf, wholeOf, inRange, rangedOf, decimalOf}
 use Rattle.decimals.specs.declared.Decimal.the-variants.{Is, OutOfRange, Bad}
 use Rattle.calendar.specs.Time.{padded}
 use Rattle.kinds.specs.Kind.{Kind, allowed}
 use Rattle.kinds.specs.Kind as Kind
-use Rattle.message.proofs.Rows.{decimal-digits}
-use Rattle.amounts.specs.Amount.{Amount, without, pointing, amountText, given, amountIn}
-
-below-power : (n : ℕ) → n < 10 ^ suc n
-below-power zero = omega arith
-below-power (suc n) = omega (arith, pow-suc 10 (suc n), below-power n)
+use Rattle.calendar.proofs.Texts.{padded-from}
+use Rattle.message.proofs.Pointed.{leading-digits, decimal-length}
+use Rattle.message.proofs.Cutting.{below-power, decimal-digits}
+use Rattle.message.proofs.ReadBack.{small-bytes}
+use Rattle.amounts.specs.Amount.{Amount, without, pointing, amountText, amountIn}
 
 -- DIGITS, then what is no digit
-pub leading-digits : (l r : Bytes) → all digit l ≡ true → leading r ≡ [] → leading (l ++ r) ≡ l
-leading-digits [] r h e = e
-leading-digits (x ∷ l) r h e = let w = both (digit x) (all digit l) h in rw (w .0, leading-digits l r (w .1) e)
+pub leading-first : (l r : Bytes) → all digit l ≡ true → leading r ≡ [] → leading (l ++ r) ≡ l
+leading-first [] r h e = e
+leading-first (x ∷ l) r h e = let w = both (digit x) (all digit l) h in rw (w .0, leading-first l r (w .1) e)
 
-pub trailing-digits : (l r : Bytes) → all digit l ≡ true → trailing r ≡ r → trailing (l ++ r) ≡ r
-trailing-digits [] r h e = e
-trailing-digits (x ∷ l) r h e = let w = both (digit x) (all digit l) h in rw (w .0, trailing-digits l r (w .1) e)
+pub trailing-last : (l r : Bytes) → all digit l ≡ true → trailing r ≡ r → trailing (l ++ r) ≡ r
+trailing-last [] r h e = e
+trailing-last (x ∷ l) r h e = let w = both (digit x) (all digit l) h in rw (w .0, trailing-last l r (w .1) e)
 
 split : (v : Bytes) → leading v ++ trailing v ≡ v
 split [] = refl
@@ -42,14 +40,6 @@ split (x ∷ v) = go (digit x) (split v)
     go : (b : Bool) → leading v ++ trailing v ≡ v → cond b (x ∷ leading v) [] ++ cond b (trailing v) (x ∷ v) ≡ x ∷ v
     go true e = ap (λ (l : Bytes). x ∷ l) e
     go false e = refl
-
-leading-all : (v : Bytes) → all digit (leading v) ≡ true
-leading-all [] = refl
-leading-all (x ∷ v) = go (digit x) refl (leading-all v)
-  where
-    go : (b : Bool) → digit x ≡ b → all digit (leading v) ≡ true → all digit (cond b (x ∷ leading v) []) ≡ true
-    go true e h = rw (e, h)
-    go false e h = refl
 
 -- THE DIGITS OF A NUMBER, with no zero in front but a lone 0
 decimal-all : (n : ℕ) → all digit (decimal n) ≡ true
@@ -106,16 +96,6 @@ without-from k n (d ∷ l) h =
     let e : k + suc (length l) ≡ suc k + length l = omega arith in
     rw e (without-from (suc k) (n * 10 + (d - 48)) l (w .1) ∙ rw q)
 
-padded-from : (k n : ℕ) (l : Bytes) → all digit l ≡ true → padded (k + length l) (valueFrom n l) ≡ padded k n ++ l
-padded-from k n [] h = rw (add-zero k) (sym (append-nil (padded k n)))
-padded-from k n (d ∷ l) h =
-    let w = both (digit d) (all digit l) h in
-    let D = digit-is d (w .0) in
-    let q : (n * 10 + (d - 48)) / 10 ≡ n = omega arith in
-    let r : 48 + (n * 10 + (d - 48)) % 10 ≡ d = omega arith in
-    let e : k + suc (length l) ≡ suc k + length l = omega arith in
-    rw e (padded-from (suc k) (n * 10 + (d - 48)) l (w .1) ∙ rw (q, r) (append-assoc (padded k n) (d ∷ []) l))
-
 -- WHAT IS WRITTEN READS BACK as its two numbers, whatever they are
 pub record Reads (v : Bytes) (w p : ℕ) : Type 0 where
   pub form : isDecimal v ≡ true
@@ -129,14 +109,14 @@ reads-by v l t e f p q = record { form = rw (e, f, p, q); whole = rw (e, f); pla
 pub pointing-reads : (w k : ℕ) → Reads (pointing w k) w k
 pointing-reads w zero =
     let n = append-nil (decimal w) in
-    let R = reads-by (decimal w) (decimal w) [] (ap leading (sym n) ∙ leading-digits (decimal w) [] (decimal-all w) refl) (ap trailing (sym n) ∙ trailing-digits (decimal w) [] (decimal-all w) refl) (decimal-plain w) refl in
+    let R = reads-by (decimal w) (decimal w) [] (ap leading (sym n) ∙ leading-first (decimal w) [] (decimal-all w) refl) (ap trailing (sym n) ∙ trailing-last (decimal w) [] (decimal-all w) refl) (decimal-plain w) refl in
     record { form = R .form; whole = R .whole ∙ joined 0 w; places = R .places }
 pointing-reads w (suc k) =
     let q : ℕ = without (suc k) w in
     let ds : Bytes = padded (suc k) w in
     let n : length ds ≡ suc k = padded-length (suc k) w in
     let g : pointed (46 ∷ ds) ≡ true = rw (ne-eqb (length ds) 0 (λ e. omega arith), padded-all (suc k) w) in
-    let R = reads-by (pointing w (suc k)) (decimal q) (46 ∷ ds) (leading-digits (decimal q) (46 ∷ ds) (decimal-all q) refl) (trailing-digits (decimal q) (46 ∷ ds) (decimal-all q) refl) (decimal-plain q) g in
+    let R = reads-by (pointing w (suc k)) (decimal q) (46 ∷ ds) (leading-first (decimal q) (46 ∷ ds) (decimal-all q) refl) (trailing-last (decimal q) (46 ∷ ds) (decimal-all q) refl) (decimal-plain q) g in
     record { form = R .form; whole = R .whole ∙ joined (suc k) w; places = R .places ∙ n }
 
 -- in their ranges: (d) "reading gives back both"
@@ -151,6 +131,32 @@ unfolding amountText amountIn decimalOf allowed
 amount-back a h =
     let R = pointing-reads (a .whole) (a .places) in
     rw (R .form, h) (rw (R .whole, R .places))
+
+-- it has at most fifteen digits and a point, all of them bytes
+pub pointing-length : (w k : ℕ) → w ≤ 999_999_999_999_999 → k ≤ 8 → length (pointing w k) ≤ 16
+pointing-length w k h g =
+    let R = pointing-reads w k in
+    decimal-length (pointing w k) (R .form) (rw (R .whole, R .places, is-within 0 999_999_999_999_999 w (omega arith) h, is-within 0 8 k (omega arith) g))
+
+bytes-append : (k l : Bytes) → Byted k → Byted l → Byted (k ++ l)
+bytes-append [] l h g i = g i
+bytes-append (x ∷ k) l h g zero = h 0
+bytes-append (x ∷ k) l h g (suc i) = bytes-append k l (λ j. h (suc j)) g i
+
+digits-bytes : (l : Bytes) → all digit l ≡ true → Byted l
+digits-bytes [] h i = omega arith
+digits-bytes (x ∷ l) h zero = omega (arith, digit-is x (both (digit x) (all digit l) h .0))
+digits-bytes (x ∷ l) h (suc i) = digits-bytes l (both (digit x) (all digit l) h .1) i
+
+pub amount-bytes : (a : Amount) → Byted (amountText a)
+unfolding amountText
+amount-bytes a = go (a .whole) (a .places)
+  where
+    go : (w k : ℕ) → Byted (pointing w k)
+    go w zero = digits-bytes (decimal w) (decimal-all w)
+    go w (suc k) =
+        bytes-append (decimal (without (suc k) w)) (46 ∷ padded (suc k) w) (digits-bytes (decimal (without (suc k) w)) (decimal-all (without (suc k) w)))
+        (bytes-append (46 ∷ []) (padded (suc k) w) (small-bytes (46 ∷ []) refl) (digits-bytes (padded (suc k) w) (padded-all (suc k) w)))
 
 -- WHAT IS READ IS WHAT IS WRITTEN for the two numbers
 pointing-by : (l t : Bytes) → plain l ≡ true → all digit l ≡ true → pointed t ≡ true → pointing (value (l ++ drop 1 t)) (length (drop 1 t)) ≡ l ++ t
@@ -173,7 +179,7 @@ pub pointing-only : (v : Bytes) → isDecimal v ≡ true → pointing (wholeOf v
 unfolding isDecimal
 pointing-only v h =
     let w = both (plain (leading v)) (pointed (trailing v)) h in
-    pointing-by (leading v) (trailing v) (w .0) (leading-all v) (w .1) ∙ split v
+    pointing-by (leading v) (trailing v) (w .0) (leading-digits v) (w .1) ∙ split v
 
 -- each text has one pair, each pair one text
 pub decimal-only : (v : Bytes) (w k : ℕ) → decimalOf v ≡ Is w k → pointing w k ≡ v
@@ -188,7 +194,7 @@ decimal-only v w k e = go (isDecimal v) refl e
     ranged false f g = let z : _≡_ {A = ℕ} 0 1 = cc in absurd (omega arith)
 
     go : (b : Bool) → isDecimal v ≡ b → cond b (rangedOf (wholeOf v) (length (placesOf v))) Bad ≡ Is w k → pointing w k ≡ v
-    go true f g = ranged (within 0 999_999_999_999_999 (wholeOf v) && within 0 8 (length (placesOf v))) f g
+    go true f g = ranged (inRange (wholeOf v) (length (placesOf v))) f g
     go false f g = let z : _≡_ {A = ℕ} 0 1 = cc in absurd (omega arith)
 
 pub one-text : (u v : Bytes) (w k : ℕ) → decimalOf u ≡ Is w k → decimalOf v ≡ Is w k → u ≡ v

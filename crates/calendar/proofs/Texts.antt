@@ -50,7 +50,7 @@ padded-value (suc k) n h =
     let l : n / 10 < 10 ^ k = omega (arith, pow-suc 10 k) in
     valueFrom-append 0 (padded k (n / 10)) ((48 + n % 10) ∷ []) ∙ omega (arith, padded-value k (n / 10) l)
 
-padded-from : (k n : ℕ) (l : Bytes) → all digit l ≡ true → padded (k + length l) (valueFrom n l) ≡ padded k n ++ l
+pub padded-from : (k n : ℕ) (l : Bytes) → all digit l ≡ true → padded (k + length l) (valueFrom n l) ≡ padded k n ++ l
 padded-from k n [] h = rw (add-zero k) (sym (append-nil (padded k n)))
 padded-from k n (d ∷ l) h =
     let w = both (digit d) (all digit l) h in

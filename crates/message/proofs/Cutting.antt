@@ -19,7 +19,7 @@ use Rattle.kinds.proofs.Values.{same-true, same-refl}
 use Rattle.message.specs.Message.{Field, _is_, shown, tagged, row}
 
 -- THE DIGITS OF A NUMBER
-below-power : (n : ℕ) → n < 10 ^ suc n
+pub below-power : (n : ℕ) → n < 10 ^ suc n
 below-power zero = omega arith
 below-power (suc n) = omega (arith, pow-suc 10 (suc n), below-power n)
 

@@ -12,7 +12,7 @@ use Rattle.bytes.proofs.Tests.{both, all-append}
 use Rattle.bytes.proofs.Numerals.{within-is, Numeral, few-enough}
 use Rattle.decimals.specs.Decimal.{leading, trailing, plain, pointed, isDecimal, placesOf, wholeOf, inRange}
 
-leading-digits : (v : Bytes) → all digit (leading v) ≡ true
+pub leading-digits : (v : Bytes) → all digit (leading v) ≡ true
 leading-digits [] = refl
 leading-digits (x ∷ v) = go (digit x) refl (leading-digits v)
   where

@@ -53,7 +53,7 @@ widths m (t ∷ ts) = width m t + widths m ts
 pub length-tagged : (t : ℕ) (v : Bytes) → length (tagged t (some v)) ≡ length (decimal t) + length v + 2
 length-tagged t v = omega (arith, length-append (decimal t ++ fix "=" ++ v) (fix "|"), length-append (decimal t ++ fix "=") v, length-append (decimal t) (fix "="))
 
-field-short : (m : MsgType) (t : ℕ) (o : Option Bytes) → unwritable m t o ≡ false → length (tagged t o) ≤ width m t
+pub field-short : (m : MsgType) (t : ℕ) (o : Option Bytes) → unwritable m t o ≡ false → length (tagged t o) ≤ width m t
 unfolding width
 field-short m t none u = omega arith
 field-short m t (some v) u =
