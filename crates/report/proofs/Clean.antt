@@ -1,27 +1,27 @@
 -- A report that our call writes has a clean verdict.
-use Prim.Native.Nat.{ℕ, zero, suc, _+_, _^_, _≤_, _<_}
-use native.Mathlib.Omega.{arith}
+use Prim.Native.Nat.{ℕ}
 use mathlib.Core.Path.{_≡_, refl, sym, ap, _∙_}
 use mathlib.Core.List.{List, [], _∷_, _++_}
-use mathlib.Core.Bool.{Bool, true, false, cond, not, _&&_, _||_, false≢true}
+use mathlib.Core.Bool.{Bool, true, false, not, _&&_}
 use mathlib.Core.Option.{Option, none, some}
 use lib.Dec.{eqb}
-use lib.ListN.{length, take, drop}
-use borrow.Author.Tests.{ne-eqb, eq-eqb}
-use Rattle.bytes.specs.Bytes.{Bytes, fix, any, has, within, value, numeral, decimal}
+use lib.ListN.{take, drop}
+use Rattle.bytes.specs.Bytes.{Bytes, fix, any, has, within, decimal}
 use Rattle.bytes.proofs.Tests.{both, neither, any-append}
 use Rattle.calendar.specs.Time.{utc}
-use Rattle.kinds.specs.Kind.{kindOf}
 use Rattle.table.specs.declared.MsgType.the-variants.{TradeCaptureReport}
 use Rattle.dictionary.specs.declared.Says.the-variants.{Nothing}
 use Rattle.dictionary.specs.declared.Verdict.the-variants.{Clean}
-use Rattle.table.specs.Dictionary.{Group, №453, №580, №552, header, code35, fields, listed, groupsOf, member, rowsOf, frameTag, inDictionary}
+use Rattle.table.specs.Dictionary.{Group, №453, №580, №552, header, fields, listed, groupsOf, member, rowsOf, frameTag, inDictionary}
 use Rattle.dictionary.specs.Verdict.{Open, opened, missing, walk}
-use Rattle.message.specs.Message.{Value, number, bytes, Field, _is_, shown}
-use Rattle.message.proofs.Rows.{partsOf, withPart}
-use Rattle.report.specs.Values.{Values, optional, own, unwritable, unfit}
+use Rattle.message.specs.Message.{number, bytes, Field, _is_, shown}
+use Rattle.message.proofs.Cutting.{partsOf, withPart}
+use Rattle.message.specs.Unfit.{unwritable, unfit}
+use Rattle.report.specs.Values.{Values, optional, own}
 use Rattle.report.specs.Report.{fieldsWith}
-use Rattle.report.proofs.Taken.{not-true, Accepted, accepted, here, later, fit-from}
+use borrow.Author.Tests.{not-true}
+use Rattle.message.proofs.Accepted.{Accepted, accepted}
+use Rattle.report.proofs.Taken.{here, later, fit-from}
 use Rattle.report.proofs.Walking.{at, Known, step-outside}
 use Rattle.report.proofs.Groups.{side, side-clean}
 

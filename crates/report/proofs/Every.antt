@@ -10,7 +10,7 @@ use lib.Seq.{drop-append-seam}
 use borrow.Author.Tests.{eqb-true}
 use Rattle.bytes.specs.Bytes.{Bytes, fix, decimal}
 use Rattle.message.specs.Message.{Field, _is_, shown, row}
-use Rattle.message.proofs.Rows.{decimal-digits, same-decimal, starts-tag, withPart, partsOf}
+use Rattle.message.proofs.Cutting.{decimal-digits, same-decimal, starts-tag, withPart, partsOf}
 use Rattle.message.proofs.Cutting.{Free, cut-free}
 use Rattle.report.specs.Report.{everyOfParts, everyField}
 

@@ -1,26 +1,26 @@
 -- A report's groups are walked clean: each party, their count, and the side around them.
-use Prim.Native.Nat.{ℕ, zero, suc, _+_}
+use Prim.Native.Nat.{ℕ, _+_}
 use native.Mathlib.Omega.{arith}
-use mathlib.Core.Path.{_≡_, refl, sym, ap, _∙_}
+use mathlib.Core.Path.{_≡_, refl, _∙_}
 use mathlib.Core.List.{List, [], _∷_, _++_}
-use mathlib.Core.Bool.{Bool, true, false, cond, not, _&&_, _||_, false≢true}
+use mathlib.Core.Bool.{Bool, true, false, not}
 use mathlib.Core.Option.{Option, none, some}
 use lib.Dec.{eqb}
 use lib.ListN.{length, drop}
 use borrow.Author.Tests.{ne-eqb, eq-eqb}
 use Rattle.bytes.specs.Bytes.{Bytes, any, has, value, decimal}
 use Rattle.bytes.proofs.Decimals.{decimal-worth}
-use Rattle.kinds.specs.Kind.{kindOf}
 use Rattle.table.specs.declared.MsgType.the-variants.{TradeCaptureReport}
-use Rattle.dictionary.specs.declared.Says.{Says}
-use Rattle.dictionary.specs.declared.Says.the-variants.{Nothing, Reason}
+use Rattle.dictionary.specs.declared.Says.the-variants.{Nothing}
 use Rattle.dictionary.specs.declared.Verdict.the-variants.{Clean}
-use Rattle.table.specs.Dictionary.{№453, №580, №552, header, code35, fields, listed, groupsOf, member, rowsOf, inDictionary}
+use Rattle.table.specs.Dictionary.{№453, №580, №552, header, fields, groupsOf, member, rowsOf, inDictionary}
 use Rattle.dictionary.specs.Verdict.{Open, incomplete, closing, closingAll, missing, walk, rule8, _when_}
-use Rattle.message.specs.Message.{Value, number, bytes, Field, _is_, shown}
-use Rattle.message.proofs.Rows.{partsOf, withPart}
-use Rattle.report.specs.Values.{Party, optional, members, group, unwritable, unfit}
-use Rattle.report.proofs.Taken.{Accepted, accepted, here, later, fit-from}
+use Rattle.message.specs.Message.{number, bytes, Field, _is_}
+use Rattle.message.proofs.Cutting.{partsOf}
+use Rattle.message.specs.Unfit.{unfit}
+use Rattle.report.specs.Values.{Party, optional, members, group}
+use Rattle.message.proofs.Accepted.{Accepted, accepted}
+use Rattle.report.proofs.Taken.{here, later, fit-from}
 use Rattle.report.proofs.Walking.{at, Known, step-inside}
 
 quiet : (b : Bool) → (Nothing when b) ≡ Nothing

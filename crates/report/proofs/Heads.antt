@@ -1,10 +1,10 @@
 -- A report's body is its header and then the fields of its values, the same when it is sent again: what a replay copies. And how long it can be.
-use Prim.Native.Nat.{ℕ, _+_, _≤_, _<_}
+use Prim.Native.Nat.{ℕ, _≤_, _<_}
 use native.Mathlib.Omega.{arith}
 use mathlib.Core.Path.{_≡_, refl, sym, ap, _∙_}
 use mathlib.Core.List.{List, [], _∷_, _++_, append-assoc}
-use mathlib.Core.Bool.{true, not, _&&_}
-use mathlib.Core.Option.{Option, none, some}
+use mathlib.Core.Bool.{true, not}
+use mathlib.Core.Option.{some}
 use lib.ListN.{length, length-append}
 use Rattle.bytes.specs.Bytes.{Bytes, fix, has, within, decimal}
 use Rattle.bytes.proofs.Tests.{both}
@@ -14,8 +14,9 @@ use Rattle.calendar.specs.Time.{utc}
 use Rattle.calendar.proofs.Times.{utc-length}
 use Rattle.message.specs.Message.{Value, absent, number, bytes, Field, _is_, tagged, field, row}
 use Rattle.report.specs.Values.{own, takes}
-use Rattle.report.specs.Report.{Report, fieldsOf, fieldsWith, compID}
-use Rattle.report.proofs.Sizes.{field-long}
+use Rattle.message.specs.Unfit.{compID}
+use Rattle.report.specs.Report.{Report, fieldsOf, fieldsWith}
+use Rattle.message.proofs.Sizes.{length-tagged}
 use Rattle.report.proofs.Longest.{own-long}
 
 row-append : (fs gs : List Field) → row (fs ++ gs) ≡ row fs ++ row gs
@@ -51,8 +52,8 @@ module _ (us them : Bytes) (r : Report) where
         let d : Bytes = tagged 34 (some n) in
         let e : Bytes = tagged 52 (some (utc (r .time))) in
         let N = decimal-numeral 8 (r .number) low (omega arith) in
-        omega (arith, length-append a (b ++ (c ++ (d ++ (e ++ [])))), length-append b (c ++ (d ++ (e ++ []))), length-append c (d ++ (e ++ [])), length-append d (e ++ []), length-append e [], field-long (decimal 35) (fix "AE"), field-long (decimal 49) us, field-long (decimal 56) them, field-long (decimal 34) n, field-long (decimal 52) (utc (r .time)), two 35 (omega arith) (omega arith), two 49 (omega arith) (omega arith), two 56 (omega arith) (omega arith), two 34 (omega arith) (omega arith), two 52 (omega arith) (omega arith), utc-length (r .time), short us ours, short them peers, N .few)
+        omega (arith, length-append a (b ++ (c ++ (d ++ (e ++ [])))), length-append b (c ++ (d ++ (e ++ []))), length-append c (d ++ (e ++ [])), length-append d (e ++ []), length-append e [], length-tagged 35 (fix "AE"), length-tagged 49 us, length-tagged 56 them, length-tagged 34 n, length-tagged 52 (utc (r .time)), two 35 (omega arith) (omega arith), two 49 (omega arith) (omega arith), two 56 (omega arith) (omega arith), two 34 (omega arith) (omega arith), two 52 (omega arith) (omega arith), utc-length (r .time), short us ours, short them peers, N .few)
 
     -- a body buffer of 768 bytes holds every report whose values are taken, also one that refusal 12 is for
-    pub body-long : takes (r .values) ≡ true → length (row (fieldsOf us them r)) ≤ 732
+    pub body-long : takes (r .values) ≡ true → length (row (fieldsOf us them r)) ≤ 720
     body-long h = omega (arith, ap length sent-split, length-append (row (head us them (r .number) absent (r .time) absent)) (row (own (r .values))), head-long, own-long (r .values) h)

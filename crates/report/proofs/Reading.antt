@@ -1,23 +1,22 @@
 -- A report's body read back: its values, its number and its time.
-use Prim.Native.Nat.{ℕ, _<_}
-use native.Mathlib.Omega.{arith}
-use mathlib.Core.Path.{_≡_, refl, sym, ap, _∙_}
+use Prim.Native.Nat.{ℕ}
+use mathlib.Core.Path.{_≡_, refl, ap, _∙_}
 use mathlib.Core.List.{List, [], _∷_}
 use mathlib.Core.Option.{Option, none, some}
-use mathlib.Core.Bool.{Bool, true, false, cond}
+use mathlib.Core.Bool.{true, false}
 use lib.Dec.{eqb}
 use lib.ListN.{drop}
-use Rattle.bytes.specs.Bytes.{Bytes, fix, has, value, decimal}
+use Rattle.bytes.specs.Bytes.{Bytes, has, value}
 use Rattle.bytes.proofs.Decimals.{decimal-worth}
-use Rattle.calendar.specs.Time.{utc, limit, microseconds}
-use Rattle.calendar.proofs.Times.{utc-no-bar, utc-names}
+use Rattle.calendar.specs.Time.{utc}
+use Rattle.calendar.proofs.Times.{utc-no-bar}
 use Rattle.fields.specs.Field.{firstField}
-use Rattle.message.specs.Message.{Value, absent, number, bytes, Field, _is_, shown, row}
-use Rattle.message.proofs.Rows.{orLater, shownFor}
+use Rattle.message.specs.Message.{Field, shown, row}
+use Rattle.message.proofs.Cutting.{orLater, shownFor}
 use Rattle.message.proofs.Cutting.{FreeOne, Free, decimal-free, first-free}
-use Rattle.amounts.specs.Amount.{Amount, amountText, amountIn}
+use Rattle.amounts.specs.Amount.{amountText, amountIn}
 use Rattle.report.specs.Values.{Party, Values, optional, members, group, own, takes}
-use Rattle.report.specs.Report.{Report, fieldsWith, orEmpty, everyField, partiesOf, partiesIn, valuesIn, reportIn}
+use Rattle.report.specs.Report.{fieldsWith, orEmpty, everyField, partiesOf, partiesIn, valuesIn}
 use Rattle.amounts.proofs.Amounts.{amount-back}
 use Rattle.report.proofs.Every.{andLater, everyFor, every-free}
 use Rattle.report.proofs.Taken.{own-free, quantity-fits, price-fits}

@@ -1,16 +1,17 @@
 -- How long a report is when it is sent again.
-use Prim.Native.Nat.{ℕ, zero, suc, _+_, _^_, _≤_, _<_}
+use Prim.Native.Nat.{ℕ, _+_, _^_, _≤_, _<_}
 use native.Mathlib.Omega.{arith}
-use mathlib.Core.Path.{_≡_, refl, sym, ap, _∙_}
-use mathlib.Core.List.{List, [], _∷_, _++_}
-use mathlib.Core.Option.{Option, none, some}
+use mathlib.Core.Path.{_≡_, refl}
+use mathlib.Core.List.{[], _++_}
+use mathlib.Core.Option.{some}
 use lib.ListN.{length, length-append}
 use Rattle.bytes.specs.Bytes.{Bytes, fix, decimal}
-use Rattle.frame.specs.Frame.{fixt, front, trailer, sumOf}
 use Rattle.bytes.proofs.Decimals.{decimal-numeral}
 use Rattle.calendar.specs.Time.{utc}
 use Rattle.calendar.proofs.Times.{utc-length}
-use Rattle.message.specs.Message.{bytes, tagged, row, framed}
+use Rattle.message.specs.Message.{bytes, tagged, row}
+use Rattle.message.proofs.Frames.{framed-length}
+use Rattle.message.proofs.Sizes.{length-tagged}
 use Rattle.report.specs.Values.{own}
 use Rattle.report.specs.Report.{Report, fieldsOf, fieldsWith, sent, again}
 
@@ -22,16 +23,6 @@ digits-43 = refl
 digits-122 : length (decimal 122) ≡ 3
 unfolding decimal
 digits-122 = refl
-
-pub field-long : (t v : Bytes) → length (t ++ (61 ∷ []) ++ v ++ (1 ∷ [])) ≡ length t + length v + 2
-field-long t v = omega (arith, length-append (t ++ (61 ∷ []) ++ v) (1 ∷ []), length-append (t ++ (61 ∷ [])) v, length-append t (61 ∷ []))
-
-pub framed-long : (b : Bytes) → length (framed b) ≡ 21 + length (decimal (length b)) + length b
-unfolding framed fixt
-framed-long b =
-    let d : Bytes = decimal (length b) in
-    let tl : Bytes = trailer (sumOf fixt d b) in
-    omega (arith, length-append (fixt .mark ++ (d ++ (1 ∷ b))) tl, length-append (fixt .mark) (d ++ (1 ∷ b)), length-append d (1 ∷ b))
 
 seven : (a b c d e f g h : Bytes) → length (a ++ (b ++ (c ++ (d ++ (e ++ (f ++ (g ++ h))))))) ≡ length a + length b + length c + length d + length e + length f + length g + length h
 seven a b c d e f g h =
@@ -52,12 +43,12 @@ module _ (us them : Bytes) (r : Report) (t : ℕ) where
       let c : Bytes = tagged 56 (some them) in
       let d : Bytes = tagged 34 (some (decimal (r .number))) in
       let h : Bytes = row (own (r .values)) in
-      omega (arith, seven a b c d (tagged 43 (some (fix "Y"))) (tagged 52 (some (utc t))) (tagged 122 (some (utc (r .time)))) h, seven a b c d [] (tagged 52 (some (utc (r .time)))) [] h, field-long (decimal 43) (fix "Y"), field-long (decimal 52) (utc t), field-long (decimal 52) (utc (r .time)), field-long (decimal 122) (utc (r .time)), digits-43, digits-122, utc-length t, utc-length (r .time))
+      omega (arith, seven a b c d (tagged 43 (some (fix "Y"))) (tagged 52 (some (utc t))) (tagged 122 (some (utc (r .time)))) h, seven a b c d [] (tagged 52 (some (utc (r .time)))) [] h, length-tagged 43 (fix "Y"), length-tagged 52 (utc t), length-tagged 52 (utc (r .time)), length-tagged 122 (utc (r .time)), digits-43, digits-122, utc-length t, utc-length (r .time))
 
   -- "Refusal 6 now reads 600 bytes": a report of at most 512 bytes has at most 549 when it is sent again
   pub again-fits : length (sent us them r) ≤ 512 → length (again us them r t) ≤ 549
   unfolding sent again
   again-fits h =
-      let n : length resent < 10 ^ 3 = omega (arith, framed-long fresh, body-more) in
+      let n : length resent < 10 ^ 3 = omega (arith, framed-length fresh, body-more) in
       let N = decimal-numeral 2 (length resent) (omega (arith, body-more)) n in
-      omega (arith, framed-long fresh, framed-long resent, body-more, N .few)
+      omega (arith, framed-length fresh, framed-length resent, body-more, N .few)

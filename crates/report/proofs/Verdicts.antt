@@ -1,18 +1,17 @@
 -- The verdict on a report, sent or sent again: clean.
-use Prim.Native.Nat.{ℕ, _+_, _-_, _^_, _≤_, _<_}
+use Prim.Native.Nat.{ℕ, _≤_, _<_}
 use native.Mathlib.Omega.{arith}
-use mathlib.Core.Path.{_≡_, refl, sym, ap, _∙_}
-use mathlib.Core.List.{List, [], _∷_, _++_}
-use mathlib.Core.Bool.{Bool, true, false, cond, not, _&&_, _||_}
+use mathlib.Core.Path.{_≡_, refl, ap, _∙_}
+use mathlib.Core.List.{List, _++_}
+use mathlib.Core.Bool.{true, false, not}
 use mathlib.Core.Option.{Option, none, some}
-use lib.Dec.{eqb}
-use lib.ListN.{length, take, getD, length-append}
+use lib.ListN.{length, take, length-append}
 use borrow.Author.Tests.{ne-eqb}
-use Rattle.bytes.specs.Bytes.{Bytes, fix, any, has, within, value, numeral, decimal}
+use Rattle.bytes.specs.Bytes.{Bytes, fix, any, has, within, decimal}
 use Rattle.bytes.proofs.Tests.{both}
 use Rattle.bytes.proofs.Numerals.{within-is, is-within, numeral-true}
 use Rattle.bytes.proofs.Decimals.{decimal-numeral, decimal-worth}
-use Rattle.fields.specs.Field.{parts, firstField, isBody}
+use Rattle.fields.specs.Field.{parts, firstField}
 use Rattle.kinds.specs.Kind.{kindOf, isNumber, formed, allowed}
 use Rattle.calendar.specs.Time.{utc, limit}
 use Rattle.calendar.proofs.Times.{utc-length, utc-formed, utc-no-bar, utc-allowed}
@@ -20,17 +19,19 @@ use Rattle.table.specs.declared.MsgType.the-variants.{TradeCaptureReport}
 use Rattle.dictionary.specs.declared.Verdict.the-variants.{Clean}
 use Rattle.table.specs.Dictionary.{№453, №580, №552, header, code35, fields, groupsOf, rowsOf, typeOf}
 use Rattle.dictionary.specs.Verdict.{verdict, walk, nothingYet}
-use Rattle.message.specs.Message.{Value, absent, number, bytes, Field, _is_, tagged, row, framed}
-use Rattle.message.proofs.Rows.{partsOf}
-use Rattle.message.proofs.Frames.{begins-35}
-use Rattle.message.proofs.Wholes.{IsBody, body-true}
-use Rattle.message.proofs.Cutting.{FreeOne, cut-free, decimal-free, first-free, row-ends}
-use Rattle.report.specs.Values.{Values, optional, own, rejected, required, unwritable, unfit, takes}
-use Rattle.report.specs.Report.{Report, fieldsWith, fieldsOf, compID, sent, again, sendable}
-use Rattle.report.proofs.Taken.{not-true, all-fit}
+use Rattle.message.specs.Message.{number, bytes, Field, _is_, tagged, row}
+use Rattle.message.proofs.Cutting.{partsOf}
+use Rattle.message.proofs.Frames.{begins-35, row-ends, framed-length}
+use Rattle.message.proofs.Wholes.{body-true}
+use Rattle.message.proofs.Cutting.{FreeOne, cut-free, decimal-free, first-free}
+use Rattle.message.specs.Unfit.{rejected, required, unwritable, unfit}
+use Rattle.report.specs.Values.{Values, optional, takes}
+use Rattle.message.specs.Unfit.{compID}
+use Rattle.report.specs.Report.{Report, fieldsWith, fieldsOf, sent, sendable}
+use Rattle.report.proofs.Taken.{all-fit}
 use Rattle.report.proofs.Reading.{all-free}
-use Rattle.report.proofs.Promises.{Sendable, sendable-is, comp-free}
-use Rattle.report.proofs.Sizes.{framed-long, body-more}
+use Rattle.report.proofs.ReadBack.{Sendable, sendable-is, comp-free}
+use Rattle.report.proofs.Sizes.{body-more}
 use Rattle.report.proofs.Clean.{walk-clean}
 
 -- THE HEADER'S VALUES are such as the dictionary takes
@@ -131,7 +132,7 @@ module _ (us them : Bytes) (r : Report) (h : sendable us them r ≡ true) where
 
   pub few-bytes : length (row (fieldsOf us them r)) ≤ 491
   unfolding sent
-  few-bytes = omega (arith, framed-long (row (fieldsOf us them r)), S .short)
+  few-bytes = omega (arith, framed-length (row (fieldsOf us them r)), S .short)
 
   pub sent-clean : verdict (row (fieldsOf us them r)) ≡ Clean
   sent-clean =

@@ -1,30 +1,18 @@
 -- The walk over a report's fields: outside the groups, in the side's group, and in the group of the parties inside it.
-use Prim.Native.Nat.{ℕ, zero, suc, _+_}
-use native.Mathlib.Omega.{arith}
-use mathlib.Core.Path.{_≡_, refl, sym, ap, _∙_}
+use Prim.Native.Nat.{ℕ}
+use mathlib.Core.Path.{_≡_, refl}
 use mathlib.Core.List.{List, [], _∷_, _++_}
-use mathlib.Core.Bool.{Bool, true, false, cond, not, _&&_, _||_, false≢true}
-use mathlib.Core.Option.{Option, none, some}
-use lib.Dec.{eqb}
-use lib.ListN.{length}
-use borrow.Author.Tests.{ne-eqb}
-use Rattle.bytes.specs.Bytes.{Bytes, any, all, has, within, decimal}
-use Rattle.bytes.proofs.Numerals.{within-is}
-use Rattle.bytes.proofs.Tests.{both, neither}
-use Rattle.bytes.proofs.Decimals.{decimal-numeral, decimal-worth}
-use Rattle.fields.specs.Field.{partOf, field}
-use Rattle.fields.proofs.Items.{field-part}
+use mathlib.Core.Bool.{true, false, not, _&&_}
+use Rattle.bytes.specs.Bytes.{Bytes, any, has, within, decimal}
+use Rattle.fields.specs.Field.{field}
 use Rattle.table.specs.declared.MsgType.{MsgType}
 use Rattle.table.specs.declared.MsgType.the-variants.{TradeCaptureReport}
-use Rattle.dictionary.specs.declared.Says.the-variants.{Nothing, Reason}
-use Rattle.dictionary.specs.declared.Verdict.{Verdict}
-use Rattle.dictionary.specs.declared.Verdict.the-variants.{Clean}
-use Rattle.table.specs.Dictionary.{Row, Group, №453, №580, №552, header, code35, fields, administrative, listed, groupsOf, member, rowsOf, frameTag, inDictionary}
-use Rattle.dictionary.specs.Verdict.{Open, Past, said, after, taken, opened, joined, left, skipped, firstMember, incomplete, closing, missing, walk, rules4to10, rule1, rule2, rule3, rule4, rule5, rule6, rule7, rule8, rule9, rule10, _when_}
-use Rattle.message.specs.Message.{Value, bytes, Field, _is_, shown}
-use Rattle.message.proofs.Rows.{partsOf, withPart}
-use Rattle.report.specs.Values.{Party, members, unwritable, unfit}
-use Rattle.report.proofs.Taken.{Accepted, accepted, here, later}
+use Rattle.dictionary.specs.declared.Says.the-variants.{Nothing}
+use Rattle.table.specs.Dictionary.{header, code35, administrative, listed, groupsOf, member, frameTag, inDictionary}
+use Rattle.dictionary.specs.Verdict.{Open, Past, said, after, taken, opened, joined, left, skipped, firstMember, incomplete, walk, rules4to10, rule1, rule2, rule3, rule4, rule5, rule6, rule7, rule8, rule9, rule10, _when_}
+use Rattle.dictionary.proofs.Taken.{part-written}
+use Rattle.report.specs.Values.{members}
+use Rattle.message.proofs.Accepted.{Accepted}
 
 abbrev AE : MsgType
 AE = TradeCaptureReport
@@ -35,12 +23,6 @@ at seen gs = record { seen = seen; inside = gs }
 application : administrative AE ≡ false
 unfolding administrative code35
 application = refl
-
-part-clean : (t : ℕ) (v : Bytes) → within 1 99_999 t ≡ true → partOf (decimal t ++ (61 ∷ v)) ≡ field t v
-part-clean t v h =
-    let w = within-is 1 99_999 t h in
-    let N = decimal-numeral 4 t (omega arith) (omega arith) in
-    field-part (decimal t) (N .whole) v N ∙ ap (λ (n : ℕ). field n v) (decimal-worth t)
 
 -- what the table says of a tag of the report
 pub record Known (t : ℕ) : Type 0 where
@@ -53,14 +35,14 @@ module _ (seen : List ℕ) (t : ℕ) (v : Bytes) (K : Known t) (out : member AE 
     (early : (listed header t && any (λ s. not (listed header s)) seen) ≡ false) (A : Accepted AE t v) where
   said-outside : said AE (at seen []) (field t v) ≡ Nothing
   unfolding said rules4to10 left skipped rule1 rule2 rule3 rule4 rule5 rule6 rule7 rule8 rule9 rule10
-  said-outside = rw (application, K .inside, A .some-byte, K .frame, out, fresh, A .own, early, A .form, A .value)
+  said-outside = rw (application, K .inside, A .filled, K .frame, out, fresh, A .own, early, A .form, A .right)
 
   after-outside : after AE (at seen []) (field t v) ≡ at (t ∷ seen) (opened (groupsOf AE) t v)
   unfolding after taken left skipped
   after-outside = rw application
 
   pub step-outside : (ps : List Bytes) → walk AE (at seen []) ((decimal t ++ (61 ∷ v)) ∷ ps) ≡ walk AE (at (t ∷ seen) (opened (groupsOf AE) t v)) ps
-  step-outside ps = rw (part-clean t v (K .tag), said-outside, after-outside)
+  step-outside ps = rw (part-written t v (K .tag), said-outside, after-outside)
 
 -- IN A GROUP
 module _ (seen : List ℕ) (g : Open) (gs : List Open) (t : ℕ) (v : Bytes) (K : Known t) (of-group : member AE t ≡ true) (no-header : listed header t ≡ false)
@@ -68,11 +50,11 @@ module _ (seen : List ℕ) (g : Open) (gs : List Open) (t : ℕ) (v : Bytes) (K 
     (A : Accepted AE t v) where
   said-inside : said AE (at seen (g ∷ gs)) (field t v) ≡ Nothing
   unfolding said rules4to10 left skipped rule1 rule2 rule3 rule4 rule5 rule6 rule7 rule9 rule10
-  said-inside = rw (application, its, whole, K .inside, A .some-byte, K .frame, of-group, A .own, no-header, in-turn, A .form, A .value)
+  said-inside = rw (application, its, whole, K .inside, A .filled, K .frame, of-group, A .own, no-header, in-turn, A .form, A .right)
 
   after-inside : after AE (at seen (g ∷ gs)) (field t v) ≡ at seen (opened (groupsOf AE) t v ++ (joined g t ∷ gs))
   unfolding after taken left skipped
   after-inside = rw (application, its)
 
   pub step-inside : (ps : List Bytes) → walk AE (at seen (g ∷ gs)) ((decimal t ++ (61 ∷ v)) ∷ ps) ≡ walk AE (at seen (opened (groupsOf AE) t v ++ (joined g t ∷ gs))) ps
-  step-inside ps = rw (part-clean t v (K .tag), said-inside, after-inside)
+  step-inside ps = rw (part-written t v (K .tag), said-inside, after-inside)

@@ -1,8 +1,8 @@
--- The promises on the report message, together.
+-- The promise on reports (specs/Promise.antt), put together.
 -- Assumes nothing.
 use Prim.Native.Nat.{ℕ, _≤_, _<_}
 use native.Mathlib.Omega.{arith}
-use mathlib.Core.Path.{_≡_, refl, sym, ap, _∙_}
+use mathlib.Core.Path.{_≡_, refl, ap, _∙_}
 use mathlib.Core.Bool.{true}
 use mathlib.Core.Option.{some}
 use lib.ListN.{length}
@@ -15,10 +15,11 @@ use Rattle.message.specs.Message.{bytes, row}
 use Rattle.message.specs.Whole.{bodyIn}
 use Rattle.message.proofs.Wholes.{body-back}
 use Rattle.report.specs.Report.{Report, fieldsOf, fieldsWith, sent, again, sendable, valuesIn}
-use Rattle.report.specs.Promise.{Lawful}
+use Rattle.report.specs.Promise.{Promise}
 use Rattle.report.proofs.Reading.{values-back}
-use Rattle.report.proofs.Promises.{sendable-is, comp-free, sent-read, sent-back, read-only, sent-one, sent-bar}
+use Rattle.report.proofs.ReadBack.{sendable-is, comp-free, sent-read, sent-back, read-only, sent-one, sent-bar}
 use Rattle.report.proofs.Sizes.{again-fits}
+use Rattle.report.proofs.Good.{sent-good, again-good}
 use Rattle.report.proofs.Verdicts.{sent-clean, again-clean}
 
 module _ (us them : Bytes) (r : Report) where
@@ -42,16 +43,25 @@ module _ (us them : Bytes) (r : Report) where
   again-short : (t : ℕ) → sendable us them r ≡ true → length (again us them r t) ≤ 600
   again-short t h = let n = again-fits us them r t (sendable-is us them r h .short) in omega arith
 
-pub lawful : Lawful
-lawful =
+pub promise : Promise
+promise =
     record {
-      reads = sent-read;
-      back = sent-back;
+      written = λ us them r h.
+          record {
+            good = sent-good us them r h;
+            bar = sent-bar us them r;
+            short = sendable-is us them r h .short;
+            clean = clean us them r h;
+            reads = sent-read us them r h;
+            back = sent-back us them r h;
+          };
+      repeated = λ us them r h t.
+          record {
+            good = λ ours peers b. again-good us them r h ours peers b t;
+            short = again-short us them r t h;
+            clean = again-is-clean us them r t h;
+            reads = again-reads us them r t h;
+          };
       only = read-only;
       one = sent-one;
-      bar = sent-bar;
-      clean = clean;
-      again-reads = again-reads;
-      again-clean = again-is-clean;
-      again-short = again-short;
     }

@@ -3,25 +3,26 @@
 use Prim.Native.Nat.{ℕ, _≤_, _<_}
 use native.Mathlib.Omega.{arith}
 use mathlib.Core.Path.{_≡_, refl, sym, ap, _∙_}
-use mathlib.Core.List.{List, [], _∷_, _++_, append-assoc}
+use mathlib.Core.List.{[], _∷_, _++_, append-assoc}
 use mathlib.Core.Option.{Option, none, some}
-use mathlib.Core.Bool.{Bool, true, false, cond, not, _&&_, false≢true}
+use mathlib.Core.Bool.{Bool, true, false, cond, not, _&&_}
 use lib.Dec.{ltb, leb}
 use lib.ListN.{length}
 use borrow.Author.Tests.{ltb-true, leb-true}
 use Rattle.bytes.specs.Bytes.{Bytes, fix, has, same, within, value, decimal}
-use Rattle.frame.specs.Frame.{fixt, front, trailer, threeDigits, sumOf}
+use Rattle.frame.specs.Frame.{fixt, front, threeDigits, sumOf}
 use Rattle.bytes.proofs.Tests.{both}
 use Rattle.bytes.proofs.Numerals.{within-is}
-use Rattle.calendar.specs.Time.{utc, limit, microseconds}
+use Rattle.calendar.specs.Time.{limit, microseconds}
 use Rattle.calendar.proofs.Times.{utc-names}
 use Rattle.kinds.proofs.Values.{same-true, same-refl}
 use Rattle.message.specs.Message.{row, framed}
 use Rattle.message.specs.Whole.{bodyIn}
 use Rattle.message.proofs.Wholes.{body-back}
-use Rattle.report.specs.Values.{Values, takes}
-use Rattle.report.specs.Report.{Report, fieldsOf, sent, the, orEmpty, valuesIn, reportIn, compID, sendable, ifWritten, read}
-use Rattle.report.proofs.Taken.{not-true}
+use Rattle.report.specs.Values.{takes}
+use Rattle.message.specs.Unfit.{compID}
+use Rattle.report.specs.Report.{Report, fieldsOf, sent, the, orEmpty, valuesIn, reportIn, sendable, ifWritten, read}
+use borrow.Author.Tests.{not-true}
 use Rattle.report.proofs.Reading.{number-back, stamp-back, values-back}
 
 -- WHAT THE CALL CAN WRITE, one by one
