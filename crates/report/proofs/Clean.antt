@@ -15,6 +15,7 @@ use Rattle.dictionary.specs.declared.Verdict.the-variants.{Clean}
 use Rattle.table.specs.Dictionary.{Group, №453, №580, №552, header, fields, listed, groupsOf, member, rowsOf, frameTag, inDictionary}
 use Rattle.dictionary.specs.Verdict.{Open, opened, missing, walk}
 use Rattle.message.specs.Message.{number, bytes, Field, _is_, shown}
+use Rattle.message.proofs.Clean.{meet}
 use Rattle.message.proofs.Cutting.{partsOf, withPart}
 use Rattle.message.specs.Unfit.{unwritable, unfit}
 use Rattle.report.specs.Values.{Values, optional, own}
@@ -34,10 +35,6 @@ inPlace past t =
 abbrev pub inOrder : List ℕ → List Field → Bool
 inOrder past [] = true
 inOrder past ((t is v) ∷ fs) = inPlace past t && inOrder (t ∷ past) fs
-
-abbrev meet : ℕ → Option Bytes → List ℕ → List ℕ
-meet t none l = l
-meet t (some v) l = t ∷ l
 
 abbrev met : List ℕ → List Field → List ℕ
 met seen [] = seen

@@ -3,12 +3,10 @@ use Prim.Native.Nat.{ℕ, _≤_, _<_}
 use native.Mathlib.Omega.{arith}
 use mathlib.Core.Path.{_≡_, refl, sym, ap, _∙_}
 use mathlib.Core.List.{List, [], _∷_, _++_, append-assoc}
-use mathlib.Core.Bool.{true, not}
+use mathlib.Core.Bool.{true}
 use mathlib.Core.Option.{some}
 use lib.ListN.{length, length-append}
-use Rattle.bytes.specs.Bytes.{Bytes, fix, has, within, decimal}
-use Rattle.bytes.proofs.Tests.{both}
-use Rattle.bytes.proofs.Numerals.{within-is}
+use Rattle.bytes.specs.Bytes.{Bytes, fix, decimal}
 use Rattle.bytes.proofs.Decimals.{decimal-numeral}
 use Rattle.calendar.specs.Time.{utc}
 use Rattle.calendar.proofs.Times.{utc-length}
@@ -17,6 +15,7 @@ use Rattle.report.specs.Values.{own, takes}
 use Rattle.message.specs.Unfit.{compID}
 use Rattle.report.specs.Report.{Report, fieldsOf, fieldsWith}
 use Rattle.message.proofs.Sizes.{length-tagged}
+use Rattle.report.proofs.ReadBack.{comp-long}
 use Rattle.report.proofs.Longest.{own-long}
 
 row-append : (fs gs : List Field) → row (fs ++ gs) ≡ row fs ++ row gs
@@ -38,10 +37,6 @@ module _ (us them : Bytes) (r : Report) where
   two : (t : ℕ) → 1 ≤ t → t < 100 → length (decimal t) ≤ 2
   two t h k = decimal-numeral 1 t h k .few
 
-  short : (c : Bytes) → compID c ≡ true → length c ≤ 11
-  unfolding compID
-  short c h = within-is 1 11 (length c) (both (within 1 11 (length c)) (not (has c 1)) h .0) .1
-
   module _ (ours : compID us ≡ true) (peers : compID them ≡ true) (low : 1 ≤ r .number) (high : r .number ≤ 999_999_999) where
     pub head-long : length (row (head us them (r .number) absent (r .time) absent)) ≤ 77
     head-long =
@@ -52,7 +47,7 @@ module _ (us them : Bytes) (r : Report) where
         let d : Bytes = tagged 34 (some n) in
         let e : Bytes = tagged 52 (some (utc (r .time))) in
         let N = decimal-numeral 8 (r .number) low (omega arith) in
-        omega (arith, length-append a (b ++ (c ++ (d ++ (e ++ [])))), length-append b (c ++ (d ++ (e ++ []))), length-append c (d ++ (e ++ [])), length-append d (e ++ []), length-append e [], length-tagged 35 (fix "AE"), length-tagged 49 us, length-tagged 56 them, length-tagged 34 n, length-tagged 52 (utc (r .time)), two 35 (omega arith) (omega arith), two 49 (omega arith) (omega arith), two 56 (omega arith) (omega arith), two 34 (omega arith) (omega arith), two 52 (omega arith) (omega arith), utc-length (r .time), short us ours, short them peers, N .few)
+        omega (arith, length-append a (b ++ (c ++ (d ++ (e ++ [])))), length-append b (c ++ (d ++ (e ++ []))), length-append c (d ++ (e ++ [])), length-append d (e ++ []), length-append e [], length-tagged 35 (fix "AE"), length-tagged 49 us, length-tagged 56 them, length-tagged 34 n, length-tagged 52 (utc (r .time)), two 35 (omega arith) (omega arith), two 49 (omega arith) (omega arith), two 56 (omega arith) (omega arith), two 34 (omega arith) (omega arith), two 52 (omega arith) (omega arith), utc-length (r .time), comp-long us ours .1, comp-long them peers .1, N .few)
 
     -- a body buffer of 768 bytes holds every report whose values are taken, also one that refusal 12 is for
     pub body-long : takes (r .values) ≡ true → length (row (fieldsOf us them r)) ≤ 720

@@ -58,6 +58,10 @@ pub comp-free : (c : Bytes) → compID c ≡ true → has c 1 ≡ false
 unfolding compID
 comp-free c h = not-true (has c 1) (both (within 1 11 (length c)) (not (has c 1)) h .1)
 
+pub comp-long : (c : Bytes) → compID c ≡ true → (1 ≤ length c) × (length c ≤ 11)
+unfolding compID
+comp-long c h = within-is 1 11 (length c) (both (within 1 11 (length c)) (not (has c 1)) h .0)
+
 -- READ BACK
 report-by : (b : Bytes) (r : Report) → valuesIn b ≡ r .values → value (the 34 b) ≡ r .number → microseconds (the 52 b) ≡ r .time → reportIn b ≡ r
 unfolding reportIn

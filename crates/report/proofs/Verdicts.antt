@@ -3,13 +3,12 @@ use Prim.Native.Nat.{ℕ, _≤_, _<_}
 use native.Mathlib.Omega.{arith}
 use mathlib.Core.Path.{_≡_, refl, ap, _∙_}
 use mathlib.Core.List.{List, _++_}
-use mathlib.Core.Bool.{true, false, not}
+use mathlib.Core.Bool.{true, false}
 use mathlib.Core.Option.{Option, none, some}
 use lib.ListN.{length, take, length-append}
 use borrow.Author.Tests.{ne-eqb}
-use Rattle.bytes.specs.Bytes.{Bytes, fix, any, has, within, decimal}
-use Rattle.bytes.proofs.Tests.{both}
-use Rattle.bytes.proofs.Numerals.{within-is, is-within, numeral-true}
+use Rattle.bytes.specs.Bytes.{Bytes, fix, any, decimal}
+use Rattle.bytes.proofs.Numerals.{is-within, numeral-true}
 use Rattle.bytes.proofs.Decimals.{decimal-numeral, decimal-worth}
 use Rattle.fields.specs.Field.{parts, firstField}
 use Rattle.kinds.specs.Kind.{kindOf, isNumber, formed, allowed}
@@ -30,15 +29,11 @@ use Rattle.message.specs.Unfit.{compID}
 use Rattle.report.specs.Report.{Report, fieldsWith, fieldsOf, sent, sendable}
 use Rattle.report.proofs.Taken.{all-fit}
 use Rattle.report.proofs.Reading.{all-free}
-use Rattle.report.proofs.ReadBack.{Sendable, sendable-is, comp-free}
+use Rattle.report.proofs.ReadBack.{Sendable, sendable-is, comp-free, comp-long}
 use Rattle.report.proofs.Sizes.{body-more}
 use Rattle.report.proofs.Clean.{walk-clean}
 
 -- THE HEADER'S VALUES are such as the dictionary takes
-comp-long : (c : Bytes) → compID c ≡ true → (1 ≤ length c) × (length c ≤ 11)
-unfolding compID
-comp-long c h = within-is 1 11 (length c) (both (within 1 11 (length c)) (not (has c 1)) h .0)
-
 fits-49 : (c : Bytes) → compID c ≡ true → rejected TradeCaptureReport 49 c ≡ false
 unfolding rejected rowsOf header fields groupsOf №453 №580 №552 kindOf formed allowed
 fits-49 c h =

@@ -29,7 +29,7 @@ pub record Frame (m body : Bytes) : Type 0 where
   pub its-body : frame .body ≡ body
 
 -- "Trade Capture Report .. must be written, and read back"
-pub record Sent (us them : Bytes) (r : Report) : Type 0 where
+pub record Written (us them : Bytes) (r : Report) : Type 0 where
   -- a good frame ..
   pub good : Byted us → Byted them → OfBytes (own (r .values)) → Frame (sent us them r) (bodyIn (sent us them r))
   -- .. whose last byte is `|` whatever its values are, ..
@@ -44,15 +44,15 @@ pub record Sent (us them : Bytes) (r : Report) : Type 0 where
   pub back : read us them (sent us them r) ≡ some r
 
 -- Q-4: "each kept report goes out again under its old number with 43=Y, a new 52 and its first 52 as 122"; "refusal 6 now reads 600 bytes"
-pub record SentAgain (us them : Bytes) (r : Report) (t : ℕ) : Type 0 where
+pub record Repeated (us them : Bytes) (r : Report) (t : ℕ) : Type 0 where
   pub good : Byted us → Byted them → OfBytes (own (r .values)) → Frame (again us them r t) (bodyIn (again us them r t))
   pub short : length (again us them r t) ≤ 600
   pub clean : t < limit → verdict (bodyIn (again us them r t)) ≡ Clean
   pub reads : valuesIn (bodyIn (again us them r t)) ≡ r .values
 
 pub record Promise : Type 0 where
-  pub written : (us them : Bytes) (r : Report) → sendable us them r ≡ true → Sent us them r
-  pub repeated : (us them : Bytes) (r : Report) → sendable us them r ≡ true → (t : ℕ) → SentAgain us them r t
+  pub written : (us them : Bytes) (r : Report) → sendable us them r ≡ true → Written us them r
+  pub repeated : (us them : Bytes) (r : Report) → sendable us them r ≡ true → (t : ℕ) → Repeated us them r t
   -- Q-4: "one AE frame as our report call writes it": the strict reader reads nothing but what our call writes, byte for byte
   pub only : (us them m : Bytes) (r : Report) → read us them m ≡ some r → (sendable us them r ≡ true) × (m ≡ sent us them r)
   -- two different reports never have the same bytes, whoever sends them
