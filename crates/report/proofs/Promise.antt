@@ -13,10 +13,12 @@ use Rattle.dictionary.specs.declared.Verdict.the-variants.{Clean}
 use Rattle.dictionary.specs.Verdict.{verdict}
 use Rattle.message.specs.Message.{bytes, row}
 use Rattle.message.specs.Whole.{bodyIn}
+use Rattle.fields.specs.Field.{firstField}
+use Rattle.message.proofs.Cutting.{shownFor, first-free}
 use Rattle.message.proofs.Wholes.{body-back}
 use Rattle.report.specs.Report.{Report, fieldsOf, fieldsWith, sent, again, sendable, valuesIn}
 use Rattle.report.specs.Promise.{Promise}
-use Rattle.report.proofs.Reading.{values-back}
+use Rattle.report.proofs.Reading.{all-free, values-back}
 use Rattle.report.proofs.ReadBack.{sendable-is, comp-free, sent-read, sent-back, read-only, sent-one, sent-bar}
 use Rattle.report.proofs.Sizes.{again-fits}
 use Rattle.report.proofs.Good.{sent-good, again-good}
@@ -30,6 +32,14 @@ module _ (us them : Bytes) (r : Report) where
   resent-body : (t : ℕ) → bodyIn (again us them r t) ≡ row (fieldsWith us them (r .number) (bytes (fix "Y")) t (bytes (utc (r .time))) (r .values))
   unfolding again
   resent-body t = body-back (row (fieldsWith us them (r .number) (bytes (fix "Y")) t (bytes (utc (r .time))) (r .values)))
+
+  resent-first : (t u : ℕ) → sendable us them r ≡ true
+      → firstField u (bodyIn (again us them r t)) ≡ shownFor u (fieldsWith us them (r .number) (bytes (fix "Y")) t (bytes (utc (r .time))) (r .values))
+  resent-first t u h =
+      let S = sendable-is us them r h in
+      ap (firstField u) (resent-body t)
+      ∙ first-free u (fieldsWith us them (r .number) (bytes (fix "Y")) t (bytes (utc (r .time))) (r .values))
+      (all-free us them (r .number) (some (fix "Y")) t (some (utc (r .time))) (r .values) (comp-free us (S .ours)) (comp-free them (S .peers)) refl (utc-no-bar (r .time)) (S .taken))
 
   again-reads : (t : ℕ) → sendable us them r ≡ true → valuesIn (bodyIn (again us them r t)) ≡ r .values
   again-reads t h =
@@ -57,10 +67,14 @@ promise =
           };
       repeated = λ us them r h t.
           record {
+            number = resent-first us them r t 34 h;
+            duplicate = resent-first us them r t 43 h;
+            new-52 = resent-first us them r t 52 h;
+            first-52 = resent-first us them r t 122 h;
+            reads = again-reads us them r t h;
             good = λ ours peers b. again-good us them r h ours peers b t;
             short = again-short us them r t h;
             clean = again-is-clean us them r t h;
-            reads = again-reads us them r t h;
           };
       only = read-only;
       one = sent-one;

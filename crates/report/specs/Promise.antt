@@ -6,11 +6,12 @@ use mathlib.Core.List.{List, _++_, [], _∷_}
 use mathlib.Core.Bool.{true}
 use mathlib.Core.Option.{some}
 use lib.ListN.{length}
-use Rattle.bytes.specs.Bytes.{Bytes, fix, Byted}
+use Rattle.bytes.specs.Bytes.{Bytes, fix, decimal, Byted}
 use Rattle.frame.specs.Frame.{fixt, Good}
 use Rattle.dictionary.specs.declared.Verdict.the-variants.{Clean}
 use Rattle.dictionary.specs.Verdict.{verdict}
-use Rattle.calendar.specs.Time.{limit}
+use Rattle.fields.specs.Field.{firstField}
+use Rattle.calendar.specs.Time.{utc, limit}
 use Rattle.message.specs.Message.{absent, number, bytes, Field, _is_}
 use Rattle.message.specs.Whole.{bodyIn}
 use Rattle.report.specs.Values.{own}
@@ -43,12 +44,17 @@ pub record Written (us them : Bytes) (r : Report) : Type 0 where
   -- .. by the strict reader too
   pub back : read us them (sent us them r) ≡ some r
 
--- Q-4: "each kept report goes out again under its old number with 43=Y, a new 52 and its first 52 as 122"; "refusal 6 now reads 600 bytes"
+-- Q-4: "each kept report goes out again under its old number with 43=Y, a new 52 and its first 52 as 122", and with its values
 pub record Repeated (us them : Bytes) (r : Report) (t : ℕ) : Type 0 where
+  pub number : firstField 34 (bodyIn (again us them r t)) ≡ some (decimal (r .number))
+  pub duplicate : firstField 43 (bodyIn (again us them r t)) ≡ some (fix "Y")
+  pub new-52 : firstField 52 (bodyIn (again us them r t)) ≡ some (utc t)
+  pub first-52 : firstField 122 (bodyIn (again us them r t)) ≡ some (utc (r .time))
+  pub reads : valuesIn (bodyIn (again us them r t)) ≡ r .values
+  -- a good frame with a clean verdict, and "refusal 6 now reads 600 bytes" is enough for it
   pub good : Byted us → Byted them → OfBytes (own (r .values)) → Frame (again us them r t) (bodyIn (again us them r t))
   pub short : length (again us them r t) ≤ 600
   pub clean : t < limit → verdict (bodyIn (again us them r t)) ≡ Clean
-  pub reads : valuesIn (bodyIn (again us them r t)) ≡ r .values
 
 pub record Promise : Type 0 where
   pub written : (us them : Bytes) (r : Report) → sendable us them r ≡ true → Written us them r
