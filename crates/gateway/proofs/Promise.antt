@@ -41,7 +41,7 @@ use Rattle.moves.specs.declared.record.Record.{Record}
 use Rattle.session.specs.declared.Answer.{Answer}
 use Rattle.session.specs.declared.Answer.the-variants as Answer
 use Rattle.session.specs.declared.Refusal.{Refusal}
-use Rattle.session.specs.declared.Refusal.the-variants.{SessionClosed, NotLogon, BadLogon, NumbersSpent, BufferShort, TimePast, BadValue, NotOneFrame, BadRecord}
+use Rattle.session.specs.declared.Refusal.the-variants.{SessionClosed, NotLogon, BadLogon, NumbersSpent, BufferShort, TimePast, BadValue, NoRoom, NotOneFrame, BadRecord, ReportTooLong}
 use Rattle.moves.specs.declared.record.Status.the-variants.{Closed}
 use Rattle.session.proofs.Promise as Session
 use Rattle.border.specs.Numbers.{refusalOf, valueOf}
@@ -101,8 +101,10 @@ module _ (ids : Bytes) (words : List ℕ) (r : Record) (lies : recordIn ids word
   refused-words BufferShort = inl (loaded-saves ids words r lies)
   refused-words TimePast = inl (loaded-saves ids words r lies)
   refused-words BadValue = inl (loaded-saves ids words r lies)
+  refused-words NoRoom = inl (loaded-saves ids words r lies)
   refused-words NotOneFrame = inl (loaded-saves ids words r lies)
   refused-words BadRecord = inl (loaded-saves ids words r lies)
+  refused-words ReportTooLong = inl (loaded-saves ids words r lies)
 
   -- a call that leaves the outcome o of the session that lies there
   module _ (buf : Bytes) (o : Outcome) (kept : Kept o (sessionOf r) buf) where
