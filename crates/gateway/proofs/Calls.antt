@@ -15,7 +15,8 @@ use Rattle.writer.specs.declared.Values.{Values}
 use Rattle.writer.specs.declared.Written.{Written}
 use Rattle.moves.specs.Words.{if_then_else_}
 use Rattle.session.specs.Refusals.{numbers}
-use Rattle.moves.specs.Session.{compID, fresh, turned}
+use Rattle.moves.specs.Session.{fresh, turned}
+use Rattle.message.specs.Unfit.{compID}
 use Rattle.moves.specs.Held.{sessionOf}
 use Rattle.session.specs.Held.{answeredBy, Leaves, answeredNew}
 use Rattle.session.specs.Calls.{keeping, step, tick, logout, test-request, new, reconnect}

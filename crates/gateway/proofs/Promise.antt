@@ -31,7 +31,8 @@ use Rattle.replies.proofs.Promise as Replies
 use Rattle.writer.proofs.Promise as Writer
 use Rattle.message.proofs.Joined.{joined-frames}
 use Rattle.moves.specs.Words.{if_then_else_}
-use Rattle.moves.specs.Session.{Session, code, compID, inRange, fresh, turned}
+use Rattle.moves.specs.Session.{Session, code, inRange, fresh, turned}
+use Rattle.message.specs.Unfit.{compID}
 use Rattle.session.specs.Refusals.{No, numbers}
 use Rattle.moves.specs.Held.{held, sessionOf, with}
 use Rattle.session.specs.Held.{padded, recordOf}

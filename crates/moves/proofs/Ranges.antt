@@ -9,7 +9,8 @@ use borrow.Author.Tests.{lt-leb, le-leb, not-true, not-false}
 use Rattle.bytes.specs.Bytes.{Bytes, has, within}
 use Rattle.bytes.proofs.Numerals.{within-is}
 use Rattle.bytes.proofs.Tests.{both}
-use Rattle.moves.specs.Session.{stringTo, compID, numbered, inRange}
+use Rattle.moves.specs.Session.{numbered, inRange}
+use Rattle.message.specs.Unfit.{stringTo, compID}
 use Rattle.moves.specs.Held.{held, sessionOf}
 use Rattle.moves.specs.declared.record.Record.{Record}
 

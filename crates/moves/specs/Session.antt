@@ -1,8 +1,8 @@
 -- The record of a session and its ranges.
 use Prim.Native.Nat.{ℕ}
-use mathlib.Core.Bool.{Bool, not, _&&_}
-use lib.ListN.{length}
-use Rattle.bytes.specs.Bytes.{Bytes, byte, has, within}
+use mathlib.Core.Bool.{Bool, _&&_}
+use Rattle.bytes.specs.Bytes.{Bytes, within}
+use Rattle.message.specs.Unfit.{compID}
 use Rattle.moves.specs.Words.{_=?_}
 use Rattle.moves.specs.declared.record.Status.{Status}
 use Rattle.moves.specs.declared.record.Status.the-variants.{Waiting, Active, Closed}
@@ -47,14 +47,7 @@ sent-at t s = record { ours = s .ours; peers = s .peers; status = s .status; E =
 abbrev pub fresh : Bytes → Bytes → Session
 fresh us them = record { ours = us; peers = them; status = Waiting; E = 1; next = 1; heartbeat = 30; sent = 0 }
 
--- "strings of 1 to .. bytes, none `|`"
-abbrev pub stringTo : ℕ → Bytes → Bool
-stringTo most v = within 1 most (length v) && not (has v (byte "|"))
-
 -- "CompIDs (1 to 11 bytes, no `|`)"; "numbers 1 to 999,999,999, heartbeat 1 to 60"
-unfoldable pub compID : Bytes → Bool
-compID c = stringTo 11 c
-
 abbrev pub numbered : ℕ → Bool
 numbered n = within 1 999_999_999 n
 

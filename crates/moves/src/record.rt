@@ -1,7 +1,8 @@
 // The record of a session, its ranges and its changes.
 use bytes::has;
 ghost use mathlib.Core.Path.{_≡_};
-ghost use Rattle.moves.specs.Session.{turned, stringTo, compID, numbered, inRange};
+ghost use Rattle.moves.specs.Session.{turned, numbered, inRange};
+ghost use Rattle.message.specs.Unfit.{stringTo, compID};
 ghost use Rattle.moves.specs.Held.{sessionOf, held, with};
 ghost use Rattle.moves.specs.code.Plan.{changed};
 

@@ -1,3 +1,2 @@
 pub mod Call
-pub mod Held
-pub mod Promise
+pub mod code

@@ -11,7 +11,8 @@ use borrow.Author.Tests.{lt-ltb, le-ltb, lt-leb, le-leb, leb-false, ltb-false, n
 use Rattle.bytes.specs.Bytes.{Bytes, Byted}
 use Rattle.calendar.specs.Time.{limit}
 use Rattle.moves.specs.Words.{first, _when_}
-use Rattle.moves.specs.Session.{_==_, Session, stringTo, inRange}
+use Rattle.moves.specs.Session.{_==_, Session, inRange}
+use Rattle.message.specs.Unfit.{stringTo}
 use Rattle.moves.specs.Moves as Words
 use Rattle.moves.specs.Moves.{Deeds, Write, Becomes}
 use Rattle.session.specs.Calls.{Outcome, outcome, making, refusing, spent, unsendable, testID, test-request}

@@ -157,9 +157,15 @@ pub fn kind_of(e: Entry, m: MsgType) -> Kind
     }
 }
 
-// A line of the table: tag, number of the kind, marks, and, where the tag is a member of a group, the messages that have the group and its count
-// tag (0: none).
-pub struct Line(pub u32, pub u32, pub u32, pub u32, pub u32);
+// A line of the table: tag; number of the kind, and 32 times the count tag of the group that the tag is a member of; marks; and the messages that have
+// that group. (Four numbers and not five, since the table is laid out at each verdict.)
+pub struct Line(pub u32, pub u32, pub u32, pub u32);
+
+const OF_453: u32 = 453 * 32;
+
+const OF_580: u32 = 580 * 32;
+
+const OF_552: u32 = 552 * 32;
 
 // The entry that a line is.
 pub fn entry_of(line: Line) -> Entry
@@ -168,10 +174,10 @@ pub fn entry_of(line: Line) -> Entry
     let marks = line.2;
     Entry {
         tag: line.0,
-        kind: line.1,
+        kind: line.1 % 32,
         marks,
         member: Member {
-            group: line.4,
+            group: line.1 / 32,
             first: (marks >> 31) % 2 == 1,
             marks: line.3,
         },
@@ -183,57 +189,57 @@ pub const TAGS: usize = 51;
 
 // The tags of the frame, then those of the lists below as they come; a line's place is also the place of its tag's mark.
 const TABLE: [Line; TAGS] = [
-    Line(8, STRING, FRAME, 0, 0),
-    Line(9, STRING, FRAME, 0, 0),
-    Line(10, STRING, FRAME, 0, 0),
-    Line(35, STRING, HEADER, 0, 0),
-    Line(49, STRING, HEADER, 0, 0),
-    Line(56, STRING, HEADER, 0, 0),
-    Line(34, COUNTED, HEADER, 0, 0),
-    Line(52, TIME, HEADER, 0, 0),
-    Line(43, FLAG, HEADER, 0, 0),
-    Line(97, FLAG, HEADER, 0, 0),
-    Line(122, TIME, HEADER, 0, 0),
-    Line(1128, NINE, HEADER, 0, 0),
-    Line(112, STRING_64, IN_0 + IN_1, 0, 0),
-    Line(7, COUNTED, IN_2, 0, 0),
-    Line(16, NUMBER, IN_2, 0, 0),
-    Line(45, COUNTED, IN_3, 0, 0),
-    Line(371, NUMBER, IN_3, 0, 0),
-    Line(372, STRING, IN_3, 0, 0),
-    Line(373, NUMBER, IN_3, 0, 0),
-    Line(58, STRING_256, IN_3 + IN_5 + IN_AD, 0, 0),
-    Line(36, COUNTED, IN_4, 0, 0),
-    Line(123, FLAG, IN_4, 0, 0),
-    Line(1409, NUMBER, IN_5, 0, 0),
-    Line(98, ZERO, IN_A, 0, 0),
-    Line(108, UP_TO_60, IN_A, 0, 0),
-    Line(1137, NINE, IN_A, 0, 0),
-    Line(141, FLAG, IN_A, 0, 0),
-    Line(11, STRING, IN_F, 0, 0),
-    Line(41, STRING, IN_F, 0, 0),
-    Line(54, ONE_OR_TWO, IN_F + FIRST, WITH_552, 552),
-    Line(48, STRING, IN_F + IN_AD + IN_AE, 0, 0),
-    Line(22, EIGHT, IN_F + IN_AD + IN_AE, 0, 0),
-    Line(60, TIME, IN_F + IN_AE, WITH_580, 580),
-    Line(453, UP_TO_8, IN_F + IN_AD + COUNT, WITH_552, 552),
-    Line(568, STRING, IN_AD, 0, 0),
-    Line(569, ZERO, IN_AD, 0, 0),
-    Line(263, ZERO, IN_AD, 0, 0),
-    Line(828, ZERO_OR_54, IN_AD + IN_AE, 0, 0),
-    Line(580, UP_TO_2, WITH_580 + COUNT, 0, 0),
-    Line(1041, STRING, IN_AD, 0, 0),
-    Line(448, STRING, FIRST, WITH_453, 453),
-    Line(447, D, 0, WITH_453, 453),
-    Line(452, ROLES, 0, WITH_453, 453),
-    Line(75, DAY, FIRST, WITH_580, 580),
-    Line(571, STRING, IN_AE, 0, 0),
-    Line(32, DECIMAL, IN_AE, 0, 0),
-    Line(31, DECIMAL, IN_AE, 0, 0),
-    Line(64, DAY, IN_AE, 0, 0),
-    Line(574, MATCHES, IN_AE, 0, 0),
-    Line(552, ONCE, WITH_552 + COUNT, 0, 0),
-    Line(1427, STRING, 0, WITH_552, 552),
+    Line(8, STRING, FRAME, 0),
+    Line(9, STRING, FRAME, 0),
+    Line(10, STRING, FRAME, 0),
+    Line(35, STRING, HEADER, 0),
+    Line(49, STRING, HEADER, 0),
+    Line(56, STRING, HEADER, 0),
+    Line(34, COUNTED, HEADER, 0),
+    Line(52, TIME, HEADER, 0),
+    Line(43, FLAG, HEADER, 0),
+    Line(97, FLAG, HEADER, 0),
+    Line(122, TIME, HEADER, 0),
+    Line(1128, NINE, HEADER, 0),
+    Line(112, STRING_64, IN_0 + IN_1, 0),
+    Line(7, COUNTED, IN_2, 0),
+    Line(16, NUMBER, IN_2, 0),
+    Line(45, COUNTED, IN_3, 0),
+    Line(371, NUMBER, IN_3, 0),
+    Line(372, STRING, IN_3, 0),
+    Line(373, NUMBER, IN_3, 0),
+    Line(58, STRING_256, IN_3 + IN_5 + IN_AD, 0),
+    Line(36, COUNTED, IN_4, 0),
+    Line(123, FLAG, IN_4, 0),
+    Line(1409, NUMBER, IN_5, 0),
+    Line(98, ZERO, IN_A, 0),
+    Line(108, UP_TO_60, IN_A, 0),
+    Line(1137, NINE, IN_A, 0),
+    Line(141, FLAG, IN_A, 0),
+    Line(11, STRING, IN_F, 0),
+    Line(41, STRING, IN_F, 0),
+    Line(54, ONE_OR_TWO + OF_552, IN_F + FIRST, WITH_552),
+    Line(48, STRING, IN_F + IN_AD + IN_AE, 0),
+    Line(22, EIGHT, IN_F + IN_AD + IN_AE, 0),
+    Line(60, TIME + OF_580, IN_F + IN_AE, WITH_580),
+    Line(453, UP_TO_8 + OF_552, IN_F + IN_AD + COUNT, WITH_552),
+    Line(568, STRING, IN_AD, 0),
+    Line(569, ZERO, IN_AD, 0),
+    Line(263, ZERO, IN_AD, 0),
+    Line(828, ZERO_OR_54, IN_AD + IN_AE, 0),
+    Line(580, UP_TO_2, WITH_580 + COUNT, 0),
+    Line(1041, STRING, IN_AD, 0),
+    Line(448, STRING + OF_453, FIRST, WITH_453),
+    Line(447, D + OF_453, 0, WITH_453),
+    Line(452, ROLES + OF_453, 0, WITH_453),
+    Line(75, DAY + OF_580, FIRST, WITH_580),
+    Line(571, STRING, IN_AE, 0),
+    Line(32, DECIMAL, IN_AE, 0),
+    Line(31, DECIMAL, IN_AE, 0),
+    Line(64, DAY, IN_AE, 0),
+    Line(574, MATCHES, IN_AE, 0),
+    Line(552, ONCE, WITH_552 + COUNT, 0),
+    Line(1427, STRING + OF_552, 0, WITH_552),
 ];
 
 // The one function that names the table: whoever looks into it takes it into a local, once.

@@ -17,7 +17,8 @@ use Rattle.table.specs.declared.MsgType.{MsgType}
 use Rattle.table.specs.Dictionary.{code35}
 use Rattle.message.specs.Message.{Value, absent, number, bytes, shown, row, message, written}
 use Rattle.writer.specs.Tags.{tags, numeric}
-use Rattle.writer.specs.Call.{placeIn, part, valueIn, refused8, admin, Outcome, refusing, writing, fitted, writeAs, write, numbers}
+use Rattle.writer.specs.Call.{placeIn, valueIn, refused8, admin, Outcome, refusing, writing, fitted, writeAs, write, numbers}
+use Rattle.message.specs.Message.{part}
 use Rattle.message.specs.ReadsBack.{ReadsBack}
 use Rattle.writer.specs.Promise.{MessageOf, Ends, another-type, unfit-value, short-buffer, whole}
 use Rattle.writer.specs.declared.Values.{Values}

@@ -14,7 +14,8 @@ use Rattle.table.specs.declared.MsgType.{MsgType}
 use Rattle.table.specs.Dictionary.{rowsOf, listed, kindIn}
 use Rattle.message.specs.Message.{Value, absent, number, bytes, shown, tagged}
 use Rattle.writer.specs.Tags.{isNumeric}
-use Rattle.writer.specs.Call.{part}
+use Rattle.writer.specs.Call.{}
+use Rattle.message.specs.Message.{part}
 use Rattle.message.specs.Unfit.{unwritable}
 use Rattle.message.specs.Wrote.{Wrote}
 use Rattle.writer.specs.declared.types.Entry.{Entry}

@@ -20,7 +20,8 @@ use Rattle.table.specs.code.Held.{agree}
 use Rattle.table.proofs.Lists.{agree-true}
 use Rattle.message.specs.Message.{Value, absent, number, bytes, Field, _is_, own, order, field, row, valued}
 use Rattle.writer.specs.Tags.{tags, isNumeric, numeric}
-use Rattle.writer.specs.Call.{placeIn, part, valueAt, valueIn, refused8}
+use Rattle.writer.specs.Call.{placeIn, valueAt, valueIn, refused8}
+use Rattle.message.specs.Message.{part}
 use Rattle.message.specs.Unfit.{required, unfit}
 use Rattle.message.specs.Wrote.{Wrote}
 use Rattle.writer.specs.declared.Values.{Values}

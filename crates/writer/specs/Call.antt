@@ -1,29 +1,25 @@
 -- The writer call: "the values of one of the seven administrative messages" in, refusal 8, refusal 9 or the message out.
-use Prim.Native.Nat.{ℕ, suc, _-_}
+use Prim.Native.Nat.{ℕ, suc}
 use mathlib.Core.Path.{_≡_}
 use mathlib.Core.List.{List, [], _∷_, _++_}
-use mathlib.Core.Bool.{Bool, false, cond, _&&_}
+use mathlib.Core.Bool.{Bool, false, cond}
 use mathlib.Core.Option.{Option, none, some}
-use lib.Dec.{eqb, leb, ltb}
-use lib.ListN.{length, take, drop, getD}
+use lib.Dec.{eqb, ltb}
+use lib.ListN.{length, drop, getD}
 use Rattle.bytes.specs.Bytes.{Bytes, any}
 use Rattle.table.specs.declared.MsgType.{MsgType}
 use Rattle.table.specs.Dictionary.{typeOf, administrative}
-use Rattle.message.specs.Message.{Value, absent, number, bytes, valued, written}
+use Rattle.message.specs.Message.{Value, absent, number, bytes, valued, written, part}
 use Rattle.message.specs.Unfit.{unfit}
 use Rattle.writer.specs.Tags.{tags, numeric}
 use Rattle.writer.specs.declared.Values.{Values}
 use Rattle.writer.specs.declared.Written.{Written}
 use Rattle.writer.specs.declared.Written.the-variants.{Message, Unfit, Short}
 
--- THE VALUES. Each tag has its place in the arrays of `Values`; bytes lie in the text beside them, from a start to an end. A place that the text
--- does not have holds no bytes, and "an empty value is one that the dictionary would reject".
+-- THE VALUES. Each tag has its place in the arrays of `Values`; bytes lie in the text beside them (`part` of message).
 abbrev pub placeIn : List ℕ → ℕ → ℕ
 placeIn [] t = 0
 placeIn (u ∷ us) t = let later = suc (placeIn us t) in cond (eqb u t) 0 later
-
-abbrev pub part : Bytes → ℕ → ℕ → Bytes
-part text start end = cond (leb start end && leb end (length text)) (take (end - start) (drop start text)) []
 
 abbrev pub valueAt : Values → Bytes → ℕ → ℕ → Value
 valueAt vs text t k =

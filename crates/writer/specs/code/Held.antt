@@ -14,7 +14,8 @@ use Rattle.table.specs.declared.MsgType.the-variants.{Heartbeat, ResendRequest,
 use Rattle.table.specs.Dictionary.{Row, header, fields, rowsOf, listed, kindIn}
 use Rattle.message.specs.Message.{Value, absent, bytes, _is_, field, row, valued, message}
 use Rattle.writer.specs.Tags.{tags, isNumeric}
-use Rattle.writer.specs.Call.{part, refused8}
+use Rattle.writer.specs.Call.{refused8}
+use Rattle.message.specs.Message.{part}
 use Rattle.message.specs.Unfit.{required, unfit}
 use Rattle.message.specs.code.Writable.{unwritten}
 use Rattle.message.specs.Wrote.{Wrote}
