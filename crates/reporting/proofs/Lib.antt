@@ -1,2 +1,4 @@
 pub mod Gates
 pub mod Sends
+pub mod OneOutcome
+pub mod Promise
