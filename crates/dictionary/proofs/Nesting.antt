@@ -17,8 +17,8 @@ use Rattle.fields.proofs.Rows.{Step}
 use Rattle.table.specs.Dictionary.{Row, Group, №453, №580, №552, groups, header, fields, listed, groupsOf}
 use Rattle.table.specs.code.Held.{tags, Three, Looked, Marked}
 use Rattle.dictionary.specs.Verdict.{Open, Past, _when_, firstOf, missing, closing, closingAll, ends, begins, firstMember, rule1, left, rule2, rule3, rule8, skipped, rules4to10, said, opened, joined, taken, after, verdictBy, walk}
-use Rattle.dictionary.specs.code.Held.{InGroup, Stood, away, within, Stands, Closing, OfKnown, begunOf}
-use Rattle.dictionary.specs.code.Nested.{past, KnownBy, KnownIn, endsGroup, Member, MemberBy, MemberIn, endsInstance, Opened, Lies, onward, reachedBy, Goes, GroupWalk, Along, Turned, InstanceWalk}
+use Rattle.dictionary.specs.code.Held.{InGroup, Stood, away, within, Closing, begunOf}
+use Rattle.dictionary.specs.code.Nested.{AE, past, Reported, MemberAt, endsGroup, MemberBy, MemberIn, endsInstance, OfMember, Opened, Lies, onward, reachedBy, Goes, GroupWalk, Along, Turned, InstanceWalk}
 use Rattle.table.specs.declared.MsgType.{MsgType}
 use Rattle.dictionary.specs.declared.Says.{Says}
 use Rattle.dictionary.specs.declared.Says.the-variants.{Nothing, Reason}
@@ -26,54 +26,20 @@ use Rattle.dictionary.specs.declared.Verdict.{Verdict}
 use Rattle.dictionary.specs.declared.Verdict.the-variants.{Clean, Finding}
 use Rattle.dictionary.specs.declared.groups.State.{State}
 use Rattle.table.specs.declared.lines.Entry.{Entry}
-use Rattle.dictionary.specs.declared.nested.Head.{Head}
-use Rattle.dictionary.specs.declared.nested.Head.the-variants.{Known, Other}
+use Rattle.dictionary.specs.declared.members.Head.{Head}
+use Rattle.dictionary.specs.declared.members.Head.the-variants.{Member, Other}
 use Rattle.dictionary.specs.declared.nested.Reached.{Reached}
 use Rattle.dictionary.specs.declared.nested.Reached.the-variants.{Found, To}
 use Rattle.dictionary.proofs.Ending.{counted}
 use Rattle.dictionary.proofs.FourToEight.{leads}
-use Rattle.dictionary.proofs.Saying.{known-entry, entry-belongs, unknown-belongs, rule6-silent}
+use Rattle.dictionary.proofs.Saying.{known-entry, entry-belongs, rule6-silent}
+use Rattle.dictionary.proofs.Reported.{one-of-three, opened-reported}
 use Rattle.dictionary.proofs.Opening.{opens-none}
 use Rattle.dictionary.proofs.Walking.{mark-more, no-marks, walk-on, field-lies, field-step, malformed-step, end-row, never-none}
 use Rattle.dictionary.proofs.Turns.{Silent, silent, after-taken}
 
--- THE ITEM AT A PLACE, as the code looks it up
-module _ {item : Item} where
-  pub other-malformed : {s e n : ℕ} → item ≡ Malformed s e n → KnownIn item Other
-  other-malformed h = record { is = λ t s e n k. let z : _≡_ {A = Item} (Malformed _ _ _) (Field t s e n) = sym h ∙ k in let y : _≡_ {A = ℕ} 0 1 = cc in absurd (omega arith) }
-
-  pub other-end : item ≡ End → KnownIn item Other
-  other-end h = record { is = λ t s e n k. let z : _≡_ {A = Item} End (Field t s e n) = sym h ∙ k in let y : _≡_ {A = ℕ} 0 1 = cc in absurd (omega arith) }
-
-  pub other-none : item ≡ NoBody → KnownIn item Other
-  other-none h = record { is = λ t s e n k. let z : _≡_ {A = Item} NoBody (Field t s e n) = sym h ∙ k in let y : _≡_ {A = ℕ} 0 1 = cc in absurd (omega arith) }
-
-  pub other-tag : {t start end next : ℕ} → item ≡ Field t start end next → has tags t ≡ false → KnownIn item Other
-  other-tag {t} {start} {end} {next} h u = record { is = λ x s e n k. let z : Field x s e n ≡ Field t start end next = sym k ∙ h in let y : x ≡ t = cc in ap (has tags) y ∙ u }
-
-  pub known-field : {t start end next p : ℕ} {e : Entry} → item ≡ Field t start end next → Looked e p → e .tag ≡ t → KnownIn item (Known e p start end next)
-  known-field {t} {start} {end} {next} h L k = record { is = (L, h ∙ ap (λ (x : ℕ). Field x start end next) (sym k)) }
-
-  -- .. a member of a group, or what ends it
-  module _ {group : ℕ} {head : Head} (K : KnownIn item head) where
-    pub is-member : {e : Entry} {p start end next : ℕ} → head ≡ Known e p start end next → e .member .group ≡ group → MemberIn item group (Known e p start end next)
-    is-member h g = let k = subst (KnownBy item) h (K .is) in record { is = record { looked = k .0; is = k .1; belongs = g } }
-
-    pub is-astray : {e : Entry} {p start end next : ℕ} → head ≡ Known e p start end next → (e .member .group ≡ group → ⊥) → MemberIn item group Other
-    is-astray {e} {p} {start} {end} {next} h n =
-        let k = subst (KnownBy item) h (K .is) in
-        record { is = λ g T c. rw (k .1) (entry-belongs e [] (k .0 .right) .ended g T ∙ rw (ne-eqb (g .counter) (e .member .group) (λ x. n (sym x ∙ c)))) }
-
-    pub is-other : head ≡ Other → MemberIn item group Other
-    is-other h = record { is = λ g T c. go item refl g T }
-      where
-        go : (i : Item) → item ≡ i → (g : Group) → Three g → endsGroup (g .members) i ≡ true
-        go (Field t s e n) k g T = unknown-belongs t (subst (KnownBy item) h (K .is) t s e n k) [] .ended g T ∙ rw (ne-eqb (g .counter) 0 (counted g T))
-        go (Malformed s e n) k g T = refl
-        go End k g T = refl
-        go NoBody k g T = refl
-
-pub the-member : {item : Item} {group : ℕ} {head : Head} {e : Entry} {p start end next : ℕ} → MemberIn item group head → head ≡ Known e p start end next → Member item group e p start end next
+-- the head as the code finds it
+pub the-member : {item : Item} {group : ℕ} {head : Head} {e : Entry} {p start end next : ℕ} → MemberIn item group head → head ≡ Member e p start end next → MemberAt item group e p start end next
 the-member {item} {group} M h = subst (MemberBy item group) h (M .is)
 
 pub the-other : {item : Item} {group : ℕ} {head : Head} → MemberIn item group head → head ≡ Other → MemberBy item group Other
@@ -114,9 +80,9 @@ ended-by members (Malformed s e n) C h = let S = malformed-step C refl in rw (S 
 ended-by members End C h = rw (end-row C refl)
 ended-by members NoBody C h = absurd (never-none C refl)
 
-outward : (m : MsgType) (w : Past) (body : Bytes) (r : Says) (at : ℕ) (item : Item) → onward m w body (reachedBy r at item) ≡ verdictBy r (walk m w (parts (drop at body)))
-outward m w body Nothing at item = refl
-outward m w body (Reason a t) at item = refl
+outward : (w : Past) (body : Bytes) (r : Says) (at : ℕ) (item : Item) → onward w body (reachedBy r at item) ≡ verdictBy r (walk AE w (parts (drop at body)))
+outward w body Nothing at item = refl
+outward w body (Reason a t) at item = refl
 
 one-closes : (g : Open) → closingAll (g ∷ []) ≡ closing g
 one-closes g = go (closing g)
@@ -126,19 +92,15 @@ one-closes g = go (closing g)
     go (Reason a t) = refl
 
 -- the code leaves the group
-leaves : {m : MsgType} {body : Bytes} {s : List ℕ} {g : Open} {gs : List Open} {from at : ℕ} {item : Item} {seen met : List Bool} {st : State} {r : Says} {w : Reached}
-    → Along m body s g gs from seen met st (To at item) → Cut body at item → MemberBy item (st .group) Other → Closing met st r → w ≡ reachedBy r at item
-    → onward m (past s gs) body w ≡ walk m (past s (g ∷ gs)) (parts (drop from body))
-leaves {m} {body} {s} {g} {gs} {from} {at} {item} {seen} {met} {st} {r} A C H Z e =
+leaves : {body : Bytes} {s : List ℕ} {g : Open} {gs : List Open} {from at : ℕ} {item : Item} {met : List Bool} {st : State} {r : Says} {w : Reached}
+    → Along body s g gs from met st (To at item) → Cut body at item → MemberBy item (st .group) Other → Closing met st r → w ≡ reachedBy r at item
+    → onward (past s gs) body w ≡ walk AE (past s (g ∷ gs)) (parts (drop from body))
+leaves {body} {s} {g} {gs} {from} {at} {item} {met} {st} {r} A C H Z e =
     let I = A .goes .group in
-    ap (onward m (past s gs) body) e ∙ outward m (past s gs) body r at item ∙ ap (λ (x : Says). verdictBy x (walk m (past s gs) (parts (drop at body)))) (Z .is (A .later ∷ []) (within I) ∙ one-closes (A .later))
-    ∙ sym (pop m s (A .later) gs (parts (drop at body)) (ended-by (A .later .group .members) item C (H (A .later .group) (I .three) (sym (I .counter))))) ∙ A .is
+    ap (onward (past s gs) body) e ∙ outward (past s gs) body r at item ∙ ap (λ (x : Says). verdictBy x (walk AE (past s gs) (parts (drop at body)))) (Z .is (A .later ∷ []) (within I) ∙ one-closes (A .later))
+    ∙ sym (pop AE s (A .later) gs (parts (drop at body)) (ended-by (A .later .group .members) item C (H (A .later .group) (A .goes .reported) (sym (I .counter))))) ∙ A .is
 
--- A MEMBER of the innermost open group: the rules look at no group around it
-said-inner : (m : MsgType) (s : List ℕ) (g : Open) (gs : List Open) (t : ℕ) (v : Bytes) → listed (g .group .members) t ≡ true → said m (past s (g ∷ [])) (field t v) ≡ said m (past s (g ∷ gs)) (field t v)
-unfolding said rule1 left rules4to10 rule8
-said-inner m s g gs t v h = rw h
-
+-- A MEMBER of the innermost open group
 left-inner : (g : Open) (gs : List Open) (t : ℕ) (v : Bytes) → listed (g .group .members) t ≡ true → left (g ∷ gs) (field t v) ≡ g ∷ gs
 unfolding left
 left-inner g gs t v h = rw h
@@ -162,18 +124,15 @@ stood-one (within {g} I) h = (g, (refl, I))
 abbrev valueIn : Bytes → ℕ → ℕ → Bytes
 valueIn body start end = take (end - start) (drop start body)
 
-pub goes-stands : {s : List ℕ} {g : Open} {seen met : List Bool} {st : State} → Goes s g seen met st → Stands (past s (g ∷ [])) seen met st
-goes-stands G = record { marked = G .marked; over = G .over; stood = within (G .group) }
-
-module _ {body : Bytes} {at : ℕ} {item : Item} (C : Cut body at item) {group : ℕ} {e : Entry} {p start end next : ℕ} (M : Member item group e p start end next) where
+module _ {body : Bytes} {at : ℕ} {item : Item} (C : Cut body at item) {group : ℕ} {e : Entry} {p start end next : ℕ} (M : MemberAt item group e p start end next) where
   pub member-lies : Span body at start end next
   member-lies = field-lies C (M .is)
 
   member-step : Step body at (take (end - at) (drop at body)) (field (e .tag) (valueIn body start end)) next
   member-step = field-step C (M .is) refl
 
-module _ {body : Bytes} {at : ℕ} {item : Item} (C : Cut body at item) {st : State} {e : Entry} {p start end next : ℕ} (M : Member item (st .group) e p start end next) where
-  module _ {s : List ℕ} {g : Open} {seen met : List Bool} (G : Goes s g seen met st) where
+module _ {body : Bytes} {at : ℕ} {item : Item} (C : Cut body at item) {st : State} {e : Entry} {p start end next : ℕ} (M : MemberAt item (st .group) e p start end next) where
+  module _ {g : Open} {met : List Bool} (G : Goes g met st) where
     same-group : eqb (g .group .counter) (e .member .group) ≡ true
     same-group = eq-eqb (g .group .counter) (e .member .group) (sym (G .group .counter) ∙ sym (M .belongs))
 
@@ -183,30 +142,30 @@ module _ {body : Bytes} {at : ℕ} {item : Item} (C : Cut body at item) {st : St
     is-first : firstMember (g .group .members) (e .tag) ≡ e .member .first
     is-first = leads e met st (M .looked .right) g (G .group) same-group
 
-  module _ {m : MsgType} {seen met : List Bool} {r : Says} (K : OfKnown m seen met st (e .tag) (valueIn body start end) r) where
-    module _ {s : List ℕ} {g : Open} {gs : List Open} {from : ℕ} (A : Along m body s g gs from seen met st (To at item)) where
-      said-here : r ≡ said m (past s (A .later ∷ gs)) (field (e .tag) (valueIn body start end))
-      said-here = K .is (past s (A .later ∷ [])) (goes-stands (A .goes)) ∙ said-inner m s (A .later) gs (e .tag) (valueIn body start end) (in-group (A .goes))
+  module _ {met : List Bool} {r : Says} (K : OfMember met st (e .tag) (valueIn body start end) r) where
+    module _ {s : List ℕ} {g : Open} {gs : List Open} {from : ℕ} (A : Along body s g gs from met st (To at item)) where
+      said-here : r ≡ said AE (past s (A .later ∷ gs)) (field (e .tag) (valueIn body start end))
+      said-here = K .is s (A .later) gs (A .goes .group) (A .goes .reported) (in-group (A .goes))
 
-      walked : walk m (past s (A .later ∷ gs)) (parts (drop at body)) ≡ verdictBy r (walk m (after m (past s (A .later ∷ gs)) (field (e .tag) (valueIn body start end))) (parts (drop next body)))
-      walked = walk-on m (past s (A .later ∷ gs)) body _ _ at next (member-step C M) ∙ ap (λ (x : Says). verdictBy x (walk m (after m (past s (A .later ∷ gs)) (field (e .tag) (valueIn body start end))) (parts (drop next body)))) (sym said-here)
+      walked : walk AE (past s (A .later ∷ gs)) (parts (drop at body)) ≡ verdictBy r (walk AE (after AE (past s (A .later ∷ gs)) (field (e .tag) (valueIn body start end))) (parts (drop next body)))
+      walked = walk-on AE (past s (A .later ∷ gs)) body _ _ at next (member-step C M) ∙ ap (λ (x : Says). verdictBy x (walk AE (after AE (past s (A .later ∷ gs)) (field (e .tag) (valueIn body start end))) (parts (drop next body)))) (sym said-here)
 
       -- a rule speaks
-      faults : {a t : ℕ} → r ≡ Reason a t → Finding a t ≡ walk m (past s (g ∷ gs)) (parts (drop from body))
+      faults : {a t : ℕ} → r ≡ Reason a t → Finding a t ≡ walk AE (past s (g ∷ gs)) (parts (drop from body))
       faults q = sym (walked ∙ rw q) ∙ A .is
 
       -- none does
       module _ (q : r ≡ Nothing) where
-        quiet : Silent m (past s (A .later ∷ gs)) (e .tag) (valueIn body start end)
-        quiet = silent m (past s (A .later ∷ gs)) (e .tag) (valueIn body start end) (known-entry (M .looked)) (sym q ∙ said-here)
+        quiet : Silent AE (past s (A .later ∷ gs)) (e .tag) (valueIn body start end)
+        quiet = silent AE (past s (A .later ∷ gs)) (e .tag) (valueIn body start end) (known-entry (M .looked)) (sym q ∙ said-here)
 
-        quiet8 : rule8 m (A .later ∷ gs) (e .tag) ≡ Nothing
+        quiet8 : rule8 AE (A .later ∷ gs) (e .tag) ≡ Nothing
         quiet8 = rw (left-inner (A .later) gs (e .tag) (valueIn body start end) (in-group (A .goes))) at (quiet .silent8)
 
-        onto : walk m (past s (opened (groupsOf m) (e .tag) (valueIn body start end) ++ (joined (A .later) (e .tag) ∷ gs))) (parts (drop next body)) ≡ walk m (past s (g ∷ gs)) (parts (drop from body))
+        onto : walk AE (past s (opened (groupsOf AE) (e .tag) (valueIn body start end) ++ (joined (A .later) (e .tag) ∷ gs))) (parts (drop next body)) ≡ walk AE (past s (g ∷ gs)) (parts (drop from body))
         unfolding taken
         onto =
-            ap (λ (x : Past). walk m x (parts (drop next body))) (sym (after-taken m (past s (A .later ∷ gs)) (e .tag) (valueIn body start end) (A .later ∷ gs) (known-entry (M .looked)) (left-inner (A .later) gs (e .tag) (valueIn body start end) (in-group (A .goes)))))
+            ap (λ (x : Past). walk AE x (parts (drop next body))) (sym (after-taken AE (past s (A .later ∷ gs)) (e .tag) (valueIn body start end) (A .later ∷ gs) (known-entry (M .looked)) (left-inner (A .later) gs (e .tag) (valueIn body start end) (in-group (A .goes)))))
             ∙ sym (walked ∙ rw q) ∙ A .is
 
         -- the first member begins an instance: in a first one rule 8 asks for it, behind another no other member can stand
@@ -223,94 +182,92 @@ module _ {body : Bytes} {at : ℕ} {item : Item} (C : Cut body at item) {st : St
                 let k : Reason 15 (e .tag) ≡ Nothing = rw (h, eq-eqb (A .later .begun) 0 (sym (I .begun) ∙ z)) at quiet8 in
                 let y : _≡_ {A = ℕ} 0 1 = cc in absurd (omega arith)
             go false h (inr x) =
-                let k = x (A .later .group) (I .three) (sym (I .counter)) in
+                let k = x (A .later .group) (A .goes .reported) (sym (I .counter)) in
                 absurd (false≢true (rw (M .is, in-group (A .goes), h) at k))
 
-        begins-one : (st .begun ≡ 0) ⊎ Turned (st .group) (To at item) → (i : Item) → Along m body s g gs from seen (set (replicate 128 false) p true) (begunOf st) (To next i)
+        begins-one : (st .begun ≡ 0) ⊎ Turned (st .group) (To at item) → (i : Item) → Along body s g gs from (set (replicate 128 false) p true) (begunOf st) (To next i)
         begins-one T i =
             let f = leads-off T in
             let I = A .goes .group in
-            let n = opens-none m (e .tag) (valueIn body start end) (first-no-count (A .later .group) (e .tag) (I .three) (is-first (A .goes) ∙ f)) in
+            let n = opens-none AE (e .tag) (valueIn body start end) (first-no-count (A .later .group) (e .tag) (I .three) (is-first (A .goes) ∙ f)) in
             record {
               later = record { group = A .later .group; count = A .later .count; begun = A .later .begun + 1; last = e .tag ∷ [] };
               goes = record {
-                marked = A .goes .marked;
-                over = A .goes .over;
+                reported = A .goes .reported;
                 group = record { three = I .three; counter = I .counter; count = I .count; begun = ap (λ (y : ℕ). y + 1) (I .begun); last = λ z. mark-more (M .looked) (length-replicate 128 false) no-marks };
               };
               is = rw (n, is-first (A .goes) ∙ f) at onto;
             }
 
         -- another member
-        module _ (f : e .member .first ≡ false) (long : length met ≡ 128) {inner : State} (P : Opened (st .over) (e .tag) (valueIn body start end) inner) where
+        module _ (f : e .member .first ≡ false) (long : length met ≡ 128) {inner : State} (P : Opened (e .tag) (valueIn body start end) inner) where
           joins-to : Open
           joins-to = record { group = A .later .group; count = A .later .count; begun = A .later .begun; last = e .tag ∷ A .later .last }
 
-          joined-goes : Goes s joins-to seen (set met p true) st
+          joined-goes : Goes joins-to (set met p true) st
           unfolding joins-to
           joined-goes =
               let I = A .goes .group in
               record {
-                marked = A .goes .marked;
-                over = A .goes .over;
+                reported = A .goes .reported;
                 group = record { three = I .three; counter = I .counter; count = I .count; begun = I .begun; last = λ z. mark-more (M .looked) long (I .last z) };
               }
 
-          onto-joined : walk m (past s (opened (groupsOf m) (e .tag) (valueIn body start end) ++ (joins-to ∷ gs))) (parts (drop next body)) ≡ walk m (past s (g ∷ gs)) (parts (drop from body))
+          onto-joined : walk AE (past s (opened (groupsOf AE) (e .tag) (valueIn body start end) ++ (joins-to ∷ gs))) (parts (drop next body)) ≡ walk AE (past s (g ∷ gs)) (parts (drop from body))
           unfolding joins-to
           onto-joined = rw (is-first (A .goes) ∙ f) at onto
 
-          opening : Stood (opened (groupsOf m) (e .tag) (valueIn body start end)) [] inner
-          opening = P .opens m [] (rule6-silent m (e .tag) (sym (quiet .silent6))) (quiet .silent9)
+          opening : Stood (opened (groupsOf AE) (e .tag) (valueIn body start end)) [] inner
+          opening = P .opens AE [] (rule6-silent AE (e .tag) (sym (quiet .silent6))) (quiet .silent9)
 
-          joins : inner .group ≡ 0 → (i : Item) → Along m body s g gs from seen (set met p true) st (To next i)
+          joins : inner .group ≡ 0 → (i : Item) → Along body s g gs from (set met p true) st (To next i)
           joins z i = record { later = joins-to; goes = joined-goes; is = rw (stood-none opening z) at onto-joined }
 
           -- the count of a group in the group: the group walk goes through it
-          nests : (inner .group ≡ 0 → ⊥) → {w : Reached} → GroupWalk m body seen inner next w → Along m body s g gs from seen (set met p true) st w
+          nests : (inner .group ≡ 0 → ⊥) → {w : Reached} → GroupWalk body inner next w → Along body s g gs from (set met p true) st w
           nests y {w} W =
               let x = stood-one opening y in
               record {
                 later = joins-to;
                 goes = joined-goes;
-                is = W .is s (x .0) (joins-to ∷ gs) [] (record { marked = A .goes .marked; over = P .same ∙ A .goes .over; group = x .1 .1 })
-                    ∙ ap (λ (l : List Open). walk m (past s (l ++ (joins-to ∷ gs))) (parts (drop next body))) (sym (x .1 .0)) ∙ onto-joined;
+                is = W .is s (x .0) (joins-to ∷ gs) [] (record { group = x .1 .1; reported = opened-reported (e .tag) (valueIn body start end) (x .0) (x .1 .0) })
+                    ∙ ap (λ (l : List Open). walk AE (past s (l ++ (joins-to ∷ gs))) (parts (drop next body))) (sym (x .1 .0)) ∙ onto-joined;
               }
 
 -- one walk behind another
-chains : {m : MsgType} {body : Bytes} {s : List ℕ} {g : Open} {gs : List Open} {from next : ℕ} {i : Item} {seen met met2 : List Bool} {st : State} {r : Reached}
-    → (A : Along m body s g gs from seen met st (To next i)) → Along m body s (A .later) gs next seen met2 st r → Along m body s g gs from seen met2 st r
+chains : {body : Bytes} {s : List ℕ} {g : Open} {gs : List Open} {from next : ℕ} {i : Item} {met met2 : List Bool} {st : State} {r : Reached}
+    → (A : Along body s g gs from met st (To next i)) → Along body s (A .later) gs next met2 st r → Along body s g gs from met2 st r
 chains A B = record { later = B .later; goes = B .goes; is = B .is ∙ A .is }
 
-before-any : {s : List ℕ} {g : Open} {seen met met2 : List Bool} {st : State} → st .begun ≡ 0 → Goes s g seen met st → Goes s g seen met2 st
-before-any {s} {g} z G =
+before-any : {g : Open} {met met2 : List Bool} {st : State} → st .begun ≡ 0 → Goes g met st → Goes g met2 st
+before-any {g} z G =
     let I = G .group in
-    record { marked = G .marked; over = G .over; group = record { three = I .three; counter = I .counter; count = I .count; begun = I .begun; last = λ n. absurd (false≢true (sym n ∙ eq-eqb (g .begun) 0 (sym (I .begun) ∙ z))) } }
+    record { reported = G .reported; group = record { three = I .three; counter = I .counter; count = I .count; begun = I .begun; last = λ n. absurd (false≢true (sym n ∙ eq-eqb (g .begun) 0 (sym (I .begun) ∙ z))) } }
 
 -- WHERE THE TWO WALKS STAND before the part at a place
-pub record InGroupWalk (m : MsgType) (body : Bytes) (seen : List Bool) (st0 : State) (from : ℕ) (met : List Bool) (st : State) (at : ℕ) (item : Item) : Type 0 where
+pub record InGroupWalk (body : Bytes) (st0 : State) (from : ℕ) (met : List Bool) (st : State) (at : ℕ) (item : Item) : Type 0 where
   pub behind : from ≤ at
   pub near : at ≤ length body + 1
   pub cut : Cut body at item
   pub few : st .begun ≤ at
   pub long : length met ≡ 128
   pub turns : (st .begun ≡ 0) ⊎ Turned (st .group) (To at item)
-  pub is : (s : List ℕ) (g : Open) (gs : List Open) (met0 : List Bool) → Goes s g seen met0 st0 → Along m body s g gs from seen met st (To at item)
+  pub is : (s : List ℕ) (g : Open) (gs : List Open) (met0 : List Bool) → Goes g met0 st0 → Along body s g gs from met st (To at item)
 
-pub record InInstanceWalk (m : MsgType) (body : Bytes) (seen met0 : List Bool) (st : State) (from : ℕ) (met : List Bool) (at : ℕ) (item : Item) : Type 0 where
+pub record InInstanceWalk (body : Bytes) (met0 : List Bool) (st : State) (from : ℕ) (met : List Bool) (at : ℕ) (item : Item) : Type 0 where
   pub behind : from ≤ at
   pub near : at ≤ length body + 1
   pub cut : Cut body at item
   pub long : length met ≡ 128
-  pub is : (s : List ℕ) (g : Open) (gs : List Open) → Goes s g seen met0 st → Along m body s g gs from seen met st (To at item)
+  pub is : (s : List ℕ) (g : Open) (gs : List Open) → Goes g met0 st → Along body s g gs from met st (To at item)
 
-pub group-starts : {m : MsgType} {body : Bytes} {seen : List Bool} {st : State} {from : ℕ} {item : Item} → from ≤ length body + 1 → Cut body from item → st .begun ≡ 0 → InGroupWalk m body seen st from (replicate 128 false) st from item
+pub group-starts : {body : Bytes} {st : State} {from : ℕ} {item : Item} → from ≤ length body + 1 → Cut body from item → st .begun ≡ 0 → InGroupWalk body st from (replicate 128 false) st from item
 group-starts l C z = record { behind = omega arith; near = l; cut = C; few = omega arith; long = length-replicate 128 false; turns = inl z; is = λ s g gs met0 G. record { later = g; goes = before-any z G; is = refl } }
 
-pub instance-starts : {m : MsgType} {body : Bytes} {seen met : List Bool} {st : State} {from : ℕ} {item : Item} → from ≤ length body + 1 → Cut body from item → length met ≡ 128 → InInstanceWalk m body seen met st from met from item
+pub instance-starts : {body : Bytes} {met : List Bool} {st : State} {from : ℕ} {item : Item} → from ≤ length body + 1 → Cut body from item → length met ≡ 128 → InInstanceWalk body met st from met from item
 instance-starts l C n = record { behind = omega arith; near = l; cut = C; long = n; is = λ s g gs G. record { later = g; goes = G; is = refl } }
 
-pub marks-long : {item : Item} {group : ℕ} {e : Entry} {p start end next : ℕ} → Member item group e p start end next → length (set (replicate 128 false) p true) ≡ 128
+pub marks-long : {item : Item} {group : ℕ} {e : Entry} {p start end next : ℕ} → MemberAt item group e p start end next → length (set (replicate 128 false) p true) ≡ 128
 marks-long {p = p} M = length-set (replicate 128 false) p true ∙ length-replicate 128 false
 
 said-lies : (body : Bytes) (from at : ℕ) (item : Item) (r : Says) → from ≤ at → at ≤ length body + 1 → Cut body at item → Lies body from (reachedBy r at item)
@@ -321,28 +278,28 @@ said-turns : (group at : ℕ) (item : Item) {r : Says} {a t : ℕ} → r ≡ Rea
 said-turns group at item e = rw e tt
 
 -- the group walk
-module _ {m : MsgType} {body : Bytes} {seen : List Bool} {st0 : State} {from : ℕ} {met : List Bool} {st : State} {at : ℕ} {item : Item} (W : InGroupWalk m body seen st0 from met st at item) where
-  pub group-ends : {r : Says} {w : Reached} → MemberBy item (st .group) Other → Closing met st r → w ≡ reachedBy r at item → GroupWalk m body seen st0 from w
+module _ {body : Bytes} {st0 : State} {from : ℕ} {met : List Bool} {st : State} {at : ℕ} {item : Item} (W : InGroupWalk body st0 from met st at item) where
+  pub group-ends : {r : Says} {w : Reached} → MemberBy item (st .group) Other → Closing met st r → w ≡ reachedBy r at item → GroupWalk body st0 from w
   group-ends {r} H Z e = record { lies = rw e (said-lies body from at item r (W .behind) (W .near) (W .cut)); is = λ s g gs met0 G. leaves (W .is s g gs met0 G) (W .cut) H Z e }
 
-  module _ {e : Entry} {p start end next : ℕ} (M : Member item (st .group) e p start end next) {r : Says} (K : OfKnown m seen met st (e .tag) (valueIn body start end) r) where
-    pub group-faults : {w : Reached} {a t : ℕ} → r ≡ Reason a t → w ≡ reachedBy r at item → GroupWalk m body seen st0 from w
+  module _ {e : Entry} {p start end next : ℕ} (M : MemberAt item (st .group) e p start end next) {r : Says} (K : OfMember met st (e .tag) (valueIn body start end) r) where
+    pub group-faults : {w : Reached} {a t : ℕ} → r ≡ Reason a t → w ≡ reachedBy r at item → GroupWalk body st0 from w
     group-faults {w} {a} {t} q h = record {
       lies = rw h (said-lies body from at item r (W .behind) (W .near) (W .cut));
-      is = λ s g gs met0 G. ap (onward m (past s gs) body) (h ∙ ap (λ (x : Says). reachedBy x at item) q) ∙ faults (W .cut) M K (W .is s g gs met0 G) q;
+      is = λ s g gs met0 G. ap (onward (past s gs) body) (h ∙ ap (λ (x : Says). reachedBy x at item) q) ∙ faults (W .cut) M K (W .is s g gs met0 G) q;
     }
 
-    module _ (q : r ≡ Nothing) {st2 : State} (b : st2 ≡ begunOf st) {met2 : List Bool} {w : Reached} (X : InstanceWalk m body seen (set (replicate 128 false) p true) st2 next met2 w) where
-      group-goes : (s : List ℕ) (g : Open) (gs : List Open) (met0 : List Bool) → Goes s g seen met0 st0 → Along m body s g gs from seen met2 st2 w
-      group-goes s g gs met0 G = let A = subst (λ (x : State). Along m body s g gs from seen (set (replicate 128 false) p true) x (To next item)) (sym b) (begins-one (W .cut) M K (W .is s g gs met0 G) q (W .turns) item) in chains A (X .is s (A .later) gs (A .goes))
+    module _ (q : r ≡ Nothing) {st2 : State} (b : st2 ≡ begunOf st) {met2 : List Bool} {w : Reached} (X : InstanceWalk body (set (replicate 128 false) p true) st2 next met2 w) where
+      group-goes : (s : List ℕ) (g : Open) (gs : List Open) (met0 : List Bool) → Goes g met0 st0 → Along body s g gs from met2 st2 w
+      group-goes s g gs met0 G = let A = subst (λ (x : State). Along body s g gs from (set (replicate 128 false) p true) x (To next item)) (sym b) (begins-one (W .cut) M K (W .is s g gs met0 G) q (W .turns) item) in chains A (X .is s (A .later) gs (A .goes))
 
-      pub group-breaks : {a t : ℕ} → w ≡ Found a t → GroupWalk m body seen st0 from (Found a t)
-      group-breaks {a} {t} h = record { lies = tt; is = λ s g gs met0 G. subst (λ (x : Reached). Along m body s g gs from seen met2 st2 x) h (group-goes s g gs met0 G) .is }
+      pub group-breaks : {a t : ℕ} → w ≡ Found a t → GroupWalk body st0 from (Found a t)
+      group-breaks {a} {t} h = record { lies = tt; is = λ s g gs met0 G. subst (λ (x : Reached). Along body s g gs from met2 st2 x) h (group-goes s g gs met0 G) .is }
 
       pub group-lies : {n : ℕ} {i : Item} → w ≡ To n i → (next ≤ n) × (n ≤ length body + 1) × Cut body n i
       group-lies h = subst (Lies body next) h (X .lies)
 
-      pub group-again : {n : ℕ} {i : Item} → w ≡ To n i → InGroupWalk m body seen st0 from met2 st2 n i
+      pub group-again : {n : ℕ} {i : Item} → w ≡ To n i → InGroupWalk body st0 from met2 st2 n i
       group-again {n} {i} h =
           let l = member-lies (W .cut) M in
           let k = group-lies h in
@@ -353,12 +310,12 @@ module _ {m : MsgType} {body : Bytes} {seen : List Bool} {st0 : State} {from : �
             few = omega (arith, W .few, ap (λ (x : State). x .begun) b, k .0, l .after, l .ordered, l .following);
             long = X .long;
             turns = inr (subst (Turned (st2 .group)) h (X .turns));
-            is = λ s g gs met0 G. subst (λ (x : Reached). Along m body s g gs from seen met2 st2 x) h (group-goes s g gs met0 G);
+            is = λ s g gs met0 G. subst (λ (x : Reached). Along body s g gs from met2 st2 x) h (group-goes s g gs met0 G);
           }
 
 -- the instance walk
-module _ {m : MsgType} {body : Bytes} {seen met0 : List Bool} {st : State} {from : ℕ} {met : List Bool} {at : ℕ} {item : Item} (W : InInstanceWalk m body seen met0 st from met at item) where
-  pub instance-ends : MemberBy item (st .group) Other → InstanceWalk m body seen met0 st from met (To at item)
+module _ {body : Bytes} {met0 : List Bool} {st : State} {from : ℕ} {met : List Bool} {at : ℕ} {item : Item} (W : InInstanceWalk body met0 st from met at item) where
+  pub instance-ends : MemberBy item (st .group) Other → InstanceWalk body met0 st from met (To at item)
   instance-ends H = record { lies = (W .behind, W .near, W .cut); turns = λ g T e. ends-too (g .members) item (H g T e); long = W .long; is = W .is }
     where
       ends-too : (members : List Row) (i : Item) → endsGroup members i ≡ true → endsInstance members i ≡ true
@@ -367,31 +324,31 @@ module _ {m : MsgType} {body : Bytes} {seen met0 : List Bool} {st : State} {from
       ends-too members End h = refl
       ends-too members NoBody h = refl
 
-  module _ {e : Entry} {p start end next : ℕ} (M : Member item (st .group) e p start end next) where
-    pub instance-turns : e .member .first ≡ true → InstanceWalk m body seen met0 st from met (To at item)
+  module _ {e : Entry} {p start end next : ℕ} (M : MemberAt item (st .group) e p start end next) where
+    pub instance-turns : e .member .first ≡ true → InstanceWalk body met0 st from met (To at item)
     instance-turns f = record {
       lies = (W .behind, W .near, W .cut);
       turns = λ g T c.
           let k = eq-eqb (g .counter) (e .member .group) (c ∙ sym (M .belongs)) in
-          let b : firstMember (g .members) (e .tag) ≡ true = entry-belongs e [] (M .looked .right) .begun g T ∙ rw (k, f) in
+          let b : firstMember (g .members) (e .tag) ≡ true = entry-belongs e [] (M .looked .right) .begun g (one-of-three g T) ∙ rw (k, f) in
           rw (M .is, b) (or-true (not (listed (g .members) (e .tag))));
       long = W .long;
       is = W .is;
     }
 
-    module _ {r : Says} (K : OfKnown m seen met st (e .tag) (valueIn body start end) r) where
-      pub instance-faults : {w : Reached} {a t : ℕ} → r ≡ Reason a t → w ≡ reachedBy r at item → InstanceWalk m body seen met0 st from met w
+    module _ {r : Says} (K : OfMember met st (e .tag) (valueIn body start end) r) where
+      pub instance-faults : {w : Reached} {a t : ℕ} → r ≡ Reason a t → w ≡ reachedBy r at item → InstanceWalk body met0 st from met w
       instance-faults {w} {a} {t} q h = record {
         lies = rw h (said-lies body from at item r (W .behind) (W .near) (W .cut));
         turns = rw h (said-turns (st .group) at item q);
         long = W .long;
         is = λ s g gs G.
             let A = W .is s g gs G in
-            record { later = A .later; goes = A .goes; is = ap (onward m (past s (A .later ∷ gs)) body) (h ∙ ap (λ (x : Says). reachedBy x at item) q) ∙ faults (W .cut) M K A q };
+            record { later = A .later; goes = A .goes; is = ap (onward (past s (A .later ∷ gs)) body) (h ∙ ap (λ (x : Says). reachedBy x at item) q) ∙ faults (W .cut) M K A q };
       }
 
-      module _ (q : r ≡ Nothing) (f : e .member .first ≡ false) {inner : State} (P : Opened (st .over) (e .tag) (valueIn body start end) inner) where
-        pub instance-joins : {i : Item} → inner .group ≡ 0 → Cut body next i → InInstanceWalk m body seen met0 st from (set met p true) next i
+      module _ (q : r ≡ Nothing) (f : e .member .first ≡ false) {inner : State} (P : Opened (e .tag) (valueIn body start end) inner) where
+        pub instance-joins : {i : Item} → inner .group ≡ 0 → Cut body next i → InInstanceWalk body met0 st from (set met p true) next i
         instance-joins {i} z C =
             let l = member-lies (W .cut) M in
             record {
@@ -402,19 +359,19 @@ module _ {m : MsgType} {body : Bytes} {seen met0 : List Bool} {st : State} {from
               is = λ s g gs G. joins (W .cut) M K (W .is s g gs G) q f (W .long) P z i;
             }
 
-        module _ (y : inner .group ≡ 0 → ⊥) {w : Reached} (X : GroupWalk m body seen inner next w) where
+        module _ (y : inner .group ≡ 0 → ⊥) {w : Reached} (X : GroupWalk body inner next w) where
           pub inner-lies : {n : ℕ} {i : Item} → w ≡ To n i → (next ≤ n) × (n ≤ length body + 1) × Cut body n i
           inner-lies h = subst (Lies body next) h (X .lies)
 
-          pub instance-breaks : {a t : ℕ} → w ≡ Found a t → InstanceWalk m body seen met0 st from (set met p true) (Found a t)
+          pub instance-breaks : {a t : ℕ} → w ≡ Found a t → InstanceWalk body met0 st from (set met p true) (Found a t)
           instance-breaks {a} {t} h = record {
             lies = tt;
             turns = tt;
             long = length-set met p true ∙ W .long;
-            is = λ s g gs G. subst (λ (x : Reached). Along m body s g gs from seen (set met p true) st x) h (nests (W .cut) M K (W .is s g gs G) q f (W .long) P y X);
+            is = λ s g gs G. subst (λ (x : Reached). Along body s g gs from (set met p true) st x) h (nests (W .cut) M K (W .is s g gs G) q f (W .long) P y X);
           }
 
-          pub instance-nests : {n : ℕ} {i : Item} → w ≡ To n i → InInstanceWalk m body seen met0 st from (set met p true) n i
+          pub instance-nests : {n : ℕ} {i : Item} → w ≡ To n i → InInstanceWalk body met0 st from (set met p true) n i
           instance-nests {n} {i} h =
               let l = member-lies (W .cut) M in
               let k = inner-lies h in
@@ -423,5 +380,5 @@ module _ {m : MsgType} {body : Bytes} {seen met0 : List Bool} {st : State} {from
                 near = k .1;
                 cut = k .2;
                 long = length-set met p true ∙ W .long;
-                is = λ s g gs G. subst (λ (x : Reached). Along m body s g gs from seen (set met p true) st x) h (nests (W .cut) M K (W .is s g gs G) q f (W .long) P y X);
+                is = λ s g gs G. subst (λ (x : Reached). Along body s g gs from (set met p true) st x) h (nests (W .cut) M K (W .is s g gs G) q f (W .long) P y X);
               }

@@ -162,11 +162,10 @@ own-row : (m : MsgType) (t : ℕ) → listed header t ≡ false → listed (rows
 unfolding rowsOf
 own-row m t n h = rw (append-assoc header (fields m) (allMembers (groupsOf m)), any-append (λ (r : Row). eqb (r .tag) t) header (fields m ++ allMembers (groupsOf m)), n) at h
 
-module _ {e : Entry} {v : Bytes} {over b : Bool} (R : Right e) (p : b ≡ bitOf (e .marks) 30) where
-  pub opened-count : {n : ℕ} → b ≡ true → Counted v n → Opened over (e .tag) v (record { over = over; group = e .tag; count = n; begun = 0 })
+module _ {e : Entry} {v : Bytes} {b : Bool} (R : Right e) (p : b ≡ bitOf (e .marks) 30) where
+  pub opened-count : {n : ℕ} → b ≡ true → Counted v n → Opened (e .tag) v (record { over = true; group = e .tag; count = n; begun = 0 })
   unfolding newly
   opened-count {n} q C = record {
-    same = refl;
     none = refl;
     opens = λ m met l s.
         let w = opens-three (e .tag) v (sym (R .counts) ∙ sym p ∙ q) in
@@ -176,5 +175,5 @@ module _ {e : Entry} {v : Bytes} {over b : Bool} (R : Right e) (p : b ≡ bitOf 
         (within (record { three = w .1 .0; counter = w .1 .1; count = C .is i; begun = refl; last = λ z. absurd (false≢true (sym z)) }));
   }
 
-  pub opened-other : {r : State} → b ≡ false → r ≡ outsideOf over → Opened over (e .tag) v r
-  opened-other {r} q h = subst (Opened over (e .tag) v) (sym h) (record { same = refl; none = refl; opens = λ m met l s. rw (opens-none m (e .tag) v (sym (R .counts) ∙ sym p ∙ q)) (away refl) })
+  pub opened-other : {r : State} → b ≡ false → r ≡ outsideOf true → Opened (e .tag) v r
+  opened-other {r} q h = subst (Opened (e .tag) v) (sym h) (record { none = refl; opens = λ m met l s. rw (opens-none m (e .tag) v (sym (R .counts) ∙ sym p ∙ q)) (away refl) })

@@ -41,7 +41,7 @@ pub fn is_inside(st: State, e: Entry) -> bool
 }
 
 // Rule 1, a required member missing from the last instance, if one began.
-fn incomplete(st: State, met: &[bool; 128]) -> Says
+pub fn incomplete(st: State, met: &[bool; 128]) -> Says
     ensures { λ r. ⌜ Incomplete (now (met .entry)) st r ⌝ }
 {
     if st.begun == 0 {

@@ -15,6 +15,7 @@ pub enum Verdict {
 
 mod bits;
 mod groups;
+mod members;
 mod missing;
 mod nested;
 mod rules;

@@ -15,7 +15,7 @@ ghost use Rattle.table.specs.code.Held.{Right, Looked};
 ghost use Rattle.dictionary.specs.code.Held.{Rule5, Rule7, Rule8, Rules9and10, OfMalformed, OfUnknown, OfKnown};
 
 // Rule 4: empty value.
-fn rule_4(tag: u32, v: &[u8]) -> Says
+pub fn rule_4(tag: u32, v: &[u8]) -> Says
     ensures { λ r. ⌜ r ≡ rule4 tag (now (v .entry)) ⌝ }
 {
     if v.len() == 0 {
@@ -25,7 +25,7 @@ fn rule_4(tag: u32, v: &[u8]) -> Says
 }
 
 // Rule 5: a tag of the frame, or one outside groups seen before.
-fn rule_5(m: MsgType, e: Entry, seen: bool) -> Says
+pub fn rule_5(m: MsgType, e: Entry, seen: bool) -> Says
     requires { ⌜ Right e ⌝ }
     ensures { λ r. ⌜ Rule5 m (e .tag) seen r ⌝ }
 {
@@ -48,7 +48,7 @@ fn rule_5(m: MsgType, e: Entry, seen: bool) -> Says
 }
 
 // Rule 6: not for this message.
-fn rule_6(m: MsgType, e: Entry) -> Says
+pub fn rule_6(m: MsgType, e: Entry) -> Says
     requires { ⌜ Right e ⌝ }
     ensures { λ r. ⌜ r ≡ rule6 m (e .tag) ⌝ }
 {
@@ -65,7 +65,7 @@ fn rule_6(m: MsgType, e: Entry) -> Says
 }
 
 // Rule 7: a header tag after a non-header tag.
-fn rule_7(e: Entry, over: bool) -> Says
+pub fn rule_7(e: Entry, over: bool) -> Says
     requires { ⌜ Right e ⌝ }
     ensures { λ r. ⌜ Rule7 (e .tag) over r ⌝ }
 {
@@ -82,7 +82,7 @@ fn rule_7(e: Entry, over: bool) -> Says
 }
 
 // Rule 8: a member outside its group, a first instance that doesn't begin with the first member, or another member twice in one.
-fn rule_8(m: MsgType, st: State, e: Entry, met: &[bool; 128], p: usize) -> Says
+pub fn rule_8(m: MsgType, st: State, e: Entry, met: &[bool; 128], p: usize) -> Says
     requires { ⌜ Looked e p ⌝ }
     ensures { λ r. ⌜ Rule8 m (now (met .entry)) st (e .tag) r ⌝ }
 {

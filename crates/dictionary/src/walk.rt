@@ -44,7 +44,7 @@ pub fn finding(said: Says) -> Verdict
 }
 
 // At the end of the body: rule 1, then the first missing required tag, header first.
-pub fn finish(m: MsgType, st: State, seen: &[bool; 128], met: &[bool; 128]) -> Verdict
+fn finish(m: MsgType, st: State, seen: &[bool; 128], met: &[bool; 128]) -> Verdict
     ensures { λ r. ⌜ Finished m (now (seen .entry)) (now (met .entry)) st r ⌝ }
 {
     let end = closing(st, met);
@@ -59,7 +59,7 @@ pub fn finish(m: MsgType, st: State, seen: &[bool; 128], met: &[bool; 128]) -> V
 }
 
 // Where the fields end: a malformed part, or the end of the body.
-fn ended(m: MsgType, item: Item, st: State, seen: &[bool; 128], met: &[bool; 128]) -> Verdict
+pub fn ended(m: MsgType, item: Item, st: State, seen: &[bool; 128], met: &[bool; 128]) -> Verdict
     ensures { λ r. ⌜ Ended m (now (seen .entry)) (now (met .entry)) st item r ⌝ }
 {
     match item {
