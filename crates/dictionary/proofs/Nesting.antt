@@ -1,24 +1,24 @@
 -- The group walk and the instance walk: what the words remember in a group, and one turn of it for each way that a part can go.
-use Prim.Native.Nat.{ℕ, _+_, _-_, _≤_, _<_}
+use Prim.Native.Nat.{ℕ, _+_, _-_, _≤_}
 use native.Mathlib.Omega.{arith}
-use borrow.Author.Tests.{eqb-true, eq-eqb, ne-eqb}
+use borrow.Author.Tests.{eqb-true, eq-eqb}
 use mathlib.Core.Path.{_≡_, refl, ap, sym, _∙_, subst}
 use mathlib.Core.List.{List, [], _∷_, _++_}
-use mathlib.Core.Bool.{Bool, true, false, cond, not, _||_, false≢true, or-true}
+use mathlib.Core.Bool.{Bool, true, false, cond, not, false≢true, or-true}
 use mathlib.Core.Logic.{_⊎_, inl, inr}
 use lib.Dec.{eqb}
 use lib.ListN.{length, take, drop, set, replicate, length-set, length-replicate}
-use Rattle.bytes.specs.Bytes.{Bytes, any, has, value}
+use Rattle.bytes.specs.Bytes.{Bytes, any}
 use Rattle.fields.specs.Field.{Part, field, malformed, partOf, parts}
 use Rattle.fields.specs.Item.{Span, Cut}
 use Rattle.fields.specs.declared.Item.{Item}
 use Rattle.fields.specs.declared.Item.the-variants.{Field, Malformed, End, NoBody}
 use Rattle.fields.proofs.Rows.{Step}
 use Rattle.table.specs.Dictionary.{Row, Group, №453, №580, №552, groups, header, fields, listed, groupsOf}
-use Rattle.table.specs.code.Held.{tags, Three, Looked, Marked}
-use Rattle.dictionary.specs.Verdict.{Open, Past, _when_, firstOf, missing, closing, closingAll, ends, begins, firstMember, rule1, left, rule2, rule3, rule8, skipped, rules4to10, said, opened, joined, taken, after, verdictBy, walk}
+use Rattle.table.specs.code.Held.{Three}
+use Rattle.dictionary.specs.Verdict.{Open, Past, firstOf, missing, closing, closingAll, ends, firstMember, rule1, left, rule2, rule3, rule8, skipped, rules4to10, said, opened, joined, taken, after, verdictBy, walk}
 use Rattle.dictionary.specs.code.Held.{InGroup, Stood, away, within, Closing, begunOf}
-use Rattle.dictionary.specs.code.Nested.{AE, past, Reported, MemberAt, endsGroup, MemberBy, MemberIn, endsInstance, OfMember, Opened, Lies, onward, reachedBy, Goes, GroupWalk, Along, Turned, InstanceWalk}
+use Rattle.dictionary.specs.code.Nested.{AE, past, MemberAt, endsGroup, MemberBy, MemberIn, endsInstance, OfMember, Opened, Lies, onward, reachedBy, Goes, GroupWalk, Along, Turned, InstanceWalk}
 use Rattle.table.specs.declared.MsgType.{MsgType}
 use Rattle.dictionary.specs.declared.Says.{Says}
 use Rattle.dictionary.specs.declared.Says.the-variants.{Nothing, Reason}

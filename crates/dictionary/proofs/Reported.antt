@@ -18,7 +18,7 @@ use Rattle.table.specs.Dictionary.{Row, Group, №453, №580, №552, header, 
 use Rattle.table.specs.code.Held.{tagCount, allRows, tags, tagAt, entryOf, index, bitOf, Table, Three, Placed, Right, Looked}
 use Rattle.dictionary.specs.Verdict.{Open, _when_, firstOf, firstMember, incomplete, rule1, rule4, rule5, rule6, rule7, rule8, rule9, rule10, left, said, opened}
 use Rattle.dictionary.specs.code.Held.{InGroup, Incomplete}
-use Rattle.dictionary.specs.code.Nested.{AE, past, Reported, MemberAt, endsGroup, headBy, MemberBy, MemberIn, Rule1Inside}
+use Rattle.dictionary.specs.code.Nested.{AE, past, Reported, headBy, MemberIn, Rule1Inside}
 use Rattle.dictionary.specs.declared.Says.{Says}
 use Rattle.dictionary.specs.declared.Says.the-variants.{Nothing, Reason}
 use Rattle.dictionary.specs.declared.groups.State.{State}

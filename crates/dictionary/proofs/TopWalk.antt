@@ -8,14 +8,14 @@ use mathlib.Core.Logic.{_⊎_, inl, inr}
 use denote.Enum.Declared.{tagOf}
 use lib.ListN.{length, take, drop, set, replicate, length-set, length-replicate}
 use Rattle.bytes.specs.Bytes.{Bytes, has}
-use Rattle.fields.specs.Field.{Part, field, malformed, parts}
+use Rattle.fields.specs.Field.{field, malformed, parts}
 use Rattle.fields.specs.Item.{Span, Cut}
 use Rattle.fields.specs.declared.Item.{Item}
 use Rattle.fields.specs.declared.Item.the-variants.{Field, Malformed, End, NoBody}
 use Rattle.fields.proofs.Item.{the-type}
 use Rattle.table.specs.Dictionary.{groupsOf, administrative, code35}
 use Rattle.table.specs.code.Held.{tags, Looked, Marked}
-use Rattle.dictionary.specs.Verdict.{Open, Past, rule1, rule2, left, said, opened, after, verdictBy, walk, nothingYet}
+use Rattle.dictionary.specs.Verdict.{Open, Past, rule1, left, said, opened, after, verdictBy, walk, nothingYet}
 use Rattle.dictionary.specs.code.Held.{Stood, away, pastHeader, Stands, Over, outsideOf, EndedBy, Ended}
 use Rattle.dictionary.specs.code.Nested.{AE, past, OfOwn, Opened, Lies, onward, GroupWalk}
 use Rattle.dictionary.specs.declared.Says.{Says}

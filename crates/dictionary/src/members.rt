@@ -1,5 +1,5 @@
-// A field of a Trade Capture Report: as a member of a group or outside groups, and the first rule that speaks of it. (The report has its own look at
-// the rules, which leaves out those that say nothing of a member, and so that the other types' walk keeps the one that is compiled into it.)
+// A field of a Trade Capture Report, as a member of a group or outside groups, and the first rule that speaks of it. (The other types' walk has a look
+// at the rules of its own: what two walks call is compiled into neither.)
 use super::Says;
 use super::bits::is_in;
 use super::groups::State;
@@ -34,7 +34,7 @@ pub enum Head {
     Other,
 }
 
-// The place of a tag, as table::place_of finds it.
+// The place of a tag, as place_of of the table finds it.
 pub fn place_in_report(tag: u32) -> usize
     ensures { λ r. ⌜ Placed tag r ⌝ }
 {

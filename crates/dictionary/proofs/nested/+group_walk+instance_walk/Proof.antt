@@ -1,5 +1,5 @@
 -- The group walk and the instance walk call each other, each with fewer bytes left than it was called with; each keeps what the words say.
-use Prim.Native.Nat.{ℕ, _+_, _-_, _≤_, _<_}
+use Prim.Native.Nat.{ℕ, _+_, _-_, _<_}
 use native.Mathlib.Omega.{arith}
 use borrow.Author.Needs.{needs}
 use borrow.Fn.Kinds.{In}
