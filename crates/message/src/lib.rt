@@ -14,7 +14,7 @@ ghost use Rattle.frame.specs.Frame.{fixt, front, trailer};
 ghost use Rattle.message.specs.Message.{absent, number, bytes, _is_, field, framed};
 ghost use Rattle.message.specs.Wrote.{Wrote};
 
-fn put_byte(buf: &mut [u8], at: usize, b: u8) -> usize
+pub fn put_byte(buf: &mut [u8], at: usize, b: u8) -> usize
     requires { ⌜ at < length (now buf) ⌝ }
     ensures { λ r. ⌜ Wrote (now (buf .entry)) (now (buf .exit)) at r (b ∷ []) ⌝ }
 {
@@ -22,7 +22,7 @@ fn put_byte(buf: &mut [u8], at: usize, b: u8) -> usize
     at + 1
 }
 
-fn put_bytes(buf: &mut [u8], at: usize, s: &[u8]) -> usize
+pub fn put_bytes(buf: &mut [u8], at: usize, s: &[u8]) -> usize
     requires { ⌜ at + length (now s) ≤ length (now buf) ⌝ }
     ensures { λ r. ⌜ Wrote (now (buf .entry)) (now (buf .exit)) at r (now (s .entry)) ⌝ }
 {
@@ -83,7 +83,7 @@ pub fn put_decimal(buf: &mut [u8], at: usize, n: u64) -> usize
 }
 
 // `tag=`
-fn put_tag(buf: &mut [u8], at: usize, tag: u64) -> usize
+pub fn put_tag(buf: &mut [u8], at: usize, tag: u64) -> usize
     requires { ⌜ (tag < 100_000) × (at + 6 ≤ length (now buf)) ⌝ }
     ensures bytes { λ r. ⌜ Wrote (now (buf .entry)) (now (buf .exit)) at r (decimal tag ++ fix "=") ⌝ }
     ensures room { λ r. ⌜ r ≤ at + 6 ⌝ }

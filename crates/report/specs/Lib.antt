@@ -3,3 +3,4 @@ pub mod Report
 pub mod Layout
 pub mod Promise
 pub mod Cases
+pub mod code
