@@ -1,5 +1,6 @@
 -- A report "read back for our rehearsal desk": from a body its values, the verdict's finding, or refusal 10.
 use Prim.Native.Nat.{ℕ, _+_, _-_, _/_}
+use mathlib.Core.Path.{_≡_}
 use mathlib.Core.List.{List, [], _∷_, _++_}
 use mathlib.Core.Bool.{cond}
 use mathlib.Core.Option.{Option, none, some}
@@ -89,3 +90,8 @@ abbrev pub wordsBy : ReadBack → Bytes → List ℕ
 wordsBy Values body = wordsIn body
 wordsBy (Finding reason tag) body = replicate 82 0
 wordsBy NoBody body = replicate 82 0
+
+-- THE CALL: what is answered for a body, and all the words that are left
+pub record Reads (body : Bytes) (r : ReadBack) (words : List ℕ) : Type 0 where
+  pub answer : r ≡ readBack body
+  pub words-are : words ≡ wordsBy (readBack body) body

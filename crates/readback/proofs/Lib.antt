@@ -1,0 +1,11 @@
+pub mod Every
+pub mod Slots
+pub mod Noted
+pub mod Passing
+pub mod Ending
+pub mod Clearing
+pub mod Answers
+pub mod Everything
+pub mod Given
+pub mod Promise
+pub mod OneOutcome

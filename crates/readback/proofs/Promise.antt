@@ -1,0 +1,105 @@
+-- What is promised of the reading back, proved.
+use Prim.Native.Nat.{ℕ, _≤_}
+use mathlib.Core.Path.{_≡_, refl, ap, sym, _∙_}
+use mathlib.Core.List.{List, [], _∷_, _++_}
+use mathlib.Core.Bool.{true}
+use mathlib.Core.Option.{Option, none, some}
+use lib.ListN.{length, getD}
+use lib.Seq.{take-all}
+use Rattle.bytes.specs.Bytes.{Bytes, decimal}
+use Rattle.fields.specs.Field.{firstField}
+use Rattle.table.specs.Dictionary.{header, fields}
+use Rattle.table.specs.declared.MsgType.{MsgType}
+use Rattle.table.specs.declared.MsgType.the-variants.{TradeCaptureReport}
+use Rattle.dictionary.specs.Verdict.{verdict, msgType}
+use Rattle.dictionary.specs.Promise.{required}
+use Rattle.dictionary.specs.declared.Verdict.the-variants.{Clean}
+use Rattle.dictionary.proofs.Clean.{clean-body}
+use Rattle.message.specs.Message.{row}
+use Rattle.message.specs.Whole.{bodyIn}
+use Rattle.message.proofs.Wholes.{body-back}
+use Rattle.report.specs.Values as Report
+use Rattle.report.specs.Report.{Report, fieldsOf, sent, sendable, valuesIn, reportIn}
+use Rattle.report.proofs.Promise as Written
+use Rattle.report.proofs.ReadBack.{sendable-is}
+use Rattle.report.proofs.Longest.{few-parties}
+use Rattle.readback.specs.Back.{readBack, numbers}
+use Rattle.readback.specs.code.Pass.{namesReport}
+use Rattle.readback.specs.declared.ReadBack.{ReadBack}
+use Rattle.readback.specs.declared.ReadBack.the-variants.{Values, Finding, NoBody}
+use Rattle.readback.specs.Promise.{upToEight, Given, ReadsBack, Promise}
+use Rattle.readback.proofs.Answers.{values-clean, values-say, finding-says, refusal-says}
+use Rattle.readback.proofs.Given.{values-given}
+
+-- a clean report has its 32 and its 31
+there : (body : Bytes) → verdict body ≡ Clean → msgType body ≡ some TradeCaptureReport → (t : ℕ) → required (header ++ fields TradeCaptureReport) t ≡ true → (v : Bytes) × (firstField t body ≡ some v)
+there body c m t h =
+    let B = clean-body body c in
+    let n = B .named in
+    let e : B .type ≡ TradeCaptureReport = cc in
+    B .there t (ap (λ (k : MsgType). required (header ++ fields k) t) e ∙ h)
+
+given : (body : Bytes) → readBack body ≡ Values → Given body
+unfolding header fields
+given body h =
+    let s = values-say body h in
+    let a = there body (s .0) (s .1) 32 refl in
+    let b = there body (s .0) (s .1) 31 refl in
+    record { clean = s .0; report = s .1; values = values-given body (a .0) (a .1) (b .0) (b .1) }
+
+-- WHAT OUR REPORT CALL WROTE: it begins with 35=AE, and has at most eight parties
+begun : (us them : Bytes) (r : Report) → namesReport (row (fieldsOf us them r)) ≡ true
+unfolding firstField decimal
+begun us them r = refl
+
+names-report : (us them : Bytes) (r : Report) → namesReport (bodyIn (sent us them r)) ≡ true
+unfolding sent
+names-report us them r = ap namesReport (body-back (row (fieldsOf us them r))) ∙ begun us them r
+
+up-to-eight : (v : Report.Values) → length (v .parties) ≤ 8 → upToEight v ≡ v
+up-to-eight v h i =
+    record {
+      its571 = v .its571;
+      its828 = v .its828;
+      its60 = v .its60;
+      its32 = v .its32;
+      its31 = v .its31;
+      its64 = v .its64;
+      its574 = v .its574;
+      its48 = v .its48;
+      its22 = v .its22;
+      its54 = v .its54;
+      its1427 = v .its1427;
+      parties = take-all 8 (v .parties) h i;
+    }
+
+named : (us them : Bytes) (r : Report) → reportIn (bodyIn (sent us them r)) ≡ r → valuesIn (bodyIn (sent us them r)) ≡ r .values
+unfolding reportIn
+named us them r e = ap (λ (x : Report). x .values) e
+
+back : (us them : Bytes) (r : Report) → sendable us them r ≡ true → ReadsBack (bodyIn (sent us them r)) r
+back us them r h =
+    let W = Written.promise .written us them r h in
+    let a = values-clean (bodyIn (sent us them r)) (W .clean) (names-report us them r) in
+    record {
+      answered = a;
+      its-values = given (bodyIn (sent us them r)) a .values ∙ ap upToEight (named us them r (W .reads)) ∙ up-to-eight (r .values) (few-parties (r .values) (sendable-is us them r h .taken));
+    }
+
+-- the case that number and values tell
+told : Option ℕ → List ℕ → ReadBack
+told none [] = Values
+told none (r ∷ l) = Finding r (getD l 0 0)
+told (some n) l = NoBody
+
+told-back : (r : ReadBack) → told (numbers r .0) (numbers r .1) ≡ r
+unfolding told
+told-back Values = refl
+told-back (Finding r t) = refl
+told-back NoBody = refl
+
+numbers-tell : (r s : ReadBack) → numbers r ≡ numbers s → r ≡ s
+numbers-tell r s h = sym (told-back r) ∙ ap (λ (p : Option ℕ × List ℕ). told (p .0) (p .1)) h ∙ told-back s
+
+pub promise : Promise
+promise = record { given = given; back = back; finding = finding-says; refusal-10 = refusal-says; told-apart = numbers-tell }

@@ -1,0 +1,58 @@
+-- What is promised of the reading back, in document 02's words. Proved once, in proofs/Promise.antt.
+use Prim.Native.Nat.{ℕ}
+use mathlib.Core.Path.{_≡_}
+use mathlib.Core.Logic.{_⊎_}
+use mathlib.Core.Bool.{true, cond}
+use mathlib.Core.Option.{none, some}
+use lib.ListN.{take}
+use Rattle.bytes.specs.Bytes.{Bytes}
+use Rattle.fields.specs.Field.{isBody}
+use Rattle.table.specs.declared.MsgType.the-variants.{TradeCaptureReport}
+use Rattle.dictionary.specs.Verdict.{verdict, msgType}
+use Rattle.dictionary.specs.declared.Verdict.the-variants as Found
+use Rattle.message.specs.Whole.{bodyIn}
+use Rattle.report.specs.Values as Report
+use Rattle.report.specs.Report.{Report, sent, sendable, valuesIn}
+use Rattle.report.specs.Layout.{valuesGiven}
+use Rattle.readback.specs.Back.{readBack, wordsIn, numbers}
+use Rattle.readback.specs.declared.ReadBack.{ReadBack}
+use Rattle.readback.specs.declared.ReadBack.the-variants.{Values, Finding}
+
+-- the words have room for eight parties
+abbrev pub upToEight : Report.Values → Report.Values
+upToEight v =
+    record {
+      its571 = v .its571;
+      its828 = v .its828;
+      its60 = v .its60;
+      its32 = v .its32;
+      its31 = v .its31;
+      its64 = v .its64;
+      its574 = v .its574;
+      its48 = v .its48;
+      its22 = v .its22;
+      its54 = v .its54;
+      its1427 = v .its1427;
+      parties = take 8 (v .parties);
+    }
+
+-- a body whose values are answered: a clean report, and the words beside the body give the values that it names
+pub record Given (body : Bytes) : Type 0 where
+  pub clean : verdict body ≡ Found.Clean
+  pub report : msgType body ≡ some TradeCaptureReport
+  pub values : valuesGiven (wordsIn body) body ≡ upToEight (valuesIn body)
+
+-- "written, and read back": of what our report call wrote, all its values
+pub record ReadsBack (body : Bytes) (r : Report) : Type 0 where
+  pub answered : readBack body ≡ Values
+  pub its-values : valuesGiven (wordsIn body) body ≡ r .values
+
+pub record Promise : Type 0 where
+  pub given : (body : Bytes) → readBack body ≡ Values → Given body
+  pub back : (us them : Bytes) (r : Report) → sendable us them r ≡ true → ReadsBack (bodyIn (sent us them r)) r
+  -- a finding is the verdict's, or that a clean body is of another type: 11, tag 35
+  pub finding : (body : Bytes) (r t : ℕ) → readBack body ≡ Finding r t → (verdict body ≡ Found.Finding r t) ⊎ ((verdict body ≡ Found.Clean) × ((r ≡ 11) × (t ≡ 35)))
+  -- refusal 10 where the verdict has it, for bytes that are no body, there, and only there
+  pub refusal-10 : (body : Bytes) → numbers (readBack body) .0 ≡ cond (isBody body) none (some 10)
+  -- "a definition gives this paper's number and values for each case of the enum": they tell the cases apart
+  pub told-apart : (r s : ReadBack) → numbers r ≡ numbers s → r ≡ s
