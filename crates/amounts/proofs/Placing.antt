@@ -1,6 +1,5 @@
 -- The text of an amount as the code puts it: the last digits first, then the point, then the digits before it.
-use Prim.Native.Nat.{ℕ, zero, suc, _+_, _-_, _/_, _%_, _^_, _≤_, _<_}
-use native.Mathlib.Nat.{pow-suc}
+use Prim.Native.Nat.{ℕ, zero, suc, _+_, _-_, _/_, _%_, _≤_, _<_}
 use native.Mathlib.Decide.{decLt}
 use native.Mathlib.Omega.{arith}
 use mathlib.Core.Path.{_≡_, refl, sym, ap, _∙_, subst}
@@ -15,6 +14,7 @@ use Rattle.bytes.proofs.Numerals.{is-digit, Numeral}
 use Rattle.bytes.proofs.Decimals.{decimal-numeral, decimal-worth, numeral-decimal}
 use Rattle.calendar.specs.Time.{padded}
 use Rattle.message.specs.Wrote.{Wrote}
+use Rattle.message.proofs.Cutting.{below-power}
 use Rattle.message.proofs.Leftward as Leftward
 use Rattle.message.proofs.Leftward.{Left, left-none}
 use Rattle.message.proofs.Writes.{chain, reword, decimal-small}
@@ -22,10 +22,6 @@ use Rattle.amounts.specs.Amount.{without, pointing}
 use Rattle.amounts.proofs.Amounts.{padded-length}
 
 -- THE DIGITS OF A NUMBER, however many
-below-power : (n : ℕ) → n < 10 ^ suc n
-below-power zero = omega arith
-below-power (suc n) = omega (arith, pow-suc 10 (suc n), below-power n)
-
 some-digit : (n : ℕ) → 1 ≤ length (decimal n)
 unfolding decimal
 some-digit zero = omega arith

@@ -9,32 +9,27 @@ use lib.ListN.{length, length-append}
 use borrow.Author.Tests.{ne-eqb, lt-leb}
 use Rattle.bytes.specs.Bytes.{Bytes, has, within, decimal}
 use Rattle.bytes.proofs.Tests.{any-append}
-use Rattle.bytes.proofs.Numerals.{Digits, is-within}
+use Rattle.bytes.proofs.Numerals.{is-within}
 use Rattle.decimals.specs.Decimal.{isDecimal, wholeOf, placesOf, inRange}
 use Rattle.kinds.specs.Kind.{formed, allowed}
 use Rattle.kinds.specs.Kind as Kind
 use Rattle.calendar.specs.Time.{padded}
 use Rattle.message.specs.code.Writable.{unwritten}
-use Rattle.message.proofs.Rows.{decimal-digits}
-use Rattle.message.proofs.Writes.{few-digits}
+use Rattle.message.proofs.Cutting.{decimal-free}
 use Rattle.amounts.specs.Amount.{without, pointing}
 use Rattle.amounts.proofs.Amounts.{pointing-reads}
 
 -- NO `|` IN THE TEXT
-digits-no-bar : (l : Bytes) → Digits l → has l 1 ≡ false
-digits-no-bar [] d = refl
-digits-no-bar (x ∷ l) d = rw (ne-eqb x 1 (λ e. omega (arith, d .0)), digits-no-bar l (d .1))
-
 padded-no-bar : (k n : ℕ) → has (padded k n) 1 ≡ false
 padded-no-bar zero n = refl
 padded-no-bar (suc k) n =
     any-append (λ (y : ℕ). eqb y 1) (padded k (n / 10)) ((48 + n % 10) ∷ []) ∙ rw (padded-no-bar k (n / 10), ne-eqb (48 + n % 10) 1 (λ e. omega arith))
 
 no-bar : (w k : ℕ) → has (pointing w k) 1 ≡ false
-no-bar w zero = digits-no-bar (decimal w) (decimal-digits w)
+no-bar w zero = decimal-free w
 no-bar w (suc k) =
     any-append (λ (y : ℕ). eqb y 1) (decimal (without (suc k) w)) (46 ∷ padded (suc k) w)
-    ∙ rw (digits-no-bar (decimal (without (suc k) w)) (decimal-digits (without (suc k) w)), padded-no-bar (suc k) w)
+    ∙ rw (decimal-free (without (suc k) w), padded-no-bar (suc k) w)
 
 -- a decimal has some bytes
 filled : (v : Bytes) → isDecimal v ≡ true → eqb (length v) 0 ≡ false

@@ -5,16 +5,17 @@ use message::put_frame;
 use message::put_number;
 use message::put_text;
 use moves::Record;
+use moves::Status;
 use moves::changed;
 use moves::in_range;
+use moves::turned;
 use report::put_own;
 use session::Answer;
 use session::Answered;
-use session::Gate;
 use session::Refusal;
 use session::is_active;
 use session::is_spent;
-use session::refused;
+use session::unchanged;
 ghost use mathlib.Core.Path.{_≡_};
 ghost use Prim.Native.Nat.{_+_, _≤_, _<_};
 ghost use lib.ListN.{length};
@@ -28,29 +29,8 @@ ghost use Rattle.moves.specs.Session.{sent-at, numbering};
 ghost use Rattle.session.specs.declared.Answer.the-variants as Answer;
 ghost use Rattle.moves.specs.code.Plan.{Ready};
 ghost use Rattle.session.specs.Held.{Leaves};
-ghost use Rattle.session.specs.code.Played.{shut};
 ghost use Rattle.reporting.specs.Call.{unless, report};
-ghost use Rattle.reporting.specs.code.Sending.{ofSession, ofValues, headOf, PutBody};
-
-// 11, 7, 2 outside Active, 5.
-fn report_gate(r: Record, time: u64) -> Gate
-    ensures { λ g. ⌜ shut g ≡ first (ofSession (sessionOf r) time) ⌝ }
-{
-    if !in_range(r) {
-        return Gate::Shut(Refusal::BadRecord);
-    }
-    if 253_402_300_800_000_000 <= time {
-        return Gate::Shut(Refusal::TimePast);
-    }
-    let s = r.status;
-    if !is_active(s) {
-        return Gate::Shut(Refusal::SessionClosed);
-    }
-    if is_spent(r) {
-        return Gate::Shut(Refusal::NumbersSpent);
-    }
-    Gate::Open
-}
+ghost use Rattle.reporting.specs.code.Sending.{ofValues, headOf, PutBody};
 
 // 35, 49, 56, 34 and 52, at the front of a body.
 fn put_head(body: &mut [u8], ours: &[u8], peers: &[u8], n: u64, stamp: &[u8]) -> usize
@@ -101,26 +81,37 @@ fn send(r: Record, values: &[u64; 82], text: &[u8], time: u64, buf: &mut [u8]) -
     let mut body = [0u8; 768];
     let k = put_body(&mut body, r, values, text, time);
     if k == 0 {
-        return refused(r, Refusal::BadValue);
+        return unchanged(r, Answer::Refused(Refusal::BadValue));
     }
     let n = frame_length(k);
     if 512 < n {
-        return refused(r, Refusal::ReportTooLong);
+        return unchanged(r, Answer::Refused(Refusal::ReportTooLong));
     }
     if buf.len() < n {
-        return refused(r, Refusal::NoRoom);
+        return unchanged(r, Answer::Refused(Refusal::NoRoom));
     }
     let len = put_frame(buf, 0, &body[..k]);
     reported(r, len, time)
 }
 
-// A report of the host's: one Trade Capture Report with the next number out, at the front of the buffer.
+// A report of the host's: one Trade Capture Report with the next number out, at the front of the buffer. 11, 7, 2 outside Active and 5, which closes,
+// stand before what is asked of the values.
 pub fn report(r: Record, values: &[u64; 82], text: &[u8], time: u64, buf: &mut [u8]) -> Answered
     ensures { λ a. ⌜ Leaves r (report (sessionOf r) (valuesGiven (now (values .entry)) (now (text .entry))) time (now (buf .entry))) a (now (buf .exit)) ⌝ }
 {
-    let gate = report_gate(r, time);
-    match gate {
-        Gate::Shut(k) => refused(r, k),
-        Gate::Open => send(r, values, text, time, buf),
+    if !in_range(r) {
+        return unchanged(r, Answer::Refused(Refusal::BadRecord));
     }
+    if 253_402_300_800_000_000 <= time {
+        return unchanged(r, Answer::Refused(Refusal::TimePast));
+    }
+    let st = r.status;
+    if !is_active(st) {
+        return unchanged(r, Answer::Refused(Refusal::SessionClosed));
+    }
+    if is_spent(r) {
+        let closed = turned(r, Status::Closed);
+        return unchanged(closed, Answer::Refused(Refusal::NumbersSpent));
+    }
+    send(r, values, text, time, buf)
 }
