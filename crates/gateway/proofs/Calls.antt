@@ -20,6 +20,8 @@ use Rattle.message.specs.Unfit.{compID}
 use Rattle.moves.specs.Held.{sessionOf}
 use Rattle.session.specs.Held.{answeredBy, Leaves, answeredNew}
 use Rattle.session.specs.Calls.{keeping, step, tick, logout, test-request, new, reconnect}
+use Rattle.report.specs.Layout.{valuesGiven}
+use Rattle.reporting.specs.Call.{report}
 use Rattle.moves.specs.declared.record.Record.{Record}
 use Rattle.session.specs.declared.Answered.{Answered}
 use Rattle.moves.specs.declared.record.Status.the-variants.{Closed}
@@ -28,7 +30,7 @@ use Rattle.session.specs.declared.Answer.the-variants.{Done, Refused}
 use Rattle.border.specs.Numbers.{refusalOf, valueOf}
 use Rattle.border.specs.Record.{compIDsOf, wordsOf, saved, recordIn}
 use Rattle.border.specs.Values.{valuesOf}
-use Rattle.gateway.specs.Calls.{unread, stepFrom, stepOut, replyFrom, tickOut, logoutOut, testRequestOut, reconnectFrom, reconnectOut, newIf, newOut, writeFrom, writeOut}
+use Rattle.gateway.specs.Calls.{unread, stepFrom, stepOut, replyFrom, tickOut, logoutOut, testRequestOut, reportOut, reconnectFrom, reconnectOut, newIf, newOut, writeFrom, writeOut}
 
 -- NO RECORD lies in the bytes and words
 module _ (ids : Bytes) (words : List ℕ) (none-lies : none ≡ recordIn ids words) where
@@ -47,6 +49,10 @@ module _ (ids : Bytes) (words : List ℕ) (none-lies : none ≡ recordIn ids wor
   pub test-request-unread : (id : Bytes) (time : ℕ) (buf : Bytes) → unread words (0 ∷ []) buf ≡ testRequestOut ids words id time buf
   unfolding testRequestOut
   test-request-unread id time buf = ap (replyFrom words buf (λ r. test-request (sessionOf r) id time buf)) none-lies
+
+  pub report-unread : (values : List ℕ) (text : Bytes) (time : ℕ) (buf : Bytes) → unread words (0 ∷ []) buf ≡ reportOut ids words values text time buf
+  unfolding reportOut
+  report-unread values text time buf = ap (replyFrom words buf (λ r. report (sessionOf r) (valuesGiven values text) time buf)) none-lies
 
   pub reconnect-unread : record { number = 11; words = words } ≡ reconnectOut ids words
   unfolding reconnectOut
@@ -70,6 +76,10 @@ module _ (ids : Bytes) (words : List ℕ) {r : Record} (one-lies : some r ≡ re
     pub test-request-left : (id : Bytes) (time : ℕ) (buf : Bytes) {buf′ : Bytes} → Leaves r (test-request (sessionOf r) id time buf) a buf′ → record { number = n; words = words′; out = a .len ∷ []; buffer = buf′ } ≡ testRequestOut ids words id time buf
     unfolding testRequestOut
     test-request-left id time buf leaves = rw (numbered, saves, leaves .answered, leaves .buffer) (ap (replyFrom words buf (λ y. test-request (sessionOf y) id time buf)) one-lies)
+
+    pub report-left : (values : List ℕ) (text : Bytes) (time : ℕ) (buf : Bytes) {buf′ : Bytes} → Leaves r (report (sessionOf r) (valuesGiven values text) time buf) a buf′ → record { number = n; words = words′; out = a .len ∷ []; buffer = buf′ } ≡ reportOut ids words values text time buf
+    unfolding reportOut
+    report-left values text time buf leaves = rw (numbered, saves, leaves .answered, leaves .buffer) (ap (replyFrom words buf (λ y. report (sessionOf y) (valuesGiven values text) time buf)) one-lies)
 
     pub reconnect-left : a ≡ answeredBy r (reconnect (sessionOf r)) → record { number = n; words = words′ } ≡ reconnectOut ids words
     unfolding reconnectOut

@@ -2,4 +2,5 @@ pub mod Bodies
 pub mod Readings
 pub mod Calls
 pub mod OneOutcome
+pub mod Reports
 pub mod Promise

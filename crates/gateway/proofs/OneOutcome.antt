@@ -8,8 +8,8 @@ use Rattle.bytes.specs.Bytes.{Bytes}
 use Rattle.frame.specs.Frame.{fixt}
 use Rattle.line.specs.Line.{Line}
 use Rattle.frame.proofs.Unique.{reads-one}
-use Rattle.gateway.specs.Border.{readNumber, readWords, ReadOut, PutOut, DropOut, BodyOut, its-body, no-frame, FieldOut, FirstOut, VerdictOut}
-use Rattle.gateway.specs.Calls.{Left, LeftByReconnect, LeftByNew, LeftByWrite, WriteOut, NewOut, ReconnectOut, StepOut, TickOut, LogoutOut, TestRequestOut}
+use Rattle.gateway.specs.Border.{readNumber, readWords, ReadOut, PutOut, DropOut, BodyOut, its-body, no-frame, FieldOut, FirstOut, VerdictOut, ReportValuesOut}
+use Rattle.gateway.specs.Calls.{Left, LeftByReconnect, LeftByNew, LeftByWrite, WriteOut, NewOut, ReconnectOut, StepOut, TickOut, LogoutOut, TestRequestOut, ReportOut}
 use Rattle.gateway.proofs.Bodies.{same-lengths}
 
 -- two that are the same third
@@ -36,6 +36,9 @@ first-one body tag A B = (both (A .number) (B .number), both (A .words) (B .word
 
 pub verdict-one : (body : Bytes) {r r′ : ℕ} {out out′ : List ℕ} → VerdictOut body r out → VerdictOut body r′ out′ → (r ≡ r′) × (out ≡ out′)
 verdict-one body A B = (both (A .number) (B .number), both (A .words) (B .words))
+
+pub report-values-one : (body : Bytes) {r r′ : ℕ} {values values′ out out′ : List ℕ} → ReportValuesOut body r values out → ReportValuesOut body r′ values′ out′ → (r ≡ r′) × ((values ≡ values′) × (out ≡ out′))
+report-values-one body A B = (both (A .number) (B .number), (both (A .values-are) (B .values-are), both (A .words) (B .words)))
 
 -- THE LINE BUFFER: how many bytes were put or are held, and every byte of the buffer
 pub put-one : (buf : Bytes) (held : ℕ) (piece : Bytes) {r r′ : ℕ} {buf₁ buf₂ : Bytes} → PutOut buf held piece r buf₁ → PutOut buf held piece r′ buf₂ → (r ≡ r′) × (buf₁ ≡ buf₂)
@@ -79,3 +82,6 @@ module _ (ids : Bytes) (words : List ℕ) {r r′ : ℕ} {words₁ words₂ : Li
 
     pub test-request-one : (id : Bytes) (time : ℕ) (buf : Bytes) → TestRequestOut ids words id time buf r words₁ out buf₁ → TestRequestOut ids words id time buf r′ words₂ out′ buf₂ → (r ≡ r′) × ((words₁ ≡ words₂) × ((out ≡ out′) × (buf₁ ≡ buf₂)))
     test-request-one id time buf A B = parts (both A B)
+
+    pub report-one : (values : List ℕ) (text : Bytes) (time : ℕ) (buf : Bytes) → ReportOut ids words values text time buf r words₁ out buf₁ → ReportOut ids words values text time buf r′ words₂ out′ buf₂ → (r ≡ r′) × ((words₁ ≡ words₂) × ((out ≡ out′) × (buf₁ ≡ buf₂)))
+    report-one values text time buf A B = parts (both A B)

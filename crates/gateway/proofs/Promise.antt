@@ -37,7 +37,12 @@ use Rattle.session.specs.Refusals.{No, numbers}
 use Rattle.moves.specs.Held.{held, sessionOf, with}
 use Rattle.session.specs.Held.{padded, recordOf}
 use Rattle.session.specs.Calls.{Outcome, keeping, refusing, tick, logout, test-request, new, reconnect, Call, call, Step, Tick, OurLogout, OurTestRequest, Reconnect}
-use Rattle.session.specs.Promise.{Kept, WholeReply, OfBytes, lent}
+use Rattle.session.specs.Promise.{Kept, Whole, AllWhole, OfBytes, lent}
+use Rattle.report.specs.Layout.{valuesGiven}
+use Rattle.reporting.specs.Call.{report}
+use Rattle.report.proofs.Promise as ReportMessage
+use Rattle.reporting.proofs.Promise as Reporting
+use Rattle.readback.proofs.Promise as Back
 use Rattle.moves.specs.declared.record.Record.{Record}
 use Rattle.session.specs.declared.Answer.{Answer}
 use Rattle.session.specs.declared.Answer.the-variants as Answer
@@ -46,12 +51,14 @@ use Rattle.session.specs.declared.Refusal.the-variants.{SessionClosed, NotLogon
 use Rattle.moves.specs.declared.record.Status.the-variants.{Closed}
 use Rattle.session.proofs.Promise as Session
 use Rattle.border.specs.Numbers.{refusalOf, valueOf}
-use Rattle.gateway.specs.Border.{readNumber, readWords, ReadOut, PutOut, DropOut, BodyOut, its-body, no-frame, FieldOut, FirstOut, VerdictOut}
+use Rattle.gateway.specs.Border.{readNumber, readWords, ReadOut, PutOut, DropOut, BodyOut, its-body, no-frame, FieldOut, FirstOut, VerdictOut, ReportValuesOut}
 use Rattle.border.specs.Record.{compIDsOf, wordsOf, saved, recordIn}
 use Rattle.border.specs.Values.{valuesOf}
-use Rattle.gateway.specs.Calls.{Left, LeftByReconnect, LeftByNew, LeftByWrite, leftBy, unread, replyLength, replyFrom, stepFrom, stepOut, tickOut, logoutOut, testRequestOut, reconnectFrom, reconnectOut, newFrom, newIf, newOut, writeOut, WriteOut}
-use Rattle.gateway.specs.Promise.{Answers, Ranged, Refused, Replied, Leaves, outLength, Lasts, Promise}
-use Rattle.gateway.proofs.OneOutcome.{read-one, body-one, field-one, first-one, verdict-one, put-one, drop-one}
+use Rattle.gateway.specs.Calls.{Left, LeftByReconnect, LeftByNew, LeftByWrite, leftBy, unread, replyLength, replyFrom, stepFrom, stepOut, tickOut, logoutOut, testRequestOut, reportOut, reconnectFrom, reconnectOut, newFrom, newIf, newOut, writeOut, WriteOut}
+use Rattle.gateway.specs.Promise.{Answers, Ranged, Refused, WholeReport, AllOf, Replied, Leaves, outLength, Lasts, Promise}
+use Rattle.gateway.proofs.OneOutcome.{read-one, body-one, field-one, first-one, verdict-one, report-values-one, put-one, drop-one}
+use Rattle.gateway.proofs.Reports.{report-keeps, report-ranged, report-whole}
+use Rattle.report.proofs.Given.{given-bytes}
 use Rattle.border.proofs.Keeping.{loaded-saves, saved-loads, closed-words, held-bytes, new-loads}
 
 -- ANSWERS
@@ -80,6 +87,7 @@ answers =
       field = λ b at. record { it = (_, _); is = record { number = refl; words = refl }; same = λ o u A B. pair (field-one b at A B) };
       first-field = λ b t. record { it = (_, _); is = record { number = refl; words = refl }; same = λ o u A B. pair (first-one b t A B) };
       verdict = λ b. record { it = (_, _); is = record { number = refl; words = refl }; same = λ o u A B. pair (verdict-one b A B) };
+      report-values = λ b. record { it = (_, (_, _)); is = record { number = refl; values-are = refl; words = refl }; same = λ o u A B. let e = report-values-one b A B in pair (e .0, pair (e .1)) };
       put = λ buf held x. record { it = (fitting (line buf held) x, put (line buf held) x .buffer); is = refl; same = λ o u A B. pair (put-one buf held x A B) };
       drop = λ buf held n. record { it = (dropped (line buf held) n .held, dropped (line buf held) n .buffer); is = refl; same = λ o u A B. pair (drop-one buf held n A B) };
       write = λ type values text buf. exactly (writeOut type values text buf);
@@ -89,6 +97,7 @@ answers =
       tick = λ ids words t buf. exactly (tickOut ids words t buf);
       logout = λ ids words t buf. exactly (logoutOut ids words t buf);
       test-request = λ ids words id t buf. exactly (testRequestOut ids words id t buf);
+      report = λ ids words values text t buf. exactly (reportOut ids words values text t buf);
     }
 
 -- WHAT A CALL ON A RECORD LEAVES
@@ -134,38 +143,52 @@ module _ (ids : Bytes) (words : List ℕ) (r : Record) (lies : recordIn ids word
           ranged = ap inRange same-session ∙ go (sym (ap (λ (x : Record). inRange (sessionOf x)) same) ∙ R .ranged);
         }
 
-    left-replied : WholeReply (o .reply) → Replied buf (replyLength o) (o .buffer)
-    left-replied W =
+    left-replied : (Whole : Bytes → Type 0) → AllOf Whole (o .reply) → Frames fixt (joined (o .reply)) (o .reply) → Replied Whole buf (replyLength o) (o .buffer)
+    left-replied Whole W F =
         let f : take (length (joined (o .reply))) (o .buffer) ≡ joined (o .reply) = ap (take (length (joined (o .reply)))) (kept .behind) ∙ take-append-seam (joined (o .reply)) (drop (length (joined (o .reply))) buf) in
         record {
           messages = o .reply;
-          whole = W .whole;
+          whole = W;
           front = f;
-          read = subst (λ (b : Bytes). Frames fixt b (o .reply)) (sym f) (W .read);
+          read = subst (λ (b : Bytes). Frames fixt b (o .reply)) (sym f) F;
           behind = ap (drop (length (joined (o .reply)))) (kept .behind) ∙ drop-append-seam (joined (o .reply)) (drop (length (joined (o .reply))) buf);
         }
 
-    left-by : (out : List ℕ) → outLength out ≡ replyLength o → (inRange (sessionOf r) ≡ true → inRange (o .session) ≡ true) → (Byted ids → WholeReply (o .reply)) → Leaves ids words buf (outLength out) (leftBy words r o out)
-    left-by out e go W =
-        record { refused = left-refused out; ranged = left-ranged go; replied = λ B. subst (λ (n : ℕ). Replied buf n (o .buffer)) (sym e) (left-replied (W B)) }
+    left-by : (Whole : Bytes → Type 0) (out : List ℕ) → outLength out ≡ replyLength o → (inRange (sessionOf r) ≡ true → inRange (o .session) ≡ true) → (Byted ids → AllOf Whole (o .reply) × Frames fixt (joined (o .reply)) (o .reply)) → Leaves Whole ids words buf (outLength out) (leftBy words r o out)
+    left-by Whole out e go W =
+        record { refused = left-refused out; ranged = left-ranged go; replied = λ B. subst (λ (n : ℕ). Replied Whole buf n (o .buffer)) (sym e) (left-replied Whole (W B .0) (W B .1)) }
 
 -- where no record lies there: refusal 11, and all as it was
-left-unread : (ids : Bytes) (words : List ℕ) (buf : Bytes) (out : List ℕ) → recordIn ids words ≡ none → outLength out ≡ 0 → Leaves ids words buf (outLength out) (unread words out buf)
-left-unread ids words buf out e z =
+left-unread : (Whole : Bytes → Type 0) (ids : Bytes) (words : List ℕ) (buf : Bytes) (out : List ℕ) → recordIn ids words ≡ none → outLength out ≡ 0 → Leaves Whole ids words buf (outLength out) (unread words out buf)
+left-unread Whole ids words buf out e z =
     record {
       refused = λ h. record { buffer = refl; session = inl refl };
       ranged = λ R. R;
-      replied = λ B. subst (λ (n : ℕ). Replied buf n buf) (sym z) (record { messages = []; whole = tt; front = refl; read = joined-frames [] tt; behind = refl });
+      replied = λ B. subst (λ (n : ℕ). Replied Whole buf n buf) (sym z) (record { messages = []; whole = tt; front = refl; read = joined-frames [] tt; behind = refl });
     }
+
+-- the messages of a session are whole, each
+all-whole : (ms : List Bytes) → AllWhole ms → AllOf Whole ms
+all-whole [] h = tt
+all-whole (m ∷ ms) h = (h .0, all-whole ms (h .1))
 
 module _ (ids : Bytes) (words : List ℕ) (r : Record) (lies : recordIn ids words ≡ some r) (c : Call) (B : OfBytes (c ∷ [])) where
   call-ranged : inRange (sessionOf r) ≡ true → inRange (call (sessionOf r) c .session) ≡ true
   call-ranged h = Session.promise .ranges (sessionOf r) (c ∷ []) B h .0 .ranged
 
-  left-call : (out : List ℕ) → outLength out ≡ replyLength (call (sessionOf r) c) → Leaves ids words (lent c) (outLength out) (leftBy words r (call (sessionOf r) c) out)
+  left-call : (out : List ℕ) → outLength out ≡ replyLength (call (sessionOf r) c) → Leaves Whole ids words (lent c) (outLength out) (leftBy words r (call (sessionOf r) c) out)
   left-call out e =
-      left-by ids words r lies (lent c) (call (sessionOf r) c) (Session.promise .buffers (sessionOf r) c) out e call-ranged
-      (λ Bi. let h = held-bytes ids words r lies Bi in Session.promise .replies (sessionOf r) c B (h .0) (h .1))
+      left-by ids words r lies (lent c) (call (sessionOf r) c) (Session.promise .buffers (sessionOf r) c) Whole out e call-ranged
+      (λ Bi. let h = held-bytes ids words r lies Bi in let R = Session.promise .replies (sessionOf r) c B (h .0) (h .1) in (all-whole (call (sessionOf r) c .reply) (R .whole), R .read))
+
+-- THE REPORT: a refusal, or one message
+left-report : (ids : Bytes) (words : List ℕ) (r : Record) (lies : recordIn ids words ≡ some r) (values : List ℕ) (text : Bytes) (t : ℕ) (buf : Bytes) → Byted text
+    → let o = report (sessionOf r) (valuesGiven values text) t buf in Leaves (WholeReport (valuesGiven values text)) ids words buf (replyLength o) (leftBy words r o (replyLength o ∷ []))
+left-report ids words r lies values text t buf B =
+    let v = valuesGiven values text in
+    let o = report (sessionOf r) v t buf in
+    left-by ids words r lies buf o (report-keeps (sessionOf r) v t buf) (WholeReport v) (replyLength o ∷ []) refl (report-ranged (sessionOf r) v t buf)
+    (λ Bi. let h = held-bytes ids words r lies Bi in report-whole (sessionOf r) v t buf (h .0) (h .1) (given-bytes values text B))
 
 -- a new record
 module _ (us them : Bytes) (a : compID us ≡ true) (b : compID them ≡ true) where
@@ -220,24 +243,27 @@ reconnect-lasts ids words R = go (recordIn ids words) refl
         (reconnect-done (sessionOf r) (sym (ap (λ (x : Record). inRange (sessionOf x)) same) ∙ R .ranged), left-ranged ids words r e [] (reconnect (sessionOf r)) (Session.promise .buffers (sessionOf r) Reconnect) (call-ranged ids words r e Reconnect tt) R)
 
 lasts : Lasts
-unfolding stepOut tickOut logoutOut testRequestOut
+unfolding stepOut tickOut logoutOut testRequestOut reportOut
 lasts =
     record {
-      step = λ ids words f t buf o B so. subst (λ (z : Left). Leaves ids words buf (outLength (z .out)) z) (sym so) (stepped ids words f t buf B (recordIn ids words) refl);
-      tick = λ ids words t buf o so. subst (λ (z : Left). Leaves ids words buf (outLength (z .out)) z) (sym so) (replying ids words buf (λ r. tick (sessionOf r) t buf) (λ r e. left-call ids words r e (Tick t buf) tt _ refl) (recordIn ids words) refl);
-      logout = λ ids words t buf o so. subst (λ (z : Left). Leaves ids words buf (outLength (z .out)) z) (sym so) (replying ids words buf (λ r. logout (sessionOf r) t buf) (λ r e. left-call ids words r e (OurLogout t buf) tt _ refl) (recordIn ids words) refl);
-      test-request = λ ids words id t buf o B so. subst (λ (z : Left). Leaves ids words buf (outLength (z .out)) z) (sym so) (replying ids words buf (λ r. test-request (sessionOf r) id t buf) (λ r e. left-call ids words r e (OurTestRequest id t buf) (B, tt) _ refl) (recordIn ids words) refl);
+      step = λ ids words f t buf o B so. subst (λ (z : Left). Leaves Whole ids words buf (outLength (z .out)) z) (sym so) (stepped ids words f t buf B (recordIn ids words) refl);
+      tick = λ ids words t buf o so. subst (λ (z : Left). Leaves Whole ids words buf (outLength (z .out)) z) (sym so) (replying Whole ids words buf (λ r. tick (sessionOf r) t buf) (λ r e. left-call ids words r e (Tick t buf) tt _ refl) (recordIn ids words) refl);
+      logout = λ ids words t buf o so. subst (λ (z : Left). Leaves Whole ids words buf (outLength (z .out)) z) (sym so) (replying Whole ids words buf (λ r. logout (sessionOf r) t buf) (λ r e. left-call ids words r e (OurLogout t buf) tt _ refl) (recordIn ids words) refl);
+      test-request = λ ids words id t buf o B so. subst (λ (z : Left). Leaves Whole ids words buf (outLength (z .out)) z) (sym so) (replying Whole ids words buf (λ r. test-request (sessionOf r) id t buf) (λ r e. left-call ids words r e (OurTestRequest id t buf) (B, tt) _ refl) (recordIn ids words) refl);
+      report = λ ids words values text t buf o B so.
+          subst (λ (z : Left). Leaves (WholeReport (valuesGiven values text)) ids words buf (outLength (z .out)) z) (sym so)
+          (replying (WholeReport (valuesGiven values text)) ids words buf (λ r. report (sessionOf r) (valuesGiven values text) t buf) (λ r e. left-report ids words r e values text t buf B) (recordIn ids words) refl);
       reconnect = λ ids words o so R. subst (λ (z : LeftByReconnect). (z .number ≡ 0) × Ranged ids (z .words)) (sym so) (reconnect-lasts ids words R);
       new = λ ids words us them o so. subst (λ (z : LeftByNew). z .number ≡ 0 → Ranged (z .ids) (z .words)) (sym so) (new-lasts ids words us them);
     }
   where
-    stepped : (ids : Bytes) (words : List ℕ) (f : Bytes) (t : ℕ) (buf : Bytes) → Byted f → (x : Option Record) → recordIn ids words ≡ x → let z = stepFrom words f t buf x in Leaves ids words buf (outLength (z .out)) z
-    stepped ids words f t buf B none e = left-unread ids words buf (0 ∷ 0 ∷ []) e refl
+    stepped : (ids : Bytes) (words : List ℕ) (f : Bytes) (t : ℕ) (buf : Bytes) → Byted f → (x : Option Record) → recordIn ids words ≡ x → let z = stepFrom words f t buf x in Leaves Whole ids words buf (outLength (z .out)) z
+    stepped ids words f t buf B none e = left-unread Whole ids words buf (0 ∷ 0 ∷ []) e refl
     stepped ids words f t buf B (some r) e = left-call ids words r e (Step f t buf) (B, tt) _ refl
 
-    replying : (ids : Bytes) (words : List ℕ) (buf : Bytes) (does : Record → Outcome) → ((r : Record) → recordIn ids words ≡ some r → Leaves ids words buf (replyLength (does r)) (leftBy words r (does r) (replyLength (does r) ∷ []))) → (x : Option Record) → recordIn ids words ≡ x → let z = replyFrom words buf does x in Leaves ids words buf (outLength (z .out)) z
-    replying ids words buf does h none e = left-unread ids words buf (0 ∷ []) e refl
-    replying ids words buf does h (some r) e = h r e
+    replying : (Whole : Bytes → Type 0) (ids : Bytes) (words : List ℕ) (buf : Bytes) (does : Record → Outcome) → ((r : Record) → recordIn ids words ≡ some r → Leaves Whole ids words buf (replyLength (does r)) (leftBy words r (does r) (replyLength (does r) ∷ []))) → (x : Option Record) → recordIn ids words ≡ x → let z = replyFrom words buf does x in Leaves Whole ids words buf (outLength (z .out)) z
+    replying Whole ids words buf does h none e = left-unread Whole ids words buf (0 ∷ []) e refl
+    replying Whole ids words buf does h (some r) e = h r e
 
 -- WRITING
 module _ (type : Bytes) (values : List ℕ) (text buf : Bytes) (B : Byted text) where
@@ -287,4 +313,7 @@ promise =
       writing = Writer.promise;
       replies = Replies.promise;
       session = Session.promise;
+      report-message = ReportMessage.promise;
+      reports = Reporting.promise;
+      read-back = Back.promise;
     }

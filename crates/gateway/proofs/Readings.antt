@@ -1,11 +1,12 @@
 -- The border's answers of reading and judging, from the cases of the enums. Assumes nothing.
 use Prim.Native.Nat.{ℕ}
 use mathlib.Core.Path.{_≡_, refl, sym, ap, _∙_, subst}
-use mathlib.Core.List.{[], _∷_}
+use mathlib.Core.List.{List, [], _∷_}
 use mathlib.Core.Bool.{true, false}
 use Rattle.bytes.specs.Bytes.{Bytes}
 use Rattle.frame.specs.Frame.{fixt}
-use Rattle.frame.specs.Reading.{frame, refusal, numbers, Reads}
+use Rattle.frame.specs.Reading.{frame, refusal, numbers}
+use Rattle.frame.specs.Reading as Frames
 use Rattle.frame.specs.declared.Reading.{Reading}
 use Rattle.frame.specs.declared.Reading.the-variants.{Frame, NoFrame}
 use Rattle.fields.specs.Field.{isBody}
@@ -17,16 +18,19 @@ use Rattle.fields.specs.declared.Place.{Place}
 use Rattle.dictionary.specs.Verdict.{verdict}
 use Rattle.dictionary.specs.Verdict as Verdict
 use Rattle.dictionary.specs.declared.Verdict.{Verdict}
+use Rattle.readback.specs.Back.{Reads}
+use Rattle.readback.specs.Back as ReadBack
+use Rattle.readback.specs.declared.ReadBack.{ReadBack}
 use Rattle.border.specs.Numbers.{refusalOf, inWords, anyOf}
-use Rattle.gateway.specs.Border.{ReadOut, part, FieldOut, FirstOut, VerdictOut}
+use Rattle.gateway.specs.Border.{ReadOut, part, FieldOut, FirstOut, VerdictOut, ReportValuesOut}
 
-pub read-frame : {s : Bytes} {x : Reading} {p n : ℕ} → x ≡ Frame p n → Reads fixt s (numbers x) → ReadOut s 0 (p ∷ n ∷ [])
+pub read-frame : {s : Bytes} {x : Reading} {p n : ℕ} → x ≡ Frame p n → Frames.Reads fixt s (numbers x) → ReadOut s 0 (p ∷ n ∷ [])
 read-frame {s} {p = p} {n = n} e A =
-    record { answer = frame p n; reads = subst (λ (y : Reading). Reads fixt s (numbers y)) e A; number = refl; words = refl }
+    record { answer = frame p n; reads = subst (λ (y : Reading). Frames.Reads fixt s (numbers y)) e A; number = refl; words = refl }
 
-pub read-none : {s : Bytes} {x : Reading} {d : ℕ} → x ≡ NoFrame d → Reads fixt s (numbers x) → ReadOut s 1 (d ∷ 0 ∷ [])
+pub read-none : {s : Bytes} {x : Reading} {d : ℕ} → x ≡ NoFrame d → Frames.Reads fixt s (numbers x) → ReadOut s 1 (d ∷ 0 ∷ [])
 read-none {s} {d = d} e A =
-    record { answer = refusal 1 d; reads = subst (λ (y : Reading). Reads fixt s (numbers y)) e A; number = refl; words = refl }
+    record { answer = refusal 1 d; reads = subst (λ (y : Reading). Frames.Reads fixt s (numbers y)) e A; number = refl; words = refl }
 
 pub field-is : (body : Bytes) (at : ℕ) {x y : Item} → x ≡ fieldAt body at → x ≡ y → FieldOut body at (refusalOf (Item.numbers y)) (part y ∷ inWords 4 (Item.numbers y))
 field-is body at e is =
@@ -45,3 +49,8 @@ pub verdict-is : (body : Bytes) {x y : Verdict} → x ≡ verdict body → x ≡
 verdict-is body e is =
     let z = sym is ∙ e in
     record { number = ap (λ (v : Verdict). refusalOf (Verdict.numbers v)) z; words = ap (λ (v : Verdict). anyOf (Verdict.numbers v) ∷ inWords 2 (Verdict.numbers v)) z }
+
+pub report-values-are : (body : Bytes) {x y : ReadBack} {values : List ℕ} → Reads body x values → x ≡ y → ReportValuesOut body (refusalOf (ReadBack.numbers y)) values (anyOf (ReadBack.numbers y) ∷ inWords 2 (ReadBack.numbers y))
+report-values-are body A is =
+    let z = sym is ∙ A .answer in
+    record { number = ap (λ (v : ReadBack). refusalOf (ReadBack.numbers v)) z; values-are = A .words-are; words = ap (λ (v : ReadBack). anyOf (ReadBack.numbers v) ∷ inWords 2 (ReadBack.numbers v)) z }

@@ -17,11 +17,13 @@ use Rattle.fields.specs.declared.Item.{Item}
 use Rattle.fields.specs.declared.Item.the-variants.{Field, Malformed, End, NoBody}
 use Rattle.dictionary.specs.Verdict.{verdict}
 use Rattle.dictionary.specs.Verdict as Verdict
+use Rattle.readback.specs.Back.{readBack, wordsBy}
+use Rattle.readback.specs.Back as ReadBack
 use Rattle.border.specs.Numbers.{refusalOf, inWords, anyOf}
 
--- fixgw_version: 1.1.0
+-- fixgw_version: 1.2.0
 abbrev pub version : ℕ
-version = 10_100
+version = 10_200
 
 -- fixgw_read: the bytes skipped and the frame's length, or the bytes to drop
 abbrev pub readNumber : Answer → ℕ
@@ -73,3 +75,9 @@ pub record FirstOut (body : Bytes) (tag r : ℕ) (out : List ℕ) : Type 0 where
 pub record VerdictOut (body : Bytes) (r : ℕ) (out : List ℕ) : Type 0 where
   pub number : r ≡ refusalOf (Verdict.numbers (verdict body))
   pub words : out ≡ anyOf (Verdict.numbers (verdict body)) ∷ inWords 2 (Verdict.numbers (verdict body))
+
+-- fixgw_report_values: whether something was found, the reason and the tag; and every word of the values
+pub record ReportValuesOut (body : Bytes) (r : ℕ) (values out : List ℕ) : Type 0 where
+  pub number : r ≡ refusalOf (ReadBack.numbers (readBack body))
+  pub values-are : values ≡ wordsBy (readBack body) body
+  pub words : out ≡ anyOf (ReadBack.numbers (readBack body)) ∷ inWords 2 (ReadBack.numbers (readBack body))

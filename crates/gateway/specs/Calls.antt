@@ -13,6 +13,8 @@ use Rattle.session.specs.Refusals.{No, numbers}
 use Rattle.moves.specs.Held.{sessionOf, with}
 use Rattle.session.specs.Held.{recordOf}
 use Rattle.session.specs.Calls.{Outcome, step, tick, logout, test-request, new, reconnect}
+use Rattle.report.specs.Layout.{valuesGiven}
+use Rattle.reporting.specs.Call.{report}
 use Rattle.moves.specs.declared.record.Record.{Record}
 use Rattle.session.specs.declared.Refusal.the-variants.{BadRecord}
 use Rattle.border.specs.Numbers.{refusalOf, valueOf}
@@ -72,6 +74,13 @@ testRequestOut ids words id time buf = replyFrom words buf (λ r. test-request (
 
 abbrev pub TestRequestOut : Bytes → List ℕ → Bytes → ℕ → Bytes → ℕ → List ℕ → List ℕ → Bytes → Type 0
 TestRequestOut ids words id time buf r words′ out buf′ = record { number = r; words = words′; out = out; buffer = buf′ } ≡ testRequestOut ids words id time buf
+
+-- fixgw_report: the report's length; its values lie in 82 words and a text beside them
+unfoldable pub reportOut : Bytes → List ℕ → List ℕ → Bytes → ℕ → Bytes → Left
+reportOut ids words values text time buf = replyFrom words buf (λ r. report (sessionOf r) (valuesGiven values text) time buf) (recordIn ids words)
+
+abbrev pub ReportOut : Bytes → List ℕ → List ℕ → Bytes → ℕ → Bytes → ℕ → List ℕ → List ℕ → Bytes → Type 0
+ReportOut ids words values text time buf r words′ out buf′ = record { number = r; words = words′; out = out; buffer = buf′ } ≡ reportOut ids words values text time buf
 
 -- fixgw_reconnect
 pub record LeftByReconnect : Type 0 where

@@ -1,4 +1,4 @@
--- The whole promise on one page: what a host that calls this library may rely on, in the words of document 01 and of the three demands.
+-- The whole promise on one page: what a host that calls this library may rely on, in the words of documents 01 and 02 and of the three demands.
 -- Shown once, by `promise` in proofs/Promise.antt. What each call does is its relation (Border.antt, Calls.antt), which is its whole contract.
 use Prim.Native.Nat.{ℕ, _+_, _≤_}
 use mathlib.Core.Path.{_≡_}
@@ -8,24 +8,33 @@ use mathlib.Core.Option.{some}
 use mathlib.Core.Bool.{true}
 use lib.ListN.{length, set, take, drop}
 use Rattle.bytes.specs.Bytes.{Bytes, Byted, within}
-use Rattle.frame.specs.Frame.{fixt}
+use Rattle.frame.specs.Frame.{fixt, Good}
 use Rattle.frame.specs.Stream.{Frames, joined}
 use Rattle.frame.specs.Promise as Frame
 use Rattle.frame.specs.Promise.{ExactlyOne}
 use Rattle.line.specs.Promise as Line
 use Rattle.fields.specs.Promise as Fields
+use Rattle.dictionary.specs.Verdict.{verdict}
+use Rattle.dictionary.specs.declared.Verdict.the-variants.{Clean}
 use Rattle.dictionary.specs.Promise as Dictionary
 use Rattle.replies.specs.Promise as Replies
 use Rattle.writer.specs.Promise as Writer
+use Rattle.report.specs.Values.{Values}
+use Rattle.report.specs.Layout.{valuesGiven}
+use Rattle.report.specs.Promise as Report
+use Rattle.readback.specs.Back.{readBack, wordsIn}
+use Rattle.readback.specs.declared.ReadBack.the-variants as ReadBack
+use Rattle.readback.specs.Promise as Back
 use Rattle.moves.specs.Session.{code, inRange}
 use Rattle.moves.specs.Held.{sessionOf}
 use Rattle.session.specs.Promise as Session
+use Rattle.reporting.specs.Promise as Reporting
 use Rattle.moves.specs.declared.record.Record.{Record}
 use Rattle.moves.specs.declared.record.Status.the-variants.{Closed}
-use Rattle.gateway.specs.Border.{ReadOut, PutOut, DropOut, BodyOut, FieldOut, FirstOut, VerdictOut}
+use Rattle.gateway.specs.Border.{ReadOut, PutOut, DropOut, BodyOut, FieldOut, FirstOut, VerdictOut, ReportValuesOut}
 use Rattle.border.specs.Record.{recordIn}
 use Rattle.border.specs.Values.{valuesOf}
-use Rattle.gateway.specs.Calls.{Left, LeftByNew, LeftByReconnect, LeftByWrite, WriteOut, NewOut, ReconnectOut, StepOut, TickOut, LogoutOut, TestRequestOut}
+use Rattle.gateway.specs.Calls.{Left, LeftByNew, LeftByReconnect, LeftByWrite, WriteOut, NewOut, ReconnectOut, StepOut, TickOut, LogoutOut, TestRequestOut, ReportOut}
 
 -- ANSWERS. "Whatever bytes, numbers or session record a call is given, it ends, stays inside its memory and answers." That a call ends and stays inside
 -- its memory is proved with its code, of which nothing is asked; its answer, and all that it leaves, is exactly one.
@@ -35,6 +44,7 @@ pub record Answers : Type 0 where
   pub field : (body : Bytes) (at : ℕ) → ExactlyOne (λ (o : ℕ × List ℕ). FieldOut body at (o .0) (o .1))
   pub first-field : (body : Bytes) (tag : ℕ) → ExactlyOne (λ (o : ℕ × List ℕ). FirstOut body tag (o .0) (o .1))
   pub verdict : (body : Bytes) → ExactlyOne (λ (o : ℕ × List ℕ). VerdictOut body (o .0) (o .1))
+  pub report-values : (body : Bytes) → ExactlyOne (λ (o : ℕ × (List ℕ × List ℕ)). ReportValuesOut body (o .0) (o .1 .0) (o .1 .1))
   pub put : (buf : Bytes) (held : ℕ) (piece : Bytes) → ExactlyOne (λ (o : ℕ × Bytes). PutOut buf held piece (o .0) (o .1))
   pub drop : (buf : Bytes) (held n : ℕ) → ExactlyOne (λ (o : ℕ × Bytes). DropOut buf held n (o .0) (o .1))
   pub write : (type : Bytes) (values : List ℕ) (text buf : Bytes) → ExactlyOne (λ (o : LeftByWrite). WriteOut type values text buf (o .number) (o .out) (o .buffer))
@@ -44,8 +54,9 @@ pub record Answers : Type 0 where
   pub tick : (ids : Bytes) (words : List ℕ) (time : ℕ) (buf : Bytes) → ExactlyOne (λ (o : Left). TickOut ids words time buf (o .number) (o .words) (o .out) (o .buffer))
   pub logout : (ids : Bytes) (words : List ℕ) (time : ℕ) (buf : Bytes) → ExactlyOne (λ (o : Left). LogoutOut ids words time buf (o .number) (o .words) (o .out) (o .buffer))
   pub test-request : (ids : Bytes) (words : List ℕ) (id : Bytes) (time : ℕ) (buf : Bytes) → ExactlyOne (λ (o : Left). TestRequestOut ids words id time buf (o .number) (o .words) (o .out) (o .buffer))
+  pub report : (ids : Bytes) (words values : List ℕ) (text : Bytes) (time : ℕ) (buf : Bytes) → ExactlyOne (λ (o : Left). ReportOut ids words values text time buf (o .number) (o .words) (o .out) (o .buffer))
 
--- WHAT A CALL ON A RECORD LEAVES, whichever of the four that write it is: step, tick, and the venue's own Logout and Test Request
+-- WHAT A CALL ON A RECORD LEAVES, whichever of the five that write it is: step, tick, the venue's own Logout and Test Request, and the report
 -- a record in its ranges lies in the bytes and words
 pub record Ranged (ids : Bytes) (words : List ℕ) : Type 0 where
   pub its-record : Record
@@ -57,21 +68,33 @@ pub record Refused (words : List ℕ) (buf : Bytes) (number : ℕ) (words′ : L
   pub buffer : buf′ ≡ buf
   pub session : (words′ ≡ words) ⊎ ((within 3 5 number ≡ true) × (words′ ≡ set words 1 (code Closed)))
 
--- the reply: messages one behind the other at the front of the buffer, each "a good frame and reads as the values it was written from"; a member who reads
--- its n bytes gets just these messages. "Behind a reply .. the buffer keeps its old bytes."
-pub record Replied (buf : Bytes) (n : ℕ) (buf′ : Bytes) : Type 0 where
+-- the report of values: a good frame of at most 512 bytes with a clean verdict, and fixgw_report_values reads these values back out of its body
+pub record WholeReport (v : Values) (m : Bytes) : Type 0 where
+  pub frame : Good fixt m
+  pub short : length m ≤ 512
+  pub no-finding : verdict (frame .body) ≡ Clean
+  pub answered : readBack (frame .body) ≡ ReadBack.Values
+  pub reads-back : valuesGiven (wordsIn (frame .body)) (frame .body) ≡ v
+
+abbrev pub AllOf : (Bytes → Type 0) → List Bytes → Type 0
+AllOf Whole [] = Unit {0}
+AllOf Whole (m ∷ ms) = Whole m × AllOf Whole ms
+
+-- the reply: messages one behind the other at the front of the buffer, each "a good frame and reads as the values it was written from", as `Whole` says
+-- (Session.Whole, or a report's); a member who reads its n bytes gets just these messages. "Behind a reply .. the buffer keeps its old bytes."
+pub record Replied (Whole : Bytes → Type 0) (buf : Bytes) (n : ℕ) (buf′ : Bytes) : Type 0 where
   pub messages : List Bytes
-  pub whole : Session.AllWhole messages
+  pub whole : AllOf Whole messages
   pub front : take n buf′ ≡ joined messages
   pub read : Frames fixt (take n buf′) messages
   pub behind : drop n buf′ ≡ drop n buf
 
 -- what is left by a call with n bytes of reply
-pub record Leaves (ids : Bytes) (words : List ℕ) (buf : Bytes) (n : ℕ) (o : Left) : Type 0 where
+pub record Leaves (Whole : Bytes → Type 0) (ids : Bytes) (words : List ℕ) (buf : Bytes) (n : ℕ) (o : Left) : Type 0 where
   pub refused : (o .number ≡ 0 → ⊥) → Refused words buf (o .number) (o .words) (o .buffer)
   -- the next call finds a record in its ranges, if this one did
   pub ranged : Ranged ids words → Ranged ids (o .words)
-  pub replied : Byted ids → Replied buf n (o .buffer)
+  pub replied : Byted ids → Replied Whole buf n (o .buffer)
 
 -- the reply's length among the out words
 abbrev pub outLength : List ℕ → ℕ
@@ -80,10 +103,11 @@ outLength (n ∷ []) = n
 outLength (d ∷ n ∷ out) = n
 
 pub record Lasts : Type 0 where
-  pub step : (ids : Bytes) (words : List ℕ) (frame : Bytes) (time : ℕ) (buf : Bytes) (o : Left) → Byted frame → StepOut ids words frame time buf (o .number) (o .words) (o .out) (o .buffer) → Leaves ids words buf (outLength (o .out)) o
-  pub tick : (ids : Bytes) (words : List ℕ) (time : ℕ) (buf : Bytes) (o : Left) → TickOut ids words time buf (o .number) (o .words) (o .out) (o .buffer) → Leaves ids words buf (outLength (o .out)) o
-  pub logout : (ids : Bytes) (words : List ℕ) (time : ℕ) (buf : Bytes) (o : Left) → LogoutOut ids words time buf (o .number) (o .words) (o .out) (o .buffer) → Leaves ids words buf (outLength (o .out)) o
-  pub test-request : (ids : Bytes) (words : List ℕ) (id : Bytes) (time : ℕ) (buf : Bytes) (o : Left) → Byted id → TestRequestOut ids words id time buf (o .number) (o .words) (o .out) (o .buffer) → Leaves ids words buf (outLength (o .out)) o
+  pub step : (ids : Bytes) (words : List ℕ) (frame : Bytes) (time : ℕ) (buf : Bytes) (o : Left) → Byted frame → StepOut ids words frame time buf (o .number) (o .words) (o .out) (o .buffer) → Leaves Session.Whole ids words buf (outLength (o .out)) o
+  pub tick : (ids : Bytes) (words : List ℕ) (time : ℕ) (buf : Bytes) (o : Left) → TickOut ids words time buf (o .number) (o .words) (o .out) (o .buffer) → Leaves Session.Whole ids words buf (outLength (o .out)) o
+  pub logout : (ids : Bytes) (words : List ℕ) (time : ℕ) (buf : Bytes) (o : Left) → LogoutOut ids words time buf (o .number) (o .words) (o .out) (o .buffer) → Leaves Session.Whole ids words buf (outLength (o .out)) o
+  pub test-request : (ids : Bytes) (words : List ℕ) (id : Bytes) (time : ℕ) (buf : Bytes) (o : Left) → Byted id → TestRequestOut ids words id time buf (o .number) (o .words) (o .out) (o .buffer) → Leaves Session.Whole ids words buf (outLength (o .out)) o
+  pub report : (ids : Bytes) (words values : List ℕ) (text : Bytes) (time : ℕ) (buf : Bytes) (o : Left) → Byted text → ReportOut ids words values text time buf (o .number) (o .words) (o .out) (o .buffer) → Leaves (WholeReport (valuesGiven values text)) ids words buf (outLength (o .out)) o
   pub reconnect : (ids : Bytes) (words : List ℕ) (o : LeftByReconnect) → ReconnectOut ids words (o .number) (o .words) → Ranged ids words → (o .number ≡ 0) × Ranged ids (o .words)
   pub new : (ids : Bytes) (words : List ℕ) (us them : Bytes) (o : LeftByNew) → NewOut ids words us them (o .number) (o .ids) (o .words) → o .number ≡ 0 → Ranged (o .ids) (o .words)
 
@@ -108,3 +132,7 @@ pub record Promise : Type 0 where
   pub replies : Replies.Promise
   -- the delivered frame, the four slips, ranges over every run of calls, W1 to W12
   pub session : Session.Promise
+  -- Trade Capture Reports: the message and what our call writes, the session's report call, and the reading back
+  pub report-message : Report.Promise
+  pub reports : Reporting.Promise
+  pub read-back : Back.Promise

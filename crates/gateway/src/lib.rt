@@ -1,8 +1,9 @@
 // The calls of the C host: numbers, byte slices and words in, numbers and words out. No call has a precondition, and each has one relation of
-// specs/ as its contract. They stand by what they work on: the line, a body, a message's values, a session's record.
+// specs/ as its contract. They stand by what they work on: the line, a body, a message's values, a session's record, a trade's report.
 mod body;
 mod record;
 mod stream;
+mod trades;
 mod writing;
 
 pub use body::fixgw_field;
@@ -18,6 +19,8 @@ pub use stream::fixgw_body;
 pub use stream::fixgw_drop;
 pub use stream::fixgw_put;
 pub use stream::fixgw_read;
+pub use trades::fixgw_report;
+pub use trades::fixgw_report_values;
 pub use writing::fixgw_write;
 ghost use mathlib.Core.Path.{_≡_};
 ghost use Rattle.gateway.specs.Border.{version};
@@ -27,5 +30,5 @@ ghost use Rattle.gateway.specs.Border.{version};
 pub extern "C" fn fixgw_version() -> u32
     ensures { λ r. ⌜ r ≡ version ⌝ }
 {
-    10_100
+    10_200
 }
