@@ -2,25 +2,25 @@
 use borrow.Author.Needs.{needs}
 use native.Mathlib.Omega.{arith}
 use denote.Ref.{now}
-use mathlib.Core.Path.{_≡_, sym}
-use lib.ListN.{length, take}
+use mathlib.Core.Path.{refl, sym}
 use lib.Seq.{length-take-le}
 use Rattle.report.specs.Layout.{valuesGiven}
+use Rattle.session.proofs.Playing.{refused-same}
 use Rattle.reporting.proofs.Sends.{frame-room, send-8, send-12, send-9, send-done}
 use Rattle.reporting.proofs.send.Statement.{statement}
 use Rattle.reporting.proofs.send.Tie as tie
 
 returns : tie.Need-returns
-returns c = let a = c .before .before .before .before .before .before .before .args in send-8 (a .r) (valuesGiven (now (a .values)) (now (a .text))) (a .time) (now (a .buf)) (c .before .before .before .put-body .ensures) (c .before .if1 .taken) (c .refused .ensures)
+returns c = let a = c .before .before .before .before .before .before .before .args in send-8 (a .r) (valuesGiven (now (a .values)) (now (a .text))) (a .time) (now (a .buf)) (c .before .before .before .put-body .ensures) (c .before .if1 .taken) (refused-same (a .r) refl (c .unchanged .ensures))
 
 frame-length-requires : tie.Need-frame-length-requires
 frame-length-requires c κs = omega (arith, c .before .before .put-body .ensures .room)
 
 returns-2 : tie.Need-returns-2
-returns-2 c = let a = c .before .before .before .before .before .before .before .before .before .args in send-12 (a .r) (valuesGiven (now (a .values)) (now (a .text))) (a .time) (now (a .buf)) (c .before .before .before .before .before .put-body .ensures) (c .before .before .before .if1 .left) (search needs) (c .before .before .frame-length .ensures) (c .before .if2 .taken) (c .refused2 .ensures)
+returns-2 c = let a = c .before .before .before .before .before .before .before .before .before .args in send-12 (a .r) (valuesGiven (now (a .values)) (now (a .text))) (a .time) (now (a .buf)) (c .before .before .before .before .before .put-body .ensures) (c .before .before .before .if1 .left) (search needs) (c .before .before .frame-length .ensures) (c .before .if2 .taken) (refused-same (a .r) refl (c .unchanged2 .ensures))
 
 returns-3 : tie.Need-returns-3
-returns-3 c = let a = c .before .before .before .before .before .before .before .before .before .before .args in send-9 (a .r) (valuesGiven (now (a .values)) (now (a .text))) (a .time) (now (a .buf)) (c .before .before .before .before .before .before .put-body .ensures) (c .before .before .before .before .if1 .left) (search needs) (c .before .before .before .frame-length .ensures) (c .before .before .if2 .left) (c .before .if3 .taken) (c .refused3 .ensures)
+returns-3 c = let a = c .before .before .before .before .before .before .before .before .before .before .args in send-9 (a .r) (valuesGiven (now (a .values)) (now (a .text))) (a .time) (now (a .buf)) (c .before .before .before .before .before .before .put-body .ensures) (c .before .before .before .before .if1 .left) (search needs) (c .before .before .before .frame-length .ensures) (c .before .before .if2 .left) (c .before .if3 .taken) (refused-same (a .r) refl (c .unchanged3 .ensures))
 
 array-share-prefix-body : tie.Need-array-share-prefix-body
 array-share-prefix-body c = omega (arith, c .before .before .before .before .before .before .put-body .ensures .room)
