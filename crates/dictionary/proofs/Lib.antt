@@ -7,6 +7,7 @@ pub mod Walking
 pub mod Turns
 pub mod Reported
 pub mod Nesting
+pub mod TwoWalks
 pub mod TopWalk
 pub mod Reports
 pub mod Types

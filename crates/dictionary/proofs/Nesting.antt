@@ -1,13 +1,13 @@
--- The group walk and the instance walk: what the words remember in a group, and one turn of it for each way that a part can go.
-use Prim.Native.Nat.{ℕ, _+_, _-_, _≤_}
+-- A group of a report in the words: what is said where it ends, and what is remembered behind each of its members, whatever groups are open around it.
+use Prim.Native.Nat.{ℕ, _+_, _-_}
 use native.Mathlib.Omega.{arith}
 use borrow.Author.Tests.{eqb-true, eq-eqb}
 use mathlib.Core.Path.{_≡_, refl, ap, sym, _∙_, subst}
 use mathlib.Core.List.{List, [], _∷_, _++_}
-use mathlib.Core.Bool.{Bool, true, false, cond, not, false≢true, or-true}
+use mathlib.Core.Bool.{Bool, true, false, cond, false≢true}
 use mathlib.Core.Logic.{_⊎_, inl, inr}
 use lib.Dec.{eqb}
-use lib.ListN.{length, take, drop, set, replicate, length-set, length-replicate}
+use lib.ListN.{length, take, drop, set, replicate, length-replicate}
 use Rattle.bytes.specs.Bytes.{Bytes, any}
 use Rattle.fields.specs.Field.{Part, field, malformed, partOf, parts}
 use Rattle.fields.specs.Item.{Span, Cut}
@@ -18,7 +18,7 @@ use Rattle.table.specs.Dictionary.{Row, Group, №453, №580, №552, groups, 
 use Rattle.table.specs.code.Held.{Three}
 use Rattle.dictionary.specs.Verdict.{Open, Past, firstOf, missing, closing, closingAll, ends, firstMember, rule1, left, rule2, rule3, rule8, skipped, rules4to10, said, opened, joined, taken, after, verdictBy, walk}
 use Rattle.dictionary.specs.code.Held.{InGroup, Stood, away, within, Closing, begunOf}
-use Rattle.dictionary.specs.code.Nested.{AE, past, MemberAt, endsGroup, MemberBy, MemberIn, endsInstance, OfMember, Opened, Lies, onward, reachedBy, Goes, GroupWalk, Along, Turned, InstanceWalk}
+use Rattle.dictionary.specs.code.Nested.{AE, past, MemberAt, endsGroup, MemberBy, MemberIn, OfMember, Opened, onward, reachedBy, Goes, GroupWalk, Along, Turned}
 use Rattle.table.specs.declared.MsgType.{MsgType}
 use Rattle.dictionary.specs.declared.Says.{Says}
 use Rattle.dictionary.specs.declared.Says.the-variants.{Nothing, Reason}
@@ -29,11 +29,11 @@ use Rattle.table.specs.declared.lines.Entry.{Entry}
 use Rattle.dictionary.specs.declared.members.Head.{Head}
 use Rattle.dictionary.specs.declared.members.Head.the-variants.{Member, Other}
 use Rattle.dictionary.specs.declared.nested.Reached.{Reached}
-use Rattle.dictionary.specs.declared.nested.Reached.the-variants.{Found, To}
+use Rattle.dictionary.specs.declared.nested.Reached.the-variants.{To}
 use Rattle.dictionary.proofs.Ending.{counted}
 use Rattle.dictionary.proofs.FourToEight.{leads}
-use Rattle.dictionary.proofs.Saying.{known-entry, entry-belongs, rule6-silent}
-use Rattle.dictionary.proofs.Reported.{one-of-three, opened-reported}
+use Rattle.dictionary.proofs.Saying.{known-entry, rule6-silent}
+use Rattle.dictionary.proofs.Reported.{opened-reported}
 use Rattle.dictionary.proofs.Opening.{opens-none}
 use Rattle.dictionary.proofs.Walking.{mark-more, no-marks, walk-on, field-lies, field-step, malformed-step, end-row, never-none}
 use Rattle.dictionary.proofs.Turns.{Silent, silent, after-taken}
@@ -92,7 +92,7 @@ one-closes g = go (closing g)
     go (Reason a t) = refl
 
 -- the code leaves the group
-leaves : {body : Bytes} {s : List ℕ} {g : Open} {gs : List Open} {from at : ℕ} {item : Item} {met : List Bool} {st : State} {r : Says} {w : Reached}
+pub leaves : {body : Bytes} {s : List ℕ} {g : Open} {gs : List Open} {from at : ℕ} {item : Item} {met : List Bool} {st : State} {r : Says} {w : Reached}
     → Along body s g gs from met st (To at item) → Cut body at item → MemberBy item (st .group) Other → Closing met st r → w ≡ reachedBy r at item
     → onward (past s gs) body w ≡ walk AE (past s (g ∷ gs)) (parts (drop from body))
 leaves {body} {s} {g} {gs} {from} {at} {item} {met} {st} {r} A C H Z e =
@@ -121,7 +121,7 @@ pub stood-one : {gs : List Open} {met : List Bool} {st : State} → Stood gs met
 stood-one (away z) h = absurd (h z)
 stood-one (within {g} I) h = (g, (refl, I))
 
-abbrev valueIn : Bytes → ℕ → ℕ → Bytes
+abbrev pub valueIn : Bytes → ℕ → ℕ → Bytes
 valueIn body start end = take (end - start) (drop start body)
 
 module _ {body : Bytes} {at : ℕ} {item : Item} (C : Cut body at item) {group : ℕ} {e : Entry} {p start end next : ℕ} (M : MemberAt item group e p start end next) where
@@ -151,7 +151,7 @@ module _ {body : Bytes} {at : ℕ} {item : Item} (C : Cut body at item) {st : St
       walked = walk-on AE (past s (A .later ∷ gs)) body _ _ at next (member-step C M) ∙ ap (λ (x : Says). verdictBy x (walk AE (after AE (past s (A .later ∷ gs)) (field (e .tag) (valueIn body start end))) (parts (drop next body)))) (sym said-here)
 
       -- a rule speaks
-      faults : {a t : ℕ} → r ≡ Reason a t → Finding a t ≡ walk AE (past s (g ∷ gs)) (parts (drop from body))
+      pub faults : {a t : ℕ} → r ≡ Reason a t → Finding a t ≡ walk AE (past s (g ∷ gs)) (parts (drop from body))
       faults q = sym (walked ∙ rw q) ∙ A .is
 
       -- none does
@@ -185,7 +185,7 @@ module _ {body : Bytes} {at : ℕ} {item : Item} (C : Cut body at item) {st : St
                 let k = x (A .later .group) (A .goes .reported) (sym (I .counter)) in
                 absurd (false≢true (rw (M .is, in-group (A .goes), h) at k))
 
-        begins-one : (st .begun ≡ 0) ⊎ Turned (st .group) (To at item) → (i : Item) → Along body s g gs from (set (replicate 128 false) p true) (begunOf st) (To next i)
+        pub begins-one : (st .begun ≡ 0) ⊎ Turned (st .group) (To at item) → (i : Item) → Along body s g gs from (set (replicate 128 false) p true) (begunOf st) (To next i)
         begins-one T i =
             let f = leads-off T in
             let I = A .goes .group in
@@ -220,11 +220,11 @@ module _ {body : Bytes} {at : ℕ} {item : Item} (C : Cut body at item) {st : St
           opening : Stood (opened (groupsOf AE) (e .tag) (valueIn body start end)) [] inner
           opening = P .opens AE [] (rule6-silent AE (e .tag) (sym (quiet .silent6))) (quiet .silent9)
 
-          joins : inner .group ≡ 0 → (i : Item) → Along body s g gs from (set met p true) st (To next i)
+          pub joins : inner .group ≡ 0 → (i : Item) → Along body s g gs from (set met p true) st (To next i)
           joins z i = record { later = joins-to; goes = joined-goes; is = rw (stood-none opening z) at onto-joined }
 
           -- the count of a group in the group: the group walk goes through it
-          nests : (inner .group ≡ 0 → ⊥) → {w : Reached} → GroupWalk body inner next w → Along body s g gs from (set met p true) st w
+          pub nests : (inner .group ≡ 0 → ⊥) → {w : Reached} → GroupWalk body inner next w → Along body s g gs from (set met p true) st w
           nests y {w} W =
               let x = stood-one opening y in
               record {
@@ -235,150 +235,11 @@ module _ {body : Bytes} {at : ℕ} {item : Item} (C : Cut body at item) {st : St
               }
 
 -- one walk behind another
-chains : {body : Bytes} {s : List ℕ} {g : Open} {gs : List Open} {from next : ℕ} {i : Item} {met met2 : List Bool} {st : State} {r : Reached}
+pub chains : {body : Bytes} {s : List ℕ} {g : Open} {gs : List Open} {from next : ℕ} {i : Item} {met met2 : List Bool} {st : State} {r : Reached}
     → (A : Along body s g gs from met st (To next i)) → Along body s (A .later) gs next met2 st r → Along body s g gs from met2 st r
 chains A B = record { later = B .later; goes = B .goes; is = B .is ∙ A .is }
 
-before-any : {g : Open} {met met2 : List Bool} {st : State} → st .begun ≡ 0 → Goes g met st → Goes g met2 st
+pub before-any : {g : Open} {met met2 : List Bool} {st : State} → st .begun ≡ 0 → Goes g met st → Goes g met2 st
 before-any {g} z G =
     let I = G .group in
     record { reported = G .reported; group = record { three = I .three; counter = I .counter; count = I .count; begun = I .begun; last = λ n. absurd (false≢true (sym n ∙ eq-eqb (g .begun) 0 (sym (I .begun) ∙ z))) } }
-
--- WHERE THE TWO WALKS STAND before the part at a place
-pub record InGroupWalk (body : Bytes) (st0 : State) (from : ℕ) (met : List Bool) (st : State) (at : ℕ) (item : Item) : Type 0 where
-  pub behind : from ≤ at
-  pub near : at ≤ length body + 1
-  pub cut : Cut body at item
-  pub few : st .begun ≤ at
-  pub long : length met ≡ 128
-  pub turns : (st .begun ≡ 0) ⊎ Turned (st .group) (To at item)
-  pub is : (s : List ℕ) (g : Open) (gs : List Open) (met0 : List Bool) → Goes g met0 st0 → Along body s g gs from met st (To at item)
-
-pub record InInstanceWalk (body : Bytes) (met0 : List Bool) (st : State) (from : ℕ) (met : List Bool) (at : ℕ) (item : Item) : Type 0 where
-  pub behind : from ≤ at
-  pub near : at ≤ length body + 1
-  pub cut : Cut body at item
-  pub long : length met ≡ 128
-  pub is : (s : List ℕ) (g : Open) (gs : List Open) → Goes g met0 st → Along body s g gs from met st (To at item)
-
-pub group-starts : {body : Bytes} {st : State} {from : ℕ} {item : Item} → from ≤ length body + 1 → Cut body from item → st .begun ≡ 0 → InGroupWalk body st from (replicate 128 false) st from item
-group-starts l C z = record { behind = omega arith; near = l; cut = C; few = omega arith; long = length-replicate 128 false; turns = inl z; is = λ s g gs met0 G. record { later = g; goes = before-any z G; is = refl } }
-
-pub instance-starts : {body : Bytes} {met : List Bool} {st : State} {from : ℕ} {item : Item} → from ≤ length body + 1 → Cut body from item → length met ≡ 128 → InInstanceWalk body met st from met from item
-instance-starts l C n = record { behind = omega arith; near = l; cut = C; long = n; is = λ s g gs G. record { later = g; goes = G; is = refl } }
-
-pub marks-long : {item : Item} {group : ℕ} {e : Entry} {p start end next : ℕ} → MemberAt item group e p start end next → length (set (replicate 128 false) p true) ≡ 128
-marks-long {p = p} M = length-set (replicate 128 false) p true ∙ length-replicate 128 false
-
-said-lies : (body : Bytes) (from at : ℕ) (item : Item) (r : Says) → from ≤ at → at ≤ length body + 1 → Cut body at item → Lies body from (reachedBy r at item)
-said-lies body from at item Nothing h k C = (h, k, C)
-said-lies body from at item (Reason a t) h k C = tt
-
-said-turns : (group at : ℕ) (item : Item) {r : Says} {a t : ℕ} → r ≡ Reason a t → Turned group (reachedBy r at item)
-said-turns group at item e = rw e tt
-
--- the group walk
-module _ {body : Bytes} {st0 : State} {from : ℕ} {met : List Bool} {st : State} {at : ℕ} {item : Item} (W : InGroupWalk body st0 from met st at item) where
-  pub group-ends : {r : Says} {w : Reached} → MemberBy item (st .group) Other → Closing met st r → w ≡ reachedBy r at item → GroupWalk body st0 from w
-  group-ends {r} H Z e = record { lies = rw e (said-lies body from at item r (W .behind) (W .near) (W .cut)); is = λ s g gs met0 G. leaves (W .is s g gs met0 G) (W .cut) H Z e }
-
-  module _ {e : Entry} {p start end next : ℕ} (M : MemberAt item (st .group) e p start end next) {r : Says} (K : OfMember met st (e .tag) (valueIn body start end) r) where
-    pub group-faults : {w : Reached} {a t : ℕ} → r ≡ Reason a t → w ≡ reachedBy r at item → GroupWalk body st0 from w
-    group-faults {w} {a} {t} q h = record {
-      lies = rw h (said-lies body from at item r (W .behind) (W .near) (W .cut));
-      is = λ s g gs met0 G. ap (onward (past s gs) body) (h ∙ ap (λ (x : Says). reachedBy x at item) q) ∙ faults (W .cut) M K (W .is s g gs met0 G) q;
-    }
-
-    module _ (q : r ≡ Nothing) {st2 : State} (b : st2 ≡ begunOf st) {met2 : List Bool} {w : Reached} (X : InstanceWalk body (set (replicate 128 false) p true) st2 next met2 w) where
-      group-goes : (s : List ℕ) (g : Open) (gs : List Open) (met0 : List Bool) → Goes g met0 st0 → Along body s g gs from met2 st2 w
-      group-goes s g gs met0 G = let A = subst (λ (x : State). Along body s g gs from (set (replicate 128 false) p true) x (To next item)) (sym b) (begins-one (W .cut) M K (W .is s g gs met0 G) q (W .turns) item) in chains A (X .is s (A .later) gs (A .goes))
-
-      pub group-breaks : {a t : ℕ} → w ≡ Found a t → GroupWalk body st0 from (Found a t)
-      group-breaks {a} {t} h = record { lies = tt; is = λ s g gs met0 G. subst (λ (x : Reached). Along body s g gs from met2 st2 x) h (group-goes s g gs met0 G) .is }
-
-      pub group-lies : {n : ℕ} {i : Item} → w ≡ To n i → (next ≤ n) × (n ≤ length body + 1) × Cut body n i
-      group-lies h = subst (Lies body next) h (X .lies)
-
-      pub group-again : {n : ℕ} {i : Item} → w ≡ To n i → InGroupWalk body st0 from met2 st2 n i
-      group-again {n} {i} h =
-          let l = member-lies (W .cut) M in
-          let k = group-lies h in
-          record {
-            behind = omega (arith, W .behind, k .0, l .after, l .ordered, l .following);
-            near = k .1;
-            cut = k .2;
-            few = omega (arith, W .few, ap (λ (x : State). x .begun) b, k .0, l .after, l .ordered, l .following);
-            long = X .long;
-            turns = inr (subst (Turned (st2 .group)) h (X .turns));
-            is = λ s g gs met0 G. subst (λ (x : Reached). Along body s g gs from met2 st2 x) h (group-goes s g gs met0 G);
-          }
-
--- the instance walk
-module _ {body : Bytes} {met0 : List Bool} {st : State} {from : ℕ} {met : List Bool} {at : ℕ} {item : Item} (W : InInstanceWalk body met0 st from met at item) where
-  pub instance-ends : MemberBy item (st .group) Other → InstanceWalk body met0 st from met (To at item)
-  instance-ends H = record { lies = (W .behind, W .near, W .cut); turns = λ g T e. ends-too (g .members) item (H g T e); long = W .long; is = W .is }
-    where
-      ends-too : (members : List Row) (i : Item) → endsGroup members i ≡ true → endsInstance members i ≡ true
-      ends-too members (Field t s e n) h = rw h
-      ends-too members (Malformed s e n) h = refl
-      ends-too members End h = refl
-      ends-too members NoBody h = refl
-
-  module _ {e : Entry} {p start end next : ℕ} (M : MemberAt item (st .group) e p start end next) where
-    pub instance-turns : e .member .first ≡ true → InstanceWalk body met0 st from met (To at item)
-    instance-turns f = record {
-      lies = (W .behind, W .near, W .cut);
-      turns = λ g T c.
-          let k = eq-eqb (g .counter) (e .member .group) (c ∙ sym (M .belongs)) in
-          let b : firstMember (g .members) (e .tag) ≡ true = entry-belongs e [] (M .looked .right) .begun g (one-of-three g T) ∙ rw (k, f) in
-          rw (M .is, b) (or-true (not (listed (g .members) (e .tag))));
-      long = W .long;
-      is = W .is;
-    }
-
-    module _ {r : Says} (K : OfMember met st (e .tag) (valueIn body start end) r) where
-      pub instance-faults : {w : Reached} {a t : ℕ} → r ≡ Reason a t → w ≡ reachedBy r at item → InstanceWalk body met0 st from met w
-      instance-faults {w} {a} {t} q h = record {
-        lies = rw h (said-lies body from at item r (W .behind) (W .near) (W .cut));
-        turns = rw h (said-turns (st .group) at item q);
-        long = W .long;
-        is = λ s g gs G.
-            let A = W .is s g gs G in
-            record { later = A .later; goes = A .goes; is = ap (onward (past s (A .later ∷ gs)) body) (h ∙ ap (λ (x : Says). reachedBy x at item) q) ∙ faults (W .cut) M K A q };
-      }
-
-      module _ (q : r ≡ Nothing) (f : e .member .first ≡ false) {inner : State} (P : Opened (e .tag) (valueIn body start end) inner) where
-        pub instance-joins : {i : Item} → inner .group ≡ 0 → Cut body next i → InInstanceWalk body met0 st from (set met p true) next i
-        instance-joins {i} z C =
-            let l = member-lies (W .cut) M in
-            record {
-              behind = omega (arith, W .behind, l .after, l .ordered, l .following);
-              near = omega (arith, l .within, l .following);
-              cut = C;
-              long = length-set met p true ∙ W .long;
-              is = λ s g gs G. joins (W .cut) M K (W .is s g gs G) q f (W .long) P z i;
-            }
-
-        module _ (y : inner .group ≡ 0 → ⊥) {w : Reached} (X : GroupWalk body inner next w) where
-          pub inner-lies : {n : ℕ} {i : Item} → w ≡ To n i → (next ≤ n) × (n ≤ length body + 1) × Cut body n i
-          inner-lies h = subst (Lies body next) h (X .lies)
-
-          pub instance-breaks : {a t : ℕ} → w ≡ Found a t → InstanceWalk body met0 st from (set met p true) (Found a t)
-          instance-breaks {a} {t} h = record {
-            lies = tt;
-            turns = tt;
-            long = length-set met p true ∙ W .long;
-            is = λ s g gs G. subst (λ (x : Reached). Along body s g gs from (set met p true) st x) h (nests (W .cut) M K (W .is s g gs G) q f (W .long) P y X);
-          }
-
-          pub instance-nests : {n : ℕ} {i : Item} → w ≡ To n i → InInstanceWalk body met0 st from (set met p true) n i
-          instance-nests {n} {i} h =
-              let l = member-lies (W .cut) M in
-              let k = inner-lies h in
-              record {
-                behind = omega (arith, W .behind, k .0, l .after, l .ordered, l .following);
-                near = k .1;
-                cut = k .2;
-                long = length-set met p true ∙ W .long;
-                is = λ s g gs G. subst (λ (x : Reached). Along body s g gs from (set met p true) st x) h (nests (W .cut) M K (W .is s g gs G) q f (W .long) P y X);
-              }

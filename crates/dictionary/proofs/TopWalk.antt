@@ -16,8 +16,8 @@ use Rattle.fields.proofs.Item.{the-type}
 use Rattle.table.specs.Dictionary.{groupsOf, administrative, code35}
 use Rattle.table.specs.code.Held.{tags, Looked, Marked}
 use Rattle.dictionary.specs.Verdict.{Open, Past, rule1, left, said, opened, after, verdictBy, walk, nothingYet}
-use Rattle.dictionary.specs.code.Held.{Stood, away, pastHeader, Stands, Over, outsideOf, EndedBy, Ended}
-use Rattle.dictionary.specs.code.Nested.{AE, past, OfOwn, Opened, Lies, onward, GroupWalk}
+use Rattle.dictionary.specs.code.Held.{away, pastHeader, Over, outsideOf, EndedBy, Ended}
+use Rattle.dictionary.specs.code.Nested.{AE, past, OfOwn, Opened, Lies, onward, GroupWalk, Behind}
 use Rattle.dictionary.specs.declared.Says.{Says}
 use Rattle.dictionary.specs.declared.Says.the-variants.{Nothing, Reason}
 use Rattle.dictionary.specs.declared.Verdict.{Verdict}
@@ -45,9 +45,6 @@ pub record Above (body : Bytes) (seen : List Bool) (over : Bool) (at : ℕ) (ite
 pub starts : {body : Bytes} {item : Item} → Cut body 0 item → Above body (replicate 128 false) false 0 item
 starts C = record { met = []; marked = no-marks; header = refl; rest = refl; near = omega arith; cut = C; long = length-replicate 128 false }
 
-outside-stands : {seen none : List Bool} {over : Bool} {met : List ℕ} {st : State} → Marked seen met → over ≡ pastHeader met → st ≡ outsideOf over → Stands (past met []) seen none st
-outside-stands M h e = rw e (record { marked = M; over = h; stood = away refl })
-
 -- WHAT IS NO FIELD of the dictionary: a tag that is not in it, ..
 report-says : (met : List ℕ) (t : ℕ) (v : Bytes) → has tags t ≡ false → said AE (past met []) (field t v) ≡ Reason 3 t
 unfolding administrative code35 rule1
@@ -58,9 +55,9 @@ unknown-stops {body} {at = at} {t = t} {s} {e} {n} A h u =
     sym (A .rest ∙ walk-on AE (past (A .met) []) body _ _ at n (field-step (A .cut) h refl) ∙ rw (report-says (A .met) t (take (e - s) (drop s body)) u))
 
 -- .. a malformed part, or the end of the body
-pub ended-stops : {body : Bytes} {seen none : List Bool} {over : Bool} {at : ℕ} {item : Item} {st : State} {r : Verdict} → Above body seen over at item
-    → (tagOf the-type item ≡ 1) ⊎ ((tagOf the-type item ≡ 2) ⊎ (tagOf the-type item ≡ 3)) → st ≡ outsideOf over → Ended AE seen none st item r → r ≡ walk AE nothingYet (parts body)
-ended-stops {body} {seen} {none} {over} {at} {item} {st} {r} A K o E = go item refl K (E .is (past (A .met) []) (outside-stands (A .marked) (A .header) o)) ∙ sym (A .rest)
+pub ended-stops : {body : Bytes} {seen : List Bool} {over : Bool} {at : ℕ} {item : Item} {r : Verdict} → Above body seen over at item
+    → (tagOf the-type item ≡ 1) ⊎ ((tagOf the-type item ≡ 2) ⊎ (tagOf the-type item ≡ 3)) → Ended AE seen seen (outsideOf over) item r → r ≡ walk AE nothingYet (parts body)
+ended-stops {body} {at = at} {item = item} {r} A K E = go item refl K (E .is (past (A .met) []) (record { marked = A .marked; over = A .header; stood = away refl })) ∙ sym (A .rest)
   where
     go : (i : Item) → item ≡ i → (tagOf the-type i ≡ 1) ⊎ ((tagOf the-type i ≡ 2) ⊎ (tagOf the-type i ≡ 3)) → EndedBy AE (past (A .met) []) i r → r ≡ walk AE (past (A .met) []) (parts (drop at body))
     go (Field t s e n) h (inl k) v = absurd (omega arith)
@@ -104,44 +101,42 @@ module _ {body : Bytes} {seen : List Bool} {over : Bool} {at : ℕ} {item : Item
       rest-taken : walk AE nothingYet (parts body) ≡ walk AE (past (e .tag ∷ A .met) (opened (groupsOf AE) (e .tag) v)) (parts (drop next body))
       rest-taken = walked ∙ ap (λ (x : Says). verdictBy x (walk AE (after AE (past (A .met) []) (field (e .tag) v)) (parts (drop next body)))) q ∙ ap (λ (x : Past). walk AE x (parts (drop next body))) (after-taken AE (past (A .met) []) (e .tag) v [] (known-entry (F .0)) left-none ∙ taken-outside AE (A .met) (e .tag) v)
 
-      module _ {over2 : Bool} {group : State} (O : Over over (e .tag) over2) (P : Opened (e .tag) (take (end - start) (drop start body)) group) where
-        opens : Stood (opened (groupsOf AE) (e .tag) v) [] group
+      -- the walk goes on behind it, in the group that it opens or in none
+      module _ {w : Reached} (B : Behind body (e .tag) (take (end - start) (drop start body)) next w) where
+        came : onward (past (e .tag ∷ A .met) []) body w ≡ walk AE nothingYet (parts body)
         unfolding v
-        opens = P .opens AE [] (rule6-silent AE (e .tag) (sym (heard .silent6))) (heard .silent9)
+        came = B .is (e .tag ∷ A .met) (rule6-silent AE (e .tag) (sym (heard .silent6))) (heard .silent9) ∙ sym rest-taken
 
-        -- that opens no group, ..
-        pub notes : {i : Item} → group .group ≡ 0 → Cut body next i → Above body (set seen p true) over2 next i
-        notes z C = record {
+        pub behind-faults : {a t : ℕ} → w ≡ Found a t → Finding a t ≡ walk AE nothingYet (parts body)
+        behind-faults h = ap (onward (past (e .tag ∷ A .met) []) body) (sym h) ∙ came
+
+        pub behind-lies : {n : ℕ} {i : Item} → w ≡ To n i → (next ≤ n) × (n ≤ length body + 1) × Cut body n i
+        behind-lies h = subst (Lies body next) h (B .lies)
+
+        pub behind-again : {over2 : Bool} {n : ℕ} {i : Item} → Over over (e .tag) over2 → w ≡ To n i → Above body (set seen p true) over2 n i
+        behind-again O h = record {
           met = e .tag ∷ A .met;
           marked = mark-more (F .0) (A .long) (A .marked);
           header = O .is (A .met) (A .header);
-          rest = rest-taken ∙ ap (λ (x : List Open). walk AE (past (e .tag ∷ A .met) x) (parts (drop next body))) (stood-none opens z);
-          near = omega (arith, field-here .within, field-here .following);
-          cut = C;
+          rest = sym (ap (onward (past (e .tag ∷ A .met) []) body) (sym h) ∙ came);
+          near = behind-lies h .1;
+          cut = behind-lies h .2;
           long = length-set seen p true ∙ A .long;
         }
 
-        -- .. and the count of a group
-        module _ (y : group .group ≡ 0 → ⊥) {w : Reached} (W : GroupWalk body group next w) where
-          came : onward (past (e .tag ∷ A .met) []) body w ≡ walk AE nothingYet (parts body)
-          came =
-              let x = stood-one opens y in
-              W .is (e .tag ∷ A .met) (x .0) [] [] (record { group = x .1 .1; reported = opened-reported (e .tag) v (x .0) (x .1 .0) })
-              ∙ ap (λ (y : List Open). walk AE (past (e .tag ∷ A .met) y) (parts (drop next body))) (sym (x .1 .0)) ∙ sym rest-taken
+-- BEHIND A FIELD outside groups: it opened none, ..
+pub behind-none : {body : Bytes} {t next : ℕ} {v : Bytes} {group : State} {i : Item} → next ≤ length body + 1 → Opened t v group → group .group ≡ 0 → Cut body next i → Behind body t v next (To next i)
+behind-none {body} {next = next} l P z C = record {
+  lies = (omega arith, l, C);
+  is = λ s k q. ap (λ (x : List Open). walk AE (past s x) (parts (drop next body))) (sym (stood-none (P .opens AE [] k q) z));
+}
 
-          pub group-faults : {a t : ℕ} → w ≡ Found a t → Finding a t ≡ walk AE nothingYet (parts body)
-          group-faults h = ap (onward (past (e .tag ∷ A .met) []) body) (sym h) ∙ came
-
-          pub group-lies : {n : ℕ} {i : Item} → w ≡ To n i → (next ≤ n) × (n ≤ length body + 1) × Cut body n i
-          group-lies h = subst (Lies body next) h (W .lies)
-
-          pub group-over : {n : ℕ} {i : Item} → w ≡ To n i → Above body (set seen p true) over2 n i
-          group-over h = record {
-            met = e .tag ∷ A .met;
-            marked = mark-more (F .0) (A .long) (A .marked);
-            header = O .is (A .met) (A .header);
-            rest = sym (ap (onward (past (e .tag ∷ A .met) []) body) (sym h) ∙ came);
-            near = group-lies h .1;
-            cut = group-lies h .2;
-            long = length-set seen p true ∙ A .long;
-          }
+-- .. or the group that it opened was gone through
+pub behind-group : {body : Bytes} {t next : ℕ} {v : Bytes} {group : State} {w r : Reached} → Opened t v group → (group .group ≡ 0 → ⊥) → GroupWalk body group next w → w ≡ r → Behind body t v next r
+behind-group {body} {t} {next} {v} P y W h = subst (Behind body t v next) h (record {
+  lies = W .lies;
+  is = λ s k q.
+      let x = stood-one (P .opens AE [] k q) y in
+      W .is s (x .0) [] [] (record { group = x .1 .1; reported = opened-reported t v (x .0) (x .1 .0) })
+      ∙ ap (λ (l : List Open). walk AE (past s l) (parts (drop next body))) (sym (x .1 .0));
+})

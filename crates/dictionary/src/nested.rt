@@ -29,7 +29,8 @@ ghost use lib.ListN.{length};
 ghost use Rattle.fields.specs.Field.{parts};
 ghost use Rattle.table.specs.code.Held.{Right};
 ghost use Rattle.dictionary.specs.Verdict.{walk, nothingYet};
-ghost use Rattle.dictionary.specs.code.Nested.{Opened, GroupWalk, InstanceWalk, reachedBy};
+ghost use Rattle.dictionary.specs.code.Held.{Ended, outsideOf};
+ghost use Rattle.dictionary.specs.code.Nested.{Opened, GroupWalk, InstanceWalk, Behind, reachedBy};
 ghost use Rattle.table.specs.declared.MsgType.the-variants.{TradeCaptureReport};
 
 // What a walk came to: a finding, or the part that ended its group or instance.
@@ -91,13 +92,12 @@ fn group_walk(body: &[u8], from: usize, group: State) -> Reached
         met = [false; 128];
         met[p] = true;
         st = begun(st);
-        match instance_walk(body, next, st, &mut met) {
-            Reached::Found { reason, tag } => return Reached::Found { reason, tag },
-            Reached::To { at: n, item: i } => {
-                at = n;
-                item = i;
-            }
-        }
+        let reached = instance_walk(body, next, st, &mut met);
+        let Reached::To { at: n, item: i } = reached else {
+            return reached;
+        };
+        at = n;
+        item = i;
     }
 }
 
@@ -122,26 +122,50 @@ fn instance_walk(body: &[u8], from: usize, st: State, met: &mut [bool; 128]) -> 
         if e.member.first {
             return Reached::To { at, item };
         }
-        let v = &body[start..end];
-        let said = of_member(st, e, p, met, v);
+        let said = of_member(st, e, p, met, &body[start..end]);
         let Says::Nothing = said else {
             return on_from(said, at, item);
         };
         met[p] = true;
-        let inner = opened(e, v);
+        let inner = opened(e, &body[start..end]);
         if inner.group == 0 {
             at = next;
             item = item_at(body, next);
             continue;
         }
-        match group_walk(body, next, inner) {
-            Reached::Found { reason, tag } => return Reached::Found { reason, tag },
-            Reached::To { at: n, item: i } => {
-                at = n;
-                item = i;
-            }
-        }
+        let reached = group_walk(body, next, inner);
+        let Reached::To { at: n, item: i } = reached else {
+            return reached;
+        };
+        at = n;
+        item = i;
     }
+}
+
+// Where the walk goes on behind a field outside groups: behind the group that the field opens, or at the next part. (What the group walk came to is
+// taken apart and named again: handed through, it would have every field's next part written to memory and read back.)
+fn behind(body: &[u8], e: Entry, v: &[u8], next: usize) -> Reached
+    requires { ⌜ Right e × (length (now body) ≤ 2048) × (next ≤ length (now body) + 1) ⌝ }
+    ensures { λ r. ⌜ Behind (now (body .entry)) (e .tag) (now (v .entry)) next r ⌝ }
+{
+    let group = opened(e, v);
+    if group.group == 0 {
+        return Reached::To {
+            at: next,
+            item: item_at(body, next),
+        };
+    }
+    match group_walk(body, next, group) {
+        Reached::Found { reason, tag } => Reached::Found { reason, tag },
+        Reached::To { at, item } => Reached::To { at, item },
+    }
+}
+
+// Where the fields end outside groups. (No group is open: no marks of members are looked at.)
+fn report_ended(item: Item, over: bool, seen: &[bool; 128]) -> Verdict
+    ensures { λ r. ⌜ Ended TradeCaptureReport (now (seen .entry)) (now (seen .entry)) (outsideOf over) item r ⌝ }
+{
+    ended(MsgType::TradeCaptureReport, item, outside(over), seen, seen)
 }
 
 // The fields of a Trade Capture Report from the left; the first finding stands. One mark is set at each field outside groups; a group walk goes
@@ -151,7 +175,6 @@ pub fn report_walk(body: &[u8]) -> Verdict
     ensures { λ r. ⌜ r ≡ walk TradeCaptureReport nothingYet (parts (now (body .entry))) ⌝ }
 {
     let t = table();
-    let none = [false; 128];
     let mut seen = [false; 128];
     let mut over = false;
     let mut at: usize = 0;
@@ -164,33 +187,20 @@ pub fn report_walk(body: &[u8]) -> Verdict
             next,
         } = item
         else {
-            return ended(
-                MsgType::TradeCaptureReport,
-                item,
-                outside(over),
-                &seen,
-                &none,
-            );
+            return report_ended(item, over, &seen);
         };
         let p = place_in_report(tag);
         if p == TAGS {
             return Verdict::Finding { reason: 3, tag };
         }
         let e = entry_of(t[p]);
-        let v = &body[start..end];
-        let said = of_own(over, e, p, &seen, v);
+        let said = of_own(over, e, p, &seen, &body[start..end]);
         let Says::Nothing = said else {
             return finding(said);
         };
         seen[p] = true;
         over = over_with(over, e);
-        let group = opened(e, v);
-        if group.group == 0 {
-            at = next;
-            item = item_at(body, next);
-            continue;
-        }
-        match group_walk(body, next, group) {
+        match behind(body, e, &body[start..end], next) {
             Reached::Found { reason, tag } => return Verdict::Finding { reason, tag },
             Reached::To { at: n, item: i } => {
                 at = n;

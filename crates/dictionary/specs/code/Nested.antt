@@ -125,3 +125,8 @@ pub record InstanceWalk (body : Bytes) (met : List Bool) (st : State) (from : �
   pub turns : Turned (st .group) r
   pub long : length met2 ≡ 128
   pub is : (s : List ℕ) (g : Open) (gs : List Open) → Goes g met st → Along body s g gs from met2 st r
+
+-- BEHIND A FIELD outside groups, of which nothing is said: the walk goes on as the words do, in the group that the field opens or in none
+pub record Behind (body : Bytes) (t : ℕ) (v : Bytes) (from : ℕ) (r : Reached) : Type 0 where
+  pub lies : Lies body from r
+  pub is : (s : List ℕ) → listed (rowsOf AE) t ≡ true → rule9 AE t v ≡ Nothing → onward (past s []) body r ≡ walk AE (past s (opened (groupsOf AE) t v)) (parts (drop from body))
