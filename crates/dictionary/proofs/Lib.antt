@@ -9,6 +9,7 @@ pub mod Reported
 pub mod Nesting
 pub mod TwoWalks
 pub mod TopWalk
+pub mod Closings
 pub mod Reports
 pub mod Types
 pub mod Clean

@@ -199,7 +199,7 @@ ends-here {m} {body} A {i} {f} C K E = go i refl K (E .is (A .past) (A .stands))
     go NoBody h k v = absurd (never-none C h)
 
 -- the end of the body
-missing-append : (k l : List Row) (met : List ℕ) → missing (k ++ l) met ≡ firstOf (missing k met ∷ missing l met ∷ [])
+pub missing-append : (k l : List Row) (met : List ℕ) → missing (k ++ l) met ≡ firstOf (missing k met ∷ missing l met ∷ [])
 missing-append [] l met = sym (alone (missing l met))
 missing-append (r ∷ k) l met = go (r .required && not (has met (r .tag))) (missing-append k l met)
   where

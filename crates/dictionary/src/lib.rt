@@ -14,6 +14,7 @@ pub enum Verdict {
 }
 
 mod bits;
+mod ends;
 mod groups;
 mod members;
 mod missing;

@@ -2,8 +2,8 @@
 // at the rules of its own: what two walks call is compiled into neither.)
 use super::Says;
 use super::bits::is_in;
+use super::ends::instance_lacks;
 use super::groups::State;
-use super::groups::incomplete;
 use super::rules::rule_4;
 use super::rules::rule_5;
 use super::rules::rule_6;
@@ -97,7 +97,7 @@ fn rule_1_inside(st: State, e: Entry, met: &[bool; 128]) -> Says
     ensures { λ r. ⌜ Rule1Inside (now (met .entry)) st (e .member .first) r ⌝ }
 {
     if e.member.first {
-        return incomplete(st, met);
+        return instance_lacks(st, met);
     }
     Says::Nothing
 }

@@ -3,9 +3,10 @@
 use super::Says;
 use super::Verdict;
 use super::bits::bit;
+use super::ends::group_closing;
+use super::ends::report_ends;
 use super::groups::State;
 use super::groups::begun;
-use super::groups::closing;
 use super::groups::count_of;
 use super::groups::outside;
 use super::groups::over_with;
@@ -14,7 +15,6 @@ use super::members::member_of;
 use super::members::of_member;
 use super::members::of_own;
 use super::members::place_in_report;
-use super::walk::ended;
 use super::walk::finding;
 use fields::Item;
 use fields::item_at;
@@ -29,7 +29,6 @@ ghost use lib.ListN.{length};
 ghost use Rattle.fields.specs.Field.{parts};
 ghost use Rattle.table.specs.code.Held.{Right};
 ghost use Rattle.dictionary.specs.Verdict.{walk, nothingYet};
-ghost use Rattle.dictionary.specs.code.Held.{Ended, outsideOf};
 ghost use Rattle.dictionary.specs.code.Nested.{Opened, GroupWalk, InstanceWalk, Behind, reachedBy};
 ghost use Rattle.table.specs.declared.MsgType.the-variants.{TradeCaptureReport};
 
@@ -83,7 +82,7 @@ fn group_walk(body: &[u8], from: usize, group: State) -> Reached
             next,
         } = member_of(item, st.group)
         else {
-            return on_from(closing(st, &met), at, item);
+            return on_from(group_closing(st, &met), at, item);
         };
         let said = of_member(st, e, p, &met, &body[start..end]);
         let Says::Nothing = said else {
@@ -161,13 +160,6 @@ fn behind(body: &[u8], e: Entry, v: &[u8], next: usize) -> Reached
     }
 }
 
-// Where the fields end outside groups. (No group is open: no marks of members are looked at.)
-fn report_ended(item: Item, over: bool, seen: &[bool; 128]) -> Verdict
-    ensures { λ r. ⌜ Ended TradeCaptureReport (now (seen .entry)) (now (seen .entry)) (outsideOf over) item r ⌝ }
-{
-    ended(MsgType::TradeCaptureReport, item, outside(over), seen, seen)
-}
-
 // The fields of a Trade Capture Report from the left; the first finding stands. One mark is set at each field outside groups; a group walk goes
 // through the fields of a group.
 pub fn report_walk(body: &[u8]) -> Verdict
@@ -187,7 +179,7 @@ pub fn report_walk(body: &[u8]) -> Verdict
             next,
         } = item
         else {
-            return report_ended(item, over, &seen);
+            return report_ends(item, &seen);
         };
         let p = place_in_report(tag);
         if p == TAGS {

@@ -53,12 +53,12 @@ const COUNT: u32 = 1073741824;
 
 const FIRST: u32 = 2147483648;
 
-// The messages that have a group.
-const WITH_453: u32 = IN_F + IN_AD + IN_AE;
+// The messages that have a group, as they stand behind a kind.
+const WITH_453: u32 = 32 * (IN_F + IN_AD + IN_AE);
 
-const WITH_580: u32 = IN_AD;
+const WITH_580: u32 = 32 * IN_AD;
 
-const WITH_552: u32 = IN_AE;
+const WITH_552: u32 = 32 * IN_AE;
 
 // The kinds of values by their numbers.
 const STRING: u32 = 0;
@@ -157,15 +157,9 @@ pub fn kind_of(e: Entry, m: MsgType) -> Kind
     }
 }
 
-// A line of the table: tag; number of the kind, and 32 times the count tag of the group that the tag is a member of; marks; and the messages that have
-// that group. (Four numbers and not five, since the table is laid out at each verdict.)
+// A line of the table: tag; number of the kind, and where the tag is a member of a group 32 times the marks of the messages that have it; marks; and that
+// group's count tag (0: none). (Four numbers and not five, since the table is laid out at each verdict.)
 pub struct Line(pub u32, pub u32, pub u32, pub u32);
-
-const OF_453: u32 = 453 * 32;
-
-const OF_580: u32 = 580 * 32;
-
-const OF_552: u32 = 552 * 32;
 
 // The entry that a line is.
 pub fn entry_of(line: Line) -> Entry
@@ -177,9 +171,9 @@ pub fn entry_of(line: Line) -> Entry
         kind: line.1 % 32,
         marks,
         member: Member {
-            group: line.1 / 32,
+            group: line.3,
             first: (marks >> 31) % 2 == 1,
-            marks: line.3,
+            marks: line.1 / 32,
         },
     }
 }
@@ -218,28 +212,28 @@ const TABLE: [Line; TAGS] = [
     Line(141, FLAG, IN_A, 0),
     Line(11, STRING, IN_F, 0),
     Line(41, STRING, IN_F, 0),
-    Line(54, ONE_OR_TWO + OF_552, IN_F + FIRST, WITH_552),
+    Line(54, ONE_OR_TWO + WITH_552, IN_F + FIRST, 552),
     Line(48, STRING, IN_F + IN_AD + IN_AE, 0),
     Line(22, EIGHT, IN_F + IN_AD + IN_AE, 0),
-    Line(60, TIME + OF_580, IN_F + IN_AE, WITH_580),
-    Line(453, UP_TO_8 + OF_552, IN_F + IN_AD + COUNT, WITH_552),
+    Line(60, TIME + WITH_580, IN_F + IN_AE, 580),
+    Line(453, UP_TO_8 + WITH_552, IN_F + IN_AD + COUNT, 552),
     Line(568, STRING, IN_AD, 0),
     Line(569, ZERO, IN_AD, 0),
     Line(263, ZERO, IN_AD, 0),
     Line(828, ZERO_OR_54, IN_AD + IN_AE, 0),
-    Line(580, UP_TO_2, WITH_580 + COUNT, 0),
+    Line(580, UP_TO_2, IN_AD + COUNT, 0),
     Line(1041, STRING, IN_AD, 0),
-    Line(448, STRING + OF_453, FIRST, WITH_453),
-    Line(447, D + OF_453, 0, WITH_453),
-    Line(452, ROLES + OF_453, 0, WITH_453),
-    Line(75, DAY + OF_580, FIRST, WITH_580),
+    Line(448, STRING + WITH_453, FIRST, 453),
+    Line(447, D + WITH_453, 0, 453),
+    Line(452, ROLES + WITH_453, 0, 453),
+    Line(75, DAY + WITH_580, FIRST, 580),
     Line(571, STRING, IN_AE, 0),
     Line(32, DECIMAL, IN_AE, 0),
     Line(31, DECIMAL, IN_AE, 0),
     Line(64, DAY, IN_AE, 0),
     Line(574, MATCHES, IN_AE, 0),
-    Line(552, ONCE, WITH_552 + COUNT, 0),
-    Line(1427, STRING + OF_552, 0, WITH_552),
+    Line(552, ONCE, IN_AE + COUNT, 0),
+    Line(1427, STRING + WITH_552, 0, 552),
 ];
 
 // The one function that names the table: whoever looks into it takes it into a local, once.

@@ -14,7 +14,7 @@ use Rattle.fields.specs.declared.Item.the-variants.{Field, Malformed, End, NoBo
 use Rattle.table.specs.Dictionary.{Row, Group, №453, №552, listed, groupsOf, rowsOf}
 use Rattle.table.specs.code.Held.{Looked, Marked}
 use Rattle.dictionary.specs.Verdict.{Open, Past, _when_, firstMember, incomplete, rule9, said, opened, walk}
-use Rattle.dictionary.specs.code.Held.{InGroup, Stood, pastHeader}
+use Rattle.dictionary.specs.code.Held.{InGroup, Stood, pastHeader, outsideOf, Ended}
 use Rattle.table.specs.declared.MsgType.{MsgType}
 use Rattle.table.specs.declared.MsgType.the-variants.{TradeCaptureReport}
 use Rattle.table.specs.declared.lines.Entry.{Entry}
@@ -130,3 +130,10 @@ pub record InstanceWalk (body : Bytes) (met : List Bool) (st : State) (from : �
 pub record Behind (body : Bytes) (t : ℕ) (v : Bytes) (from : ℕ) (r : Reached) : Type 0 where
   pub lies : Lies body from r
   pub is : (s : List ℕ) → listed (rowsOf AE) t ≡ true → rule9 AE t v ≡ Nothing → onward (past s []) body r ≡ walk AE (past s (opened (groupsOf AE) t v)) (parts (drop from body))
+
+-- WHERE THE FIELDS END outside groups
+pub record Complete (seen : List Bool) (r : Verdict) : Type 0 where
+  pub is : (w : Past) → w .inside ≡ [] → Marked seen (w .seen) → r ≡ walk AE w []
+
+pub record EndsReport (seen : List Bool) (item : Item) (r : Verdict) : Type 0 where
+  pub is : (over : Bool) → Ended AE seen seen (outsideOf over) item r

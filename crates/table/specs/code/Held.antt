@@ -170,7 +170,7 @@ right e =
 -- the entry that a line of the table is, and the computed test of the whole table
 abbrev pub entryOf : Line → Entry
 entryOf l =
-    record { tag = l .0; kind = l .1 % 32; marks = l .2; member = record { group = l .1 / 32; first = bitOf (l .2) 31; marks = l .3 } }
+    record { tag = l .0; kind = l .1 % 32; marks = l .2; member = record { group = l .3; first = bitOf (l .2) 31; marks = l .1 / 32 } }
 
 pub record Table (t : List Line) : Type 0 where
   pub order : map (λ (l : Line). l .0) t ≡ tags

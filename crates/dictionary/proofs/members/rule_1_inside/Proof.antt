@@ -5,7 +5,7 @@ use Rattle.dictionary.proofs.members.rule_1_inside.Statement.{statement
 use Rattle.dictionary.proofs.members.rule_1_inside.Tie as tie
 
 returns : tie.Need-returns
-returns c = anew (c .before .if1 .taken) (c .incomplete .ensures)
+returns c = anew (c .before .if1 .taken) (c .instance-lacks .ensures)
 
 returns-2 : tie.Need-returns-2
 returns-2 c = not-anew (c .if1 .left)

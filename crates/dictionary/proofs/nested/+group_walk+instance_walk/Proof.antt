@@ -15,7 +15,7 @@ use Rattle.dictionary.proofs.nested.instance_walk.Reads as instance-wal
 use Rattle.dictionary.proofs.nested.instance_walk.Kinds as instance-walk-kinds
 use Rattle.dictionary.proofs.nested.+group_walk+instance_walk.Lts-instance_walk as instance-walk-lts
 use Rattle.dictionary.proofs.groups.begun.Reads as begun-reads
-use Rattle.dictionary.proofs.groups.closing.Reads as closing-reads
+use Rattle.dictionary.proofs.ends.group_closing.Reads as group-closing-reads
 use Rattle.dictionary.proofs.members.member_of.Reads as member-of-reads
 use Rattle.dictionary.proofs.members.of_member.Reads as of-member-reads
 use Rattle.dictionary.proofs.nested.on_from.Reads as on-from-reads
@@ -70,8 +70,8 @@ pub +group-walk+instance-walk-spec : {M : Type 1} → statement M
   item-at-reads.Learnt,
   member-of-reads.Asked,
   member-of-reads.Learnt,
-  closing-reads.Asked,
-  closing-reads.Learnt,
+  group-closing-reads.Asked,
+  group-closing-reads.Learnt,
   on-from-reads.Asked,
   on-from-reads.Learnt,
   of-member-reads.Asked,
@@ -92,7 +92,7 @@ pub +group-walk+instance-walk-spec : {M : Type 1} → statement M
     (λ c. search needs)
     (λ c κs. search needs)
     (λ c κs. search needs)
-    (λ c. group-ends (c .before .before .before .before .before .before .loop .inv) (the-other (c .before .before .before .before .before .member-of .ensures) (c .before .before .before .enum-told .given .1)) (c .before .closing .ensures) (c .on-from .ensures))
+    (λ c. group-ends (c .before .before .before .before .before .before .loop .inv) (the-other (c .before .before .before .before .before .member-of .ensures) (c .before .before .before .enum-told .given .1)) (c .before .group-closing .ensures) (c .on-from .ensures))
     (λ c. let W = c .before .before .before .before .before .loop .inv in let M = the-member (c .before .before .before .before .member-of .ensures) (c .before .before .e .given .1) in let l = member-lies (W .cut) M in omega (arith, l))
     (λ c. let W = c .before .before .before .before .before .loop .inv in let M = the-member (c .before .before .before .before .member-of .ensures) (c .before .before .e .given .1) in let l = member-lies (W .cut) M in omega (arith, l))
     (λ c. let W = c .before .before .before .before .before .loop .inv in let M = the-member (c .before .before .before .before .member-of .ensures) (c .before .before .e .given .1) in let l = member-lies (W .cut) M in omega (arith, l))

@@ -19,7 +19,7 @@ loop-holds : tie.Need-loop-holds Inv-loop μ-loop
 loop-holds c = starts (c .item-at .ensures)
 
 returns : tie.Need-returns Inv-loop μ-loop
-returns c = ended-stops (c .before .before .before .loop .inv) (c .before .before .match .keys2) (c .report-ended .ensures)
+returns c = ended-stops (c .before .before .before .loop .inv) (c .before .before .match .keys2) (c .report-ends .ensures .is _)
 
 returns-2 : tie.Need-returns-2 Inv-loop μ-loop
 returns-2 c = unknown-stops (c .before .before .before .before .before .loop .inv) (c .before .before .before .item .given .1) (c .before .place-in-report .ensures .absent (c .if1 .taken))
