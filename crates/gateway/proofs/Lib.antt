@@ -3,4 +3,5 @@ pub mod Readings
 pub mod Calls
 pub mod OneOutcome
 pub mod Reports
+pub mod Leaving
 pub mod Promise

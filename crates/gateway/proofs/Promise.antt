@@ -1,20 +1,19 @@
 -- The whole promise, shown: each call has exactly one outcome, what a call on a record leaves is as the page says, and the promises of the layers below.
 -- Assumes nothing.
-use Prim.Native.Nat.{ℕ, _+_, _-_, _≤_}
+use Prim.Native.Nat.{ℕ, _-_, _≤_}
 use mathlib.Core.Path.{_≡_, refl, sym, ap, ap₂, _∙_, subst}
-use mathlib.Core.Logic.{_⊎_, inl, inr}
-use mathlib.Core.List.{List, [], _∷_, _++_}
+use mathlib.Core.Logic.{_⊎_}
+use mathlib.Core.List.{List, [], _∷_}
 use mathlib.Core.Bool.{Bool, true, false, cond, not, _&&_}
 use mathlib.Core.Option.{Option, none, some, Option·some-injective, Option·none-ne-some}
 use native.Mathlib.Omega.{arith}
 use borrow.Author.Tests.{le-leb}
 use lib.Dec.{eqb}
-use lib.ListN.{length, getD, set, take, drop, replicate, length-append, length-replicate}
-use lib.Seq.{take-append-seam, drop-append-seam}
+use lib.ListN.{length, getD, take, drop, replicate, length-append, length-replicate}
+use lib.Seq.{take-append-seam}
 use Rattle.bytes.specs.Bytes.{Bytes, Byted, has, within}
 use Rattle.frame.specs.Frame.{fixt, front, Good}
 use Rattle.line.specs.Line.{line, fitting, put, dropped}
-use Rattle.frame.specs.Stream.{Frames, joined}
 use Rattle.frame.specs.Promise.{ExactlyOne}
 use Rattle.bytes.proofs.Tests.{both}
 use Rattle.bytes.proofs.Numerals.{within-is}
@@ -29,15 +28,14 @@ use Rattle.writer.specs.declared.Written.{Written}
 use Rattle.writer.specs.declared.Written.the-variants.{Message, Unfit, Short}
 use Rattle.replies.proofs.Promise as Replies
 use Rattle.writer.proofs.Promise as Writer
-use Rattle.message.proofs.Joined.{joined-frames}
 use Rattle.moves.specs.Words.{if_then_else_}
-use Rattle.moves.specs.Session.{Session, code, inRange, fresh, turned}
+use Rattle.moves.specs.Session.{Session, inRange, fresh, turned}
 use Rattle.message.specs.Unfit.{compID}
-use Rattle.session.specs.Refusals.{No, numbers}
-use Rattle.moves.specs.Held.{held, sessionOf, with}
+use Rattle.session.specs.Refusals.{numbers}
+use Rattle.moves.specs.Held.{held, sessionOf}
 use Rattle.session.specs.Held.{padded, recordOf}
-use Rattle.session.specs.Calls.{Outcome, keeping, refusing, tick, logout, test-request, new, reconnect, Call, call, Step, Tick, OurLogout, OurTestRequest, Reconnect}
-use Rattle.session.specs.Promise.{Kept, Whole, AllWhole, OfBytes, lent}
+use Rattle.session.specs.Calls.{Outcome, keeping, tick, logout, test-request, new, reconnect, call, Step, Tick, OurLogout, OurTestRequest, Reconnect}
+use Rattle.session.specs.Promise.{Whole}
 use Rattle.report.specs.Layout.{valuesGiven}
 use Rattle.reporting.specs.Call.{report}
 use Rattle.report.proofs.Promise as ReportMessage
@@ -46,20 +44,18 @@ use Rattle.readback.proofs.Promise as Back
 use Rattle.moves.specs.declared.record.Record.{Record}
 use Rattle.session.specs.declared.Answer.{Answer}
 use Rattle.session.specs.declared.Answer.the-variants as Answer
-use Rattle.session.specs.declared.Refusal.{Refusal}
-use Rattle.session.specs.declared.Refusal.the-variants.{SessionClosed, NotLogon, BadLogon, NumbersSpent, BufferShort, TimePast, BadValue, NoRoom, NotOneFrame, BadRecord, ReportTooLong}
+use Rattle.session.specs.declared.Refusal.the-variants.{BadRecord}
 use Rattle.moves.specs.declared.record.Status.the-variants.{Closed}
 use Rattle.session.proofs.Promise as Session
 use Rattle.border.specs.Numbers.{refusalOf, valueOf}
-use Rattle.gateway.specs.Border.{readNumber, readWords, ReadOut, PutOut, DropOut, BodyOut, its-body, no-frame, FieldOut, FirstOut, VerdictOut, ReportValuesOut}
-use Rattle.border.specs.Record.{compIDsOf, wordsOf, saved, recordIn}
+use Rattle.gateway.specs.Border.{readNumber, readWords, BodyOut, its-body, no-frame}
+use Rattle.border.specs.Record.{compIDsOf, wordsOf, recordIn}
 use Rattle.border.specs.Values.{valuesOf}
-use Rattle.gateway.specs.Calls.{Left, LeftByReconnect, LeftByNew, LeftByWrite, leftBy, unread, replyLength, replyFrom, stepFrom, stepOut, tickOut, logoutOut, testRequestOut, reportOut, reconnectFrom, reconnectOut, newFrom, newIf, newOut, writeOut, WriteOut}
-use Rattle.gateway.specs.Promise.{Answers, Ranged, Refused, WholeReport, AllOf, Replied, Leaves, outLength, Lasts, Promise}
+use Rattle.gateway.specs.Calls.{Left, LeftByReconnect, LeftByNew, LeftByWrite, leftBy, replyLength, replyFrom, stepFrom, stepOut, tickOut, logoutOut, testRequestOut, reportOut, reconnectFrom, reconnectOut, newFrom, newIf, newOut, writeOut, WriteOut}
+use Rattle.gateway.specs.Promise.{Answers, Ranged, Refused, WholeReport, Leaves, outLength, Lasts, Promise}
 use Rattle.gateway.proofs.OneOutcome.{read-one, body-one, field-one, first-one, verdict-one, report-values-one, put-one, drop-one}
-use Rattle.gateway.proofs.Reports.{report-keeps, report-ranged, report-whole}
-use Rattle.report.proofs.Given.{given-bytes}
-use Rattle.border.proofs.Keeping.{loaded-saves, saved-loads, closed-words, held-bytes, new-loads}
+use Rattle.gateway.proofs.Leaving.{left-ranged, left-unread, left-call, left-report, call-ranged}
+use Rattle.border.proofs.Keeping.{new-loads}
 
 -- ANSWERS
 -- what is a function of its input
@@ -99,96 +95,6 @@ answers =
       test-request = λ ids words id t buf. exactly (testRequestOut ids words id t buf);
       report = λ ids words values text t buf. exactly (reportOut ids words values text t buf);
     }
-
--- WHAT A CALL ON A RECORD LEAVES
--- a table's row at the border: nothing of the words is changed, or the status alone
-module _ (ids : Bytes) (words : List ℕ) (r : Record) (lies : recordIn ids words ≡ some r) where
-  refused-words : (k : Refusal) → let w = saved words (with r (refusing k (sessionOf r) [] .session)) in (w ≡ words) ⊎ ((within 3 5 (No k) ≡ true) × (w ≡ set words 1 (code Closed)))
-  refused-words SessionClosed = inl (loaded-saves ids words r lies)
-  refused-words NotLogon = inr (refl, closed-words ids words r lies)
-  refused-words BadLogon = inr (refl, closed-words ids words r lies)
-  refused-words NumbersSpent = inr (refl, closed-words ids words r lies)
-  refused-words BufferShort = inl (loaded-saves ids words r lies)
-  refused-words TimePast = inl (loaded-saves ids words r lies)
-  refused-words BadValue = inl (loaded-saves ids words r lies)
-  refused-words NoRoom = inl (loaded-saves ids words r lies)
-  refused-words NotOneFrame = inl (loaded-saves ids words r lies)
-  refused-words BadRecord = inl (loaded-saves ids words r lies)
-  refused-words ReportTooLong = inl (loaded-saves ids words r lies)
-
-  -- a call that leaves the outcome o of the session that lies there
-  module _ (buf : Bytes) (o : Outcome) (kept : Kept o (sessionOf r) buf) where
-    left-refused : (out : List ℕ) → let z = leftBy words r o out in (z .number ≡ 0 → ⊥) → Refused words buf (z .number) (z .words) (z .buffer)
-    left-refused out = go (o .answer) refl
-      where
-        go : (a : Answer) → o .answer ≡ a → (refusalOf (numbers (o .answer)) ≡ 0 → ⊥) → Refused words buf (refusalOf (numbers (o .answer))) (saved words (with r (o .session))) (o .buffer)
-        go Answer.Done e h = absurd (h (ap (λ (x : Answer). refusalOf (numbers x)) e))
-        go Answer.Delivered e h = absurd (h (ap (λ (x : Answer). refusalOf (numbers x)) e))
-        go Answer.NothingDue e h = absurd (h (ap (λ (x : Answer). refusalOf (numbers x)) e))
-        go (Answer.Refused k) e h =
-            let q = kept .refused k e in
-            subst (λ (y : Outcome). Refused words buf (refusalOf (numbers (y .answer))) (saved words (with r (y .session))) (y .buffer)) (sym q)
-            (record { buffer = refl; session = refused-words k })
-
-    -- its record is the session that the call left
-    same-session : sessionOf (with r (o .session)) ≡ o .session
-    same-session = ap₂ (λ (us them : Bytes). record { ours = us; peers = them; status = o .session .status; E = o .session .E; next = o .session .next; heartbeat = o .session .heartbeat; sent = o .session .sent }) (sym (kept .ours)) (sym (kept .peers))
-
-    left-ranged : (inRange (sessionOf r) ≡ true → inRange (o .session) ≡ true) → Ranged ids words → Ranged ids (saved words (with r (o .session)))
-    left-ranged go R =
-        let same : R .its-record ≡ r = Option·some-injective (R .its-record) r (sym (R .lies) ∙ lies) in
-        record {
-          its-record = with r (o .session);
-          lies = saved-loads ids words r (o .session) lies;
-          ranged = ap inRange same-session ∙ go (sym (ap (λ (x : Record). inRange (sessionOf x)) same) ∙ R .ranged);
-        }
-
-    left-replied : (Whole : Bytes → Type 0) → AllOf Whole (o .reply) → Frames fixt (joined (o .reply)) (o .reply) → Replied Whole buf (replyLength o) (o .buffer)
-    left-replied Whole W F =
-        let f : take (length (joined (o .reply))) (o .buffer) ≡ joined (o .reply) = ap (take (length (joined (o .reply)))) (kept .behind) ∙ take-append-seam (joined (o .reply)) (drop (length (joined (o .reply))) buf) in
-        record {
-          messages = o .reply;
-          whole = W;
-          front = f;
-          read = subst (λ (b : Bytes). Frames fixt b (o .reply)) (sym f) F;
-          behind = ap (drop (length (joined (o .reply)))) (kept .behind) ∙ drop-append-seam (joined (o .reply)) (drop (length (joined (o .reply))) buf);
-        }
-
-    left-by : (Whole : Bytes → Type 0) (out : List ℕ) → outLength out ≡ replyLength o → (inRange (sessionOf r) ≡ true → inRange (o .session) ≡ true) → (Byted ids → AllOf Whole (o .reply) × Frames fixt (joined (o .reply)) (o .reply)) → Leaves Whole ids words buf (outLength out) (leftBy words r o out)
-    left-by Whole out e go W =
-        record { refused = left-refused out; ranged = left-ranged go; replied = λ B. subst (λ (n : ℕ). Replied Whole buf n (o .buffer)) (sym e) (left-replied Whole (W B .0) (W B .1)) }
-
--- where no record lies there: refusal 11, and all as it was
-left-unread : (Whole : Bytes → Type 0) (ids : Bytes) (words : List ℕ) (buf : Bytes) (out : List ℕ) → recordIn ids words ≡ none → outLength out ≡ 0 → Leaves Whole ids words buf (outLength out) (unread words out buf)
-left-unread Whole ids words buf out e z =
-    record {
-      refused = λ h. record { buffer = refl; session = inl refl };
-      ranged = λ R. R;
-      replied = λ B. subst (λ (n : ℕ). Replied Whole buf n buf) (sym z) (record { messages = []; whole = tt; front = refl; read = joined-frames [] tt; behind = refl });
-    }
-
--- the messages of a session are whole, each
-all-whole : (ms : List Bytes) → AllWhole ms → AllOf Whole ms
-all-whole [] h = tt
-all-whole (m ∷ ms) h = (h .0, all-whole ms (h .1))
-
-module _ (ids : Bytes) (words : List ℕ) (r : Record) (lies : recordIn ids words ≡ some r) (c : Call) (B : OfBytes (c ∷ [])) where
-  call-ranged : inRange (sessionOf r) ≡ true → inRange (call (sessionOf r) c .session) ≡ true
-  call-ranged h = Session.promise .ranges (sessionOf r) (c ∷ []) B h .0 .ranged
-
-  left-call : (out : List ℕ) → outLength out ≡ replyLength (call (sessionOf r) c) → Leaves Whole ids words (lent c) (outLength out) (leftBy words r (call (sessionOf r) c) out)
-  left-call out e =
-      left-by ids words r lies (lent c) (call (sessionOf r) c) (Session.promise .buffers (sessionOf r) c) Whole out e call-ranged
-      (λ Bi. let h = held-bytes ids words r lies Bi in let R = Session.promise .replies (sessionOf r) c B (h .0) (h .1) in (all-whole (call (sessionOf r) c .reply) (R .whole), R .read))
-
--- THE REPORT: a refusal, or one message
-left-report : (ids : Bytes) (words : List ℕ) (r : Record) (lies : recordIn ids words ≡ some r) (values : List ℕ) (text : Bytes) (t : ℕ) (buf : Bytes) → Byted text
-    → let o = report (sessionOf r) (valuesGiven values text) t buf in Leaves (WholeReport (valuesGiven values text)) ids words buf (replyLength o) (leftBy words r o (replyLength o ∷ []))
-left-report ids words r lies values text t buf B =
-    let v = valuesGiven values text in
-    let o = report (sessionOf r) v t buf in
-    left-by ids words r lies buf o (report-keeps (sessionOf r) v t buf) (WholeReport v) (replyLength o ∷ []) refl (report-ranged (sessionOf r) v t buf)
-    (λ Bi. let h = held-bytes ids words r lies Bi in report-whole (sessionOf r) v t buf (h .0) (h .1) (given-bytes values text B))
 
 -- a new record
 module _ (us them : Bytes) (a : compID us ≡ true) (b : compID them ≡ true) where
