@@ -1,5 +1,6 @@
 // The desk: worked cases from its input, one a line, each written back with what the library says of it.
-// `verdict BODY` asks for the verdict on a body, `read BYTES` for one reading; the lines of a played session are those of crates/rehearsal.
+// `verdict BODY` asks for the verdict on a body, `read BYTES` for one reading, `report BODY` for a report's values in words (crates/telling); the
+// lines of a played session are those of crates/rehearsal.
 // `|` is the byte 1; a line that begins with # is a heading.
 use dictionary::Verdict;
 use frame::Reading;
@@ -9,6 +10,7 @@ use print::behind;
 use print::find;
 use print::print_bytes;
 use print::print_count;
+use telling::tell_report;
 
 // The byte 1 for `|`.
 fn soh(c: u8) -> u8 {
@@ -79,6 +81,10 @@ fn answer(r: Record, line: &[u8]) -> Record {
     }
     if begins(line, b"read ") {
         read(behind(line));
+        return r;
+    }
+    if begins(line, b"report ") {
+        tell_report(behind(line));
         return r;
     }
     io::write_all(1, b"\n");
