@@ -5,7 +5,7 @@ use native.Mathlib.Omega.{arith}
 use mathlib.Core.Path.{_≡_, refl, sym, ap, _∙_, subst}
 use mathlib.Core.List.{[], _∷_, _++_}
 use mathlib.Core.Bool.{true}
-use lib.ListN.{length, set, getD, length-append, drop-of-length-le, List·getD-append}
+use lib.ListN.{length, set, length-append, drop-of-length-le, List·getD-append}
 use lib.Seq.{sets, set-comm, take-all}
 use Rattle.bytes.specs.Bytes.{Bytes, all, digit, value, decimal}
 use Rattle.bytes.proofs.Lists.{valueFrom-append}

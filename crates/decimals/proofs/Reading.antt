@@ -1,18 +1,17 @@
 -- One digit more, a row of digits, and the decimal that they make.
-use Prim.Native.Nat.{ℕ, suc, _+_, _-_, _*_, _<_, _≤_}
+use Prim.Native.Nat.{ℕ, _+_, _-_, _*_, _<_, _≤_}
 use native.Mathlib.Numerals.{add-one}
 use native.Mathlib.Omega.{arith}
-use borrow.Author.Tests.{le-leb, lt-leb, eq-eqb, ne-eqb, leb-true, leb-false}
+use borrow.Author.Tests.{le-leb, lt-leb, leb-true, leb-false}
 use mathlib.Core.Path.{_≡_, refl, ap, sym, _∙_, subst}
-use mathlib.Core.List.{List, [], _∷_, _++_}
-use mathlib.Core.Bool.{Bool, true, false, cond, not, _&&_, _||_, and-false}
-use lib.Dec.{eqb, leb}
-use lib.ListN.{length, getD, drop, drop-of-length-le, length-drop}
+use mathlib.Core.List.{[], _∷_}
+use mathlib.Core.Bool.{Bool, true, false, and-false}
+use lib.Dec.{leb}
+use lib.ListN.{length, getD, drop, drop-of-length-le}
 use lib.Seq.{drop-cons}
 use Rattle.bytes.specs.Bytes.{Bytes, digit, valueFrom}
-use Rattle.decimals.specs.Decimal.{leading, trailing, plain}
-use Rattle.decimals.specs.code.Scan.{Capped, More, Ran, Leads}
-use Rattle.decimals.specs.declared.Run.{Run}
+use Rattle.decimals.specs.Decimal.{leading, trailing}
+use Rattle.decimals.specs.code.Scan.{Capped, More, Ran}
 
 -- ONE DIGIT MORE
 below : (w x : ℕ) → Capped w x → w < 1_000_000_000_000_000 → w ≡ x

@@ -1,11 +1,11 @@
 -- "31 and 32 are decimals given as a whole number from 0 to 999,999,999,999,999 and 0 to 8 places: digits without leading zero but a lone 0, then a
 -- point only if places follow (else 6; out of range 5); reading gives back both."
 use Prim.Native.Nat.{ℕ}
-use mathlib.Core.List.{List, [], _∷_, _++_}
-use mathlib.Core.Bool.{Bool, true, false, cond, not, _&&_, _||_}
+use mathlib.Core.List.{[], _∷_, _++_}
+use mathlib.Core.Bool.{Bool, true, cond, not, _&&_, _||_}
 use lib.Dec.{eqb}
 use lib.ListN.{length, drop}
-use Rattle.bytes.specs.Bytes.{Bytes, byte, fix, all, same, starts, within, digit, value}
+use Rattle.bytes.specs.Bytes.{Bytes, byte, fix, all, starts, within, digit, value}
 use Rattle.decimals.specs.declared.Decimal.{Decimal}
 use Rattle.decimals.specs.declared.Decimal.the-variants.{Is, OutOfRange, Bad}
 

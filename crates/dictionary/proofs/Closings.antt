@@ -1,7 +1,7 @@
 -- Where a report's fields end outside groups: a malformed part, a required tag that is missing, or nothing to say.
 use Prim.Native.Nat.{ℕ}
-use mathlib.Core.Path.{_≡_, refl, ap, sym, _∙_}
-use mathlib.Core.List.{List, [], _∷_}
+use mathlib.Core.Path.{_≡_, refl, sym, _∙_}
+use mathlib.Core.List.{List, []}
 use mathlib.Core.Bool.{Bool}
 use Rattle.fields.specs.declared.Item.{Item}
 use Rattle.fields.specs.declared.Item.the-variants.{Malformed, End}

@@ -1,5 +1,5 @@
 -- How long a decimal in range can be: fifteen digits and a point.
-use Prim.Native.Nat.{ℕ, suc, _+_, _^_, _≤_, _<_}
+use Prim.Native.Nat.{suc, _+_, _^_, _≤_, _<_}
 use native.Mathlib.Omega.{arith}
 use mathlib.Core.Path.{_≡_, refl, sym, ap, _∙_}
 use mathlib.Core.List.{[], _∷_, _++_}
@@ -9,7 +9,7 @@ use lib.ListN.{length, getD, length-append}
 use borrow.Author.Tests.{eqb-true, eqb-false, eq-eqb, not-true}
 use Rattle.bytes.specs.Bytes.{Bytes, fix, all, starts, within, digit, value}
 use Rattle.bytes.proofs.Tests.{both, all-append}
-use Rattle.bytes.proofs.Numerals.{within-is, Numeral, few-enough}
+use Rattle.bytes.proofs.Numerals.{within-is, few-enough}
 use Rattle.decimals.specs.Decimal.{leading, trailing, plain, pointed, isDecimal, placesOf, wholeOf, inRange}
 
 pub leading-digits : (v : Bytes) → all digit (leading v) ≡ true

@@ -1,16 +1,16 @@
 -- Which amounts can be written: those in range, and no others.
 use Prim.Native.Nat.{ℕ, zero, suc, _+_, _/_, _%_, _≤_, _<_}
 use native.Mathlib.Omega.{arith}
-use mathlib.Core.Path.{_≡_, refl, sym, ap, _∙_}
-use mathlib.Core.List.{[], _∷_, _++_}
-use mathlib.Core.Bool.{Bool, true, false, not, _&&_, _||_, and-false, false≢true}
+use mathlib.Core.Path.{_≡_, refl, _∙_}
+use mathlib.Core.List.{[], _∷_}
+use mathlib.Core.Bool.{true, false, not, and-false, false≢true}
 use lib.Dec.{eqb, leb}
-use lib.ListN.{length, length-append}
+use lib.ListN.{length}
 use borrow.Author.Tests.{ne-eqb, lt-leb}
 use Rattle.bytes.specs.Bytes.{Bytes, has, within, decimal}
 use Rattle.bytes.proofs.Tests.{any-append}
 use Rattle.bytes.proofs.Numerals.{is-within}
-use Rattle.decimals.specs.Decimal.{isDecimal, wholeOf, placesOf, inRange}
+use Rattle.decimals.specs.Decimal.{isDecimal, inRange}
 use Rattle.kinds.specs.Kind.{formed, allowed}
 use Rattle.kinds.specs.Kind as Kind
 use Rattle.calendar.specs.Time.{padded}

@@ -1,24 +1,23 @@
 -- The values as the host gives them: what is put for one that is given, and for one that is not.
 use Prim.Native.Nat.{ℕ, _+_, _*_, _≤_, _<_}
 use native.Mathlib.Omega.{arith}
-use mathlib.Core.Path.{_≡_, refl, sym, ap, _∙_, subst}
-use mathlib.Core.List.{[], _∷_, _++_}
+use mathlib.Core.Path.{_≡_, refl, sym, ap, subst}
+use mathlib.Core.List.{[], _∷_}
 use mathlib.Core.Bool.{Bool, true, false, cond, not}
-use mathlib.Core.Option.{Option, none, some}
-use lib.Dec.{eqb, ltb}
+use mathlib.Core.Option.{none, some}
+use lib.Dec.{ltb}
 use borrow.Author.Tests.{eq-eqb, ne-eqb}
 use Rattle.bytes.specs.Bytes.{Bytes, fix}
 use Rattle.kinds.specs.Kind.{Kind}
 use Rattle.kinds.specs.Kind as Kind
-use Rattle.message.specs.Message.{bytes, _is_, part}
+use Rattle.message.specs.Message.{_is_}
 use Rattle.message.specs.Wrote.{Wrote}
-use Rattle.message.specs.code.Writable.{unwritten}
 use Rattle.message.proofs.Fitness.{fit-empty}
 use Rattle.message.proofs.Writes.{chain}
-use Rattle.amounts.specs.Amount.{Amount, pointing, amountText}
+use Rattle.amounts.specs.Amount.{pointing, amountText}
 use Rattle.report.specs.Values.{optional}
 use Rattle.report.specs.Layout.{word, given, textAt, needed, mayBe, amountAt}
-use Rattle.report.specs.code.Puts.{Piece, Label, labelRoom, Put, Puts, Has, Optional}
+use Rattle.report.specs.code.Puts.{Label, labelRoom, Put, Puts, Optional}
 use Rattle.report.proofs.Figures.{figure-fit, figure-large, figure-fine}
 use Rattle.report.proofs.Putting.{refused, placed, field-put, field-absent}
 

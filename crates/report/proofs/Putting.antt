@@ -1,25 +1,24 @@
 -- What is put piece by piece is what is put for the fields; and the fields one behind the other.
 use Prim.Native.Nat.{ℕ, _-_, _≤_, _<_}
 use native.Mathlib.Omega.{arith}
-use mathlib.Core.Path.{_≡_, refl, sym, ap, _∙_, subst}
+use mathlib.Core.Path.{_≡_, refl, sym, ap, _∙_}
 use mathlib.Core.List.{List, [], _∷_, _++_, append-assoc, append-nil}
 use mathlib.Core.Bool.{Bool, true, false, cond, not, _&&_, _||_, false≢true}
-use lib.Dec.{eqb, leb, ltb}
+use lib.Dec.{eqb, ltb}
 use lib.ListN.{length, take, drop, length-append}
-use borrow.Author.Tests.{ltb-true, ltb-false, le-leb, lt-leb, not-true, not-false}
+use borrow.Author.Tests.{ltb-true, le-leb, lt-leb, not-true, not-false}
 use Rattle.bytes.specs.Bytes.{Bytes, fix, any, has, decimal}
 use Rattle.bytes.proofs.Tests.{both, neither, any-append}
 use Rattle.kinds.specs.Kind.{Kind, formed, allowed}
 use Rattle.table.specs.declared.MsgType.the-variants.{TradeCaptureReport}
-use Rattle.table.specs.Dictionary.{rowsOf, listed, kindIn}
-use Rattle.message.specs.Message.{Value, absent, bytes, Field, _is_, field, row, part}
+use Rattle.message.specs.Message.{Value, absent, bytes, Field, _is_, field, part}
 use Rattle.message.specs.Unfit.{rejected, required, unfit}
 use Rattle.message.specs.Wrote.{Wrote}
 use Rattle.message.specs.code.Writable.{most, unwritten}
 use Rattle.message.proofs.Accepted.{kind-length}
 use Rattle.message.proofs.Fitness.{fit-empty}
 use Rattle.message.proofs.Writes.{chain, nothing, reword, row-append, few-digits}
-use Rattle.report.specs.code.Puts.{Piece, Label, labelRoom, Put, Puts, Has, Optional}
+use Rattle.report.specs.code.Puts.{Piece, Label, labelRoom, Put, Puts, Has}
 
 -- PIECES: at no place, refused, put
 pub nowhere : {ok : Bool} {d d′ : Bytes} {at : ℕ} {xs : Bytes} → at ≡ 0 → Piece ok d d′ at 0 xs

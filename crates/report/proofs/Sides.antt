@@ -5,12 +5,12 @@ use native.Mathlib.Numerals.{add-one}
 use native.Mathlib.Omega.{arith}
 use mathlib.Core.Path.{_≡_, refl, sym, ap, _∙_, subst}
 use mathlib.Core.List.{List, [], _∷_, _++_}
-use mathlib.Core.Bool.{Bool, true, false, not, _||_, and-false, false≢true}
+use mathlib.Core.Bool.{Bool, true, false, not, _||_, and-false}
 use lib.Dec.{eqb, leb}
 use lib.ListN.{length, drop}
 use borrow.Author.Tests.{lt-leb, not-true}
 use Rattle.bytes.specs.Bytes.{Bytes, any, has, numeral, decimal}
-use Rattle.bytes.proofs.Tests.{both, allBelow, at-below, or-last}
+use Rattle.bytes.proofs.Tests.{allBelow, at-below, or-last}
 use Rattle.bytes.proofs.Decimals.{decimal-worth}
 use Rattle.kinds.specs.Kind.{Kind, text, time, day, among, kindOf, isNumber, formed, allowed}
 use Rattle.kinds.specs.Kind as Kind
@@ -18,7 +18,7 @@ use Rattle.kinds.specs.Judged.{choices}
 use Rattle.kinds.specs.declared.Choice.the-variants.{Eight, D, OneOrTwo, ZeroOr54Or99, Matches, Roles}
 use Rattle.table.specs.declared.MsgType.the-variants.{TradeCaptureReport}
 use Rattle.table.specs.Dictionary.{№453, №580, №552, header, fields, groupsOf, rowsOf, listed, kindIn}
-use Rattle.message.specs.Message.{Value, number, bytes, Field, _is_, field, part}
+use Rattle.message.specs.Message.{number, bytes, Field, _is_, field, part}
 use Rattle.message.specs.Unfit.{rejected, required, unfit}
 use Rattle.message.specs.Wrote.{Wrote}
 use Rattle.amounts.specs.Amount.{amountText}

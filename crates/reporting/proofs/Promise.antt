@@ -21,7 +21,7 @@ use Rattle.moves.specs.Session.{_==_, Session, numbering, sent-at, inRange}
 use Rattle.moves.specs.declared.record.Status.the-variants.{Active}
 use Rattle.moves.proofs.Words.{Said, Each, then-by, said-when, not-said}
 use Rattle.session.specs.Calls.{Outcome, refusing, answering, spent}
-use Rattle.session.specs.Promise.{InRange, AllInRange, Kept}
+use Rattle.session.specs.Promise.{AllInRange, Kept}
 use Rattle.session.specs.declared.Answer.{Answer}
 use Rattle.session.specs.declared.Answer.the-variants.{Done, Refused}
 use Rattle.session.specs.declared.Refusal.{Refusal}

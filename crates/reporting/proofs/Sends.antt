@@ -3,9 +3,8 @@ use Prim.Native.Nat.{ℕ, _+_, _≤_, _<_}
 use native.Mathlib.Nat.{zero-add}
 use native.Mathlib.Omega.{arith}
 use mathlib.Core.Path.{_≡_, refl, sym, ap, _∙_, subst}
-use mathlib.Core.Bool.{Bool, true, false, not, true≢false, false≢true}
-use mathlib.Core.List.{List, [], _∷_, _++_, append-nil}
-use mathlib.Core.Option.{none, some}
+use mathlib.Core.Bool.{Bool, true, false}
+use mathlib.Core.List.{[], _∷_, _++_, append-nil}
 use lib.ListN.{length, take, drop}
 use borrow.Author.Tests.{lt-ltb, le-ltb}
 use Rattle.bytes.specs.Bytes.{Bytes, decimal}
@@ -25,9 +24,9 @@ use Rattle.moves.specs.declared.record.Record.{Record}
 use Rattle.session.specs.Calls.{over, refusing}
 use Rattle.session.specs.Held.{answeredBy, Leaves}
 use Rattle.session.specs.declared.Answered.{Answered}
-use Rattle.session.specs.declared.Answer.the-variants.{Done, Refused}
+use Rattle.session.specs.declared.Answer.the-variants.{Done}
 use Rattle.session.specs.declared.Refusal.the-variants.{BadValue, NoRoom, ReportTooLong}
-use Rattle.reporting.specs.Call.{message, sending, unless}
+use Rattle.reporting.specs.Call.{message, unless}
 use Rattle.reporting.specs.code.Sending.{ofValues, headOf, PutBody}
 
 -- a header is not empty

@@ -9,7 +9,7 @@ use Rattle.report.specs.Report.{Report}
 use Rattle.report.specs.Promise.{Written}
 use Rattle.moves.specs.Session.{Session, numbering, sent-at, inRange}
 use Rattle.session.specs.Calls.{Outcome, Call, call}
-use Rattle.session.specs.Promise.{OfBytes, InRange, AllInRange, Kept}
+use Rattle.session.specs.Promise.{OfBytes, AllInRange, Kept}
 use Rattle.session.specs.declared.Answer.the-variants.{Done}
 use Rattle.reporting.specs.Call.{message, report}
 

@@ -97,7 +97,7 @@ pub enum Gate {
 }
 
 // A refusal: the session is Closed under 3, 4 and 5, and unchanged under the others.
-pub fn refused(r: Record, k: Refusal) -> Answered
+fn refused(r: Record, k: Refusal) -> Answered
     ensures { λ a. ⌜ a ≡ answeredBy r (refusing k (sessionOf r) []) ⌝ }
 {
     let answer = Answer::Refused(k);

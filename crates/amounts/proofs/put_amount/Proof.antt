@@ -1,5 +1,4 @@
 -- `put_amount`: the digits alone, or those behind the point, the point and those before it.
-use denote.Ref.{now}
 use borrow.Author.Needs.{needs}
 use native.Mathlib.Omega.{arith}
 use Prim.Native.Nat.{_+_}

@@ -1,8 +1,7 @@
 -- How the code reads a decimal. Nothing here states document 02.
 use Prim.Native.Nat.{ℕ, _+_, _-_, _*_, _<_, _≤_}
 use mathlib.Core.Path.{_≡_}
-use mathlib.Core.List.{List, [], _∷_, _++_}
-use mathlib.Core.Bool.{Bool, true, false, cond, not, _&&_}
+use mathlib.Core.Bool.{true}
 use lib.ListN.{length, drop}
 use Rattle.bytes.specs.Bytes.{Bytes, valueFrom}
 use Rattle.decimals.specs.Decimal.{leading, trailing, plain, decimalOf}

@@ -1,9 +1,7 @@
 -- `reported`: one number is used, and last sent is set.
 use borrow.Author.Needs.{needs}
-use Prim.Native.Nat.{ℕ}
 use mathlib.Core.Path.{ap}
 use Rattle.moves.specs.declared.record.Record.{Record}
-use Rattle.session.specs.declared.Answered.{Answered}
 use Rattle.session.specs.declared.Answer.the-variants.{Done}
 use Rattle.reporting.proofs.reported.Statement.{statement}
 use Rattle.reporting.proofs.reported.Tie as tie

@@ -6,7 +6,7 @@ use mathlib.Core.Option.{Option}
 use mathlib.Core.Bool.{true, false, not}
 use lib.ListN.{length}
 use Rattle.bytes.specs.Bytes.{Bytes, fix}
-use Rattle.calendar.specs.Time.{limit, utc}
+use Rattle.calendar.specs.Time.{limit}
 use Rattle.message.specs.Message.{number, bytes, Field, _is_, row}
 use Rattle.message.specs.Wrote.{Wrote}
 use Rattle.report.specs.Values.{Values, takes}

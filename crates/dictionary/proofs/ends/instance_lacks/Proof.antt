@@ -1,6 +1,6 @@
 -- Rule 1: the members that the last instance lacks.
 use borrow.Author.Needs.{needs}
-use mathlib.Core.Path.{_≡_, ap}
+use mathlib.Core.Path.{ap}
 use Prim.Native.Nat.{ℕ}
 use Rattle.dictionary.proofs.Ending.{none-began, one-began}
 use Rattle.dictionary.proofs.Unmet.{lacks-nothing, lacks-small, lacks-one}

@@ -3,8 +3,7 @@ use denote.Ref.{now}
 use borrow.Author.Needs.{needs}
 use native.Mathlib.Omega.{arith}
 use borrow.Author.Tests.{not-true, not-false}
-use mathlib.Core.Path.{sym, ap, _∙_}
-use Rattle.kinds.specs.Judged.{meaning}
+use mathlib.Core.Path.{sym}
 use Rattle.message.proofs.Writes.{chain, reword}
 use Rattle.report.proofs.Putting.{nowhere, refused, placed, part-inside, part-backwards, part-beyond, part-fit, fit-short}
 use Rattle.report.proofs.pieces.put_value.Statement.{statement}
