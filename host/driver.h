@@ -88,6 +88,9 @@ bool is_of_this_version(const struct fixgw_session *session);
 
 void say_record(const struct record *record);
 
+/* The answer of a call on a record whose one out word is the reply's length. */
+void say_reply(uint32_t refusal, uint64_t room, const uint64_t out[1], const struct record *record);
+
 /* ---- How each request is answered -------------------------------------------------------------------------------- */
 
 /* False: the request cannot be read, and no call was made. */

@@ -129,14 +129,7 @@ bool answer_report(struct words *in)
     lend(room);
     uint32_t refusal = fixgw_report(fixgw_comp_ids(&record.session), record.session.words, FIXGW_WORDS, report.words,
                                     text.at, text.len, time, lent, room, out);
-    if (!is_kept(room, refusal ? 0 : out[0]) || (refusal && !are_zero(out, 1)) || !is_of_this_version(&record.session))
-        return true;
-    say_outcome(refusal);
-    if (!refusal) {
-        say(" ");
-        say_hex(lent, out[0]);
-    }
-    say_record(&record);
+    say_reply(refusal, room, out, &record);
     return true;
 }
 

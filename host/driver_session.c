@@ -113,6 +113,18 @@ bool answer_step(struct words *in)
     return true;
 }
 
+void say_reply(uint32_t refusal, uint64_t room, const uint64_t out[1], const struct record *record)
+{
+    if (!is_kept(room, refusal ? 0 : out[0]) || (refusal && !are_zero(out, 1)) || !is_of_this_version(&record->session))
+        return;
+    say_outcome(refusal);
+    if (!refusal) {
+        say(" ");
+        say_hex(lent, out[0]);
+    }
+    say_record(record);
+}
+
 bool answer_tick(struct words *in)
 {
     uint64_t time, room, out[1] = { UNSET };
@@ -122,13 +134,6 @@ bool answer_tick(struct words *in)
         return false;
     lend(room);
     uint32_t refusal = fixgw_session_tick(&record.session, time, lent, room, out);
-    if (!is_kept(room, refusal ? 0 : out[0]) || (refusal && !are_zero(out, 1)) || !is_of_this_version(&record.session))
-        return true;
-    say_outcome(refusal);
-    if (!refusal) {
-        say(" ");
-        say_hex(lent, out[0]);
-    }
-    say_record(&record);
+    say_reply(refusal, room, out, &record);
     return true;
 }
