@@ -1,6 +1,6 @@
--- THE RECORD at the C border: "The record holds CompIDs .., status .., expected number E, next number out, heartbeat seconds and time last sent."
--- It lies in 24 bytes, each CompID's length with eleven bytes behind it, and in 24 words, of which the first is the record's version and those
--- behind the sixth are zero, kept for what is to come.
+-- THE RECORD at the C border: "The record holds CompIDs .., status .., expected number E, next number out, heartbeat seconds and time last sent.", and, by
+-- document 02, the place of a replay. It lies in 24 bytes, each CompID's length with eleven bytes behind it, and in 24 words, of which the first is the
+-- record's version and those behind the eighth are zero, kept for what is to come.
 use Prim.Native.Nat.{ℕ, zero, suc, _+_}
 use mathlib.Core.List.{List, [], _∷_, _++_, map}
 use mathlib.Core.Bool.{Bool, true, false, _&&_}
@@ -22,12 +22,12 @@ eleven k l = map (λ i. getD l (k + i) 0) (0 ∷ 1 ∷ 2 ∷ 3 ∷ 4 ∷ 5 ∷ 6
 abbrev pub compIDsOf : Record → Bytes
 compIDsOf r = (r .oursLen ∷ eleven 0 (r .ours)) ++ (r .peerLen ∷ eleven 0 (r .peer))
 
--- status, E, next out, heartbeat, last sent
+-- status, E, next out, heartbeat, last sent, the next number of a replay and the last one asked for
 abbrev pub state : Record → List ℕ
-state r = code (r .status) ∷ r .expected ∷ r .next ∷ r .heartbeat ∷ r .sent ∷ []
+state r = code (r .status) ∷ r .expected ∷ r .next ∷ r .heartbeat ∷ r .sent ∷ r .at ∷ r .to ∷ []
 
 abbrev pub wordsOf : Record → List ℕ
-wordsOf r = (1 ∷ state r) ++ replicate 18 0
+wordsOf r = (1 ∷ state r) ++ replicate 16 0
 
 -- the words with another state; all others stay
 abbrev pub saved : List ℕ → Record → List ℕ
@@ -42,7 +42,7 @@ statusOf (suc (suc (suc n))) = none
 
 -- the words that are kept for later are zero
 unfoldable pub spare : List ℕ → Bool
-spare words = all (λ w. eqb w 0) (drop 6 words)
+spare words = all (λ w. eqb w 0) (drop 8 words)
 
 abbrev pub statusIf : List ℕ → Bool → Option Status
 statusIf words true = statusOf (getD words 1 0)
@@ -54,7 +54,7 @@ statusIn words = statusIf words (eqb (length words) 24 && eqb (getD words 0 0) 1
 
 abbrev pub recordWith : Bytes → List ℕ → Status → Record
 recordWith ids words st =
-    record { ours = eleven 1 ids; oursLen = getD ids 0 0; peer = eleven 13 ids; peerLen = getD ids 12 0; status = st; expected = getD words 2 0; next = getD words 3 0; heartbeat = getD words 4 0; sent = getD words 5 0 }
+    record { ours = eleven 1 ids; oursLen = getD ids 0 0; peer = eleven 13 ids; peerLen = getD ids 12 0; status = st; expected = getD words 2 0; next = getD words 3 0; heartbeat = getD words 4 0; sent = getD words 5 0; at = getD words 6 0; to = getD words 7 0 }
 
 abbrev pub recordIf : Bytes → List ℕ → Option Status → Option Record
 recordIf ids words none = none

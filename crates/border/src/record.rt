@@ -18,7 +18,7 @@ ghost use Rattle.border.specs.code.Held.{found, statusHeld};
 fn is_spare(words: &[u64]) -> bool
     ensures { λ r. ⌜ r ≡ spare (now (words .entry)) ⌝ }
 {
-    let mut i = 6;
+    let mut i = 8;
     while i < words.len() {
         if words[i] != 0 {
             return false;
@@ -28,7 +28,7 @@ fn is_spare(words: &[u64]) -> bool
     true
 }
 
-// Whether the words are a record's: 24, of this version, with a status, and zeros behind the six that are used.
+// Whether the words are a record's: 24, of this version, with a status, and zeros behind the eight that are used.
 pub fn is_record(words: &[u64]) -> bool
     ensures { λ r. ⌜ r ≡ found (statusIn (now (words .entry))) ⌝ }
 {
@@ -106,6 +106,8 @@ pub fn load(ids: &[u8; 24], words: &[u64]) -> Record
         next: words[3],
         heartbeat: words[4],
         sent: words[5],
+        at: words[6],
+        to: words[7],
     }
 }
 
@@ -120,6 +122,8 @@ fn save(words: &mut [u64], r: Record)
     words[3] = r.next;
     words[4] = r.heartbeat;
     words[5] = r.sent;
+    words[6] = r.at;
+    words[7] = r.to;
 }
 
 // What a call on a record leaves: the state into the words, and its number.

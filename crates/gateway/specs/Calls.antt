@@ -12,9 +12,11 @@ use Rattle.writer.specs.Call as Writer
 use Rattle.session.specs.Refusals.{No, numbers}
 use Rattle.moves.specs.Held.{sessionOf, with}
 use Rattle.session.specs.Held.{recordOf}
-use Rattle.session.specs.Calls.{Outcome, step, tick, logout, test-request, new, reconnect}
+use Rattle.session.specs.Calls.{Outcome, step, storeAfter, tick, logout, test-request, new, reconnect}
 use Rattle.report.specs.Layout.{valuesGiven}
 use Rattle.reporting.specs.Call.{report}
+use Rattle.reporting.specs.Call as Reporting
+use Rattle.replaying.specs.Call.{replay}
 use Rattle.moves.specs.declared.record.Record.{Record}
 use Rattle.session.specs.declared.Refusal.the-variants.{BadRecord}
 use Rattle.border.specs.Numbers.{refusalOf, valueOf}
@@ -39,17 +41,24 @@ leftBy words r o out =
 abbrev pub replyLength : Outcome → ℕ
 replyLength o = length (joined (o .reply))
 
+-- the two calls that may write to the store leave it too (document 02, Q-4)
+pub record LeftWithStore : Type 0 where
+  pub left : Left
+  pub store : Bytes
+
 -- fixgw_step: whether the frame is delivered, 1 or 0, and the reply's length
-abbrev pub stepFrom : List ℕ → Bytes → ℕ → Bytes → Option Record → Left
-stepFrom words frame time buf none = unread words (0 ∷ 0 ∷ []) buf
-stepFrom words frame time buf (some r) =
-    let o = step (sessionOf r) frame time buf in leftBy words r o (valueOf (numbers (o .answer)) ∷ replyLength o ∷ [])
+abbrev pub stepFrom : List ℕ → Bytes → ℕ → Bytes → Bytes → Option Record → LeftWithStore
+stepFrom words frame time buf store none = record { left = unread words (0 ∷ 0 ∷ []) buf; store = store }
+stepFrom words frame time buf store (some r) =
+    let o = step (sessionOf r) frame time buf store in
+    record { left = leftBy words r o (valueOf (numbers (o .answer)) ∷ replyLength o ∷ []); store = storeAfter (sessionOf r) frame time buf store }
 
-unfoldable pub stepOut : Bytes → List ℕ → Bytes → ℕ → Bytes → Left
-stepOut ids words frame time buf = stepFrom words frame time buf (recordIn ids words)
+unfoldable pub stepOut : Bytes → List ℕ → Bytes → ℕ → Bytes → Bytes → LeftWithStore
+stepOut ids words frame time buf store = stepFrom words frame time buf store (recordIn ids words)
 
-abbrev pub StepOut : Bytes → List ℕ → Bytes → ℕ → Bytes → ℕ → List ℕ → List ℕ → Bytes → Type 0
-StepOut ids words frame time buf r words′ out buf′ = record { number = r; words = words′; out = out; buffer = buf′ } ≡ stepOut ids words frame time buf
+abbrev pub StepOut : Bytes → List ℕ → Bytes → ℕ → Bytes → Bytes → ℕ → List ℕ → List ℕ → Bytes → Bytes → Type 0
+StepOut ids words frame time buf store r words′ out buf′ store′ =
+    record { left = record { number = r; words = words′; out = out; buffer = buf′ }; store = store′ } ≡ stepOut ids words frame time buf store
 
 -- fixgw_tick: the reply's length
 abbrev pub replyFrom : List ℕ → Bytes → (Record → Outcome) → Option Record → Left
@@ -76,11 +85,25 @@ abbrev pub TestRequestOut : Bytes → List ℕ → Bytes → ℕ → Bytes → �
 TestRequestOut ids words id time buf r words′ out buf′ = record { number = r; words = words′; out = out; buffer = buf′ } ≡ testRequestOut ids words id time buf
 
 -- fixgw_report: the report's length; its values lie in 82 words and a text beside them
-unfoldable pub reportOut : Bytes → List ℕ → List ℕ → Bytes → ℕ → Bytes → Left
-reportOut ids words values text time buf = replyFrom words buf (λ r. report (sessionOf r) (valuesGiven values text) time buf) (recordIn ids words)
+abbrev pub reportFrom : List ℕ → List ℕ → Bytes → ℕ → Bytes → Bytes → Option Record → LeftWithStore
+reportFrom words values text time buf store none = record { left = unread words (0 ∷ []) buf; store = store }
+reportFrom words values text time buf store (some r) =
+    let o = report (sessionOf r) (valuesGiven values text) time buf store in
+    record { left = leftBy words r o (replyLength o ∷ []); store = Reporting.storeAfter (sessionOf r) (valuesGiven values text) time buf store }
 
-abbrev pub ReportOut : Bytes → List ℕ → List ℕ → Bytes → ℕ → Bytes → ℕ → List ℕ → List ℕ → Bytes → Type 0
-ReportOut ids words values text time buf r words′ out buf′ = record { number = r; words = words′; out = out; buffer = buf′ } ≡ reportOut ids words values text time buf
+unfoldable pub reportOut : Bytes → List ℕ → List ℕ → Bytes → ℕ → Bytes → Bytes → LeftWithStore
+reportOut ids words values text time buf store = reportFrom words values text time buf store (recordIn ids words)
+
+abbrev pub ReportOut : Bytes → List ℕ → List ℕ → Bytes → ℕ → Bytes → Bytes → ℕ → List ℕ → List ℕ → Bytes → Bytes → Type 0
+ReportOut ids words values text time buf store r words′ out buf′ store′ =
+    record { left = record { number = r; words = words′; out = out; buffer = buf′ }; store = store′ } ≡ reportOut ids words values text time buf store
+
+-- fixgw_replay: the message's length; the store is lent to be read
+unfoldable pub replayOut : Bytes → List ℕ → ℕ → Bytes → Bytes → Left
+replayOut ids words time buf store = replyFrom words buf (λ r. replay (sessionOf r) time buf store) (recordIn ids words)
+
+abbrev pub ReplayOut : Bytes → List ℕ → ℕ → Bytes → Bytes → ℕ → List ℕ → List ℕ → Bytes → Type 0
+ReplayOut ids words time buf store r words′ out buf′ = record { number = r; words = words′; out = out; buffer = buf′ } ≡ replayOut ids words time buf store
 
 -- fixgw_reconnect
 pub record LeftByReconnect : Type 0 where

@@ -19,6 +19,7 @@ pub use stream::fixgw_body;
 pub use stream::fixgw_drop;
 pub use stream::fixgw_put;
 pub use stream::fixgw_read;
+pub use trades::fixgw_replay;
 pub use trades::fixgw_report;
 pub use trades::fixgw_report_values;
 pub use writing::fixgw_write;
@@ -30,5 +31,5 @@ ghost use Rattle.gateway.specs.Border.{version};
 pub extern "C" fn fixgw_version() -> u32
     ensures { λ r. ⌜ r ≡ version ⌝ }
 {
-    10_200
+    20_000
 }

@@ -32,7 +32,7 @@ pub extern "C" fn fixgw_reconnect(ids: &[u8; 24], words: &mut [u64]) -> u32
     leave(words, session::reconnect(load(ids, words)))
 }
 
-// A step: one frame moves the record on, and the reply stands at the front of the buffer.
+// A step: one frame moves the record on, and the reply stands at the front of the buffer. An accepted logon with 141=Y zeroes the store.
 #[no_mangle]
 pub extern "C" fn fixgw_step(
     ids: &[u8; 24],
@@ -40,15 +40,16 @@ pub extern "C" fn fixgw_step(
     frame: &[u8],
     time: u64,
     buf: &mut [u8],
+    store: &mut [u8],
     out: &mut [u64; 2],
 ) -> u32
-    ensures { λ r. ⌜ StepOut (now (ids .entry)) (now (words .entry)) (now (frame .entry)) time (now (buf .entry)) r (now (words .exit)) (now (out .exit)) (now (buf .exit)) ⌝ }
+    ensures { λ r. ⌜ StepOut (now (ids .entry)) (now (words .entry)) (now (frame .entry)) time (now (buf .entry)) (now (store .entry)) r (now (words .exit)) (now (out .exit)) (now (buf .exit)) (now (store .exit)) ⌝ }
 {
     if !is_record(words) {
         *out = [0, 0];
         return 11;
     }
-    let left = session::step(load(ids, words), frame, time, buf);
+    let left = session::step(load(ids, words), frame, time, buf, store);
     let answer = left.answer;
     *out = [delivered(answer), left.len as u64];
     leave(words, left)

@@ -8,7 +8,6 @@ use moves::Letter;
 use moves::Record;
 use moves::next_after;
 use moves::number_in;
-use replies::gap_fill;
 use replies::heartbeat;
 use replies::logon;
 use replies::logout;
@@ -179,7 +178,6 @@ fn put(
             tag,
         ),
         Letter::RejectType => put_reject_type(buf, at, us, them, n, stamp, body),
-        Letter::Fill { begin, new } => gap_fill(buf, at, us, them, begin, stamp, new),
         Letter::Logout { why } => logout(buf, at, us, them, n, stamp, why),
         Letter::Test => test_request(buf, at, us, them, n, stamp, body),
     }

@@ -13,7 +13,7 @@ use Rattle.dictionary.specs.Verdict.{verdict, msgType}
 use Rattle.message.specs.Message.{Value, absent, bytes, _is_, written}
 use Rattle.replies.specs.Reply as Reply
 use Rattle.moves.specs.Words.{_=?_, _<?_, _≤?_, if_then_else_, _when_, first, _otherwise_, speaks}
-use Rattle.moves.specs.Session.{Session}
+use Rattle.moves.specs.Session.{Session, Replay}
 use Rattle.moves.specs.Seen.{isIt, repeated, numberIn, codeOf, reasonOf, tagOf, isClean}
 use Rattle.moves.specs.declared.record.Status.{Status}
 use Rattle.moves.specs.declared.record.Status.the-variants.{Active, Closed}
@@ -24,7 +24,7 @@ pub data Letter : Type 0 where
   Logon : Value → Value → Value → Value → Letter  -- 98, 108, 1137, 141
   ResendRequest : ℕ → Letter  -- 7
   Reject : ℕ → ℕ → Value → ℕ → Letter  -- 45, 371, 372, 373
-  GapFill : ℕ → Letter  -- 36
+  GapFill : ℕ → Letter  -- 36; only a replay sends one
   Logout : ℕ → Letter  -- 1409
   TestRequest : Bytes → Letter  -- 112
 
@@ -42,7 +42,7 @@ letter ours peers n time (TestRequest id) = Reply.testRequest ours peers n time 
 -- WHAT A MOVE DOES, one thing behind the other
 pub data Deed : Type 0 where
   Write : Letter → Deed  -- with the next number, which it uses
-  Resend : ℕ → Letter → Deed  -- with that number; it uses no new one
+  Start : Replay → Deed  -- this replay starts, in place of any other
   Count : Deed  -- E + 1
   Fill-to : ℕ → Deed  -- E becomes that, by a gap fill
   Reset-to : ℕ → Deed  -- E becomes that, by a Sequence Reset without 123=Y
@@ -148,9 +148,10 @@ module _ (s : Session) (body : Bytes) where
   unfoldable pub unserved : Option Deeds
   unserved = first (reject 5 7 when L <? b ∷ reject 5 16 when (0 <? e && e <? b) ∷ [])
 
-  -- "else one message 4, 34=b, 43=Y, 122 equal to 52, 123=Y, 36 one above the smaller of e and L (L if e = 0). It uses no new number"
+  -- Document 02: "A Resend Request is then served in number order .. The step, in rule 4 too, only starts this, with L from before the step.": from b to
+  -- the smaller of e and L (L if e = 0). "a new Resend Request that can be served replaces it."
   unfoldable pub served : Deeds
-  served = Resend b (GapFill ((if e =? 0 then L else min e L) + 1)) ∷ []
+  served = Start (record { at = b; to = if e =? 0 then L else min e L }) ∷ []
 
   -- ACTIVE, first rule that fits
   -- "1. 34 unreadable: Logout."
@@ -194,7 +195,7 @@ module _ (s : Session) (body : Bytes) where
   unfoldable pub rule-5 : Option Deeds
   rule-5 = too-low when N <? E
 
-  -- "6. N = E: a verdict gives Reject, E + 1. Type 1: Heartbeat with its 112. Type 2: gap fill, below. Gap fill: 36 not above N, Reject 5,
+  -- "6. N = E: a verdict gives Reject, E + 1. Type 1: Heartbeat with its 112. Type 2: gap fill, below (served, above). Gap fill: 36 not above N, Reject 5,
   -- tag 36, E + 1; else E becomes 36. Type 5: Logout, Closed. A: Reject 99, tag 35. AD, F: delivered. 0, 3: nothing.
   -- Where not said here, E + 1; elsewhere E stays."
   unfoldable pub filled : Deeds

@@ -5,7 +5,7 @@ ghost use mathlib.Core.Path.{_≡_};
 ghost use mathlib.Core.Bool.{_&&_};
 ghost use Prim.Native.Nat.{_+_, _≤_};
 ghost use Rattle.moves.specs.Held.{sessionOf};
-ghost use Rattle.moves.specs.code.Plan.{behind, isNothing, says, counts, expects, closes, delivers, accepts, Ready};
+ghost use Rattle.moves.specs.code.Plan.{behind, isNothing, says, counts, expects, closes, delivers, accepts, serves, Ready};
 
 // A message of ours, in numbers.
 pub enum Letter {
@@ -22,8 +22,6 @@ pub enum Letter {
     Reject { reason: u64, tag: u64 },
     // A Reject of a type that no member may send: 11, tag 35, without 372.
     RejectType,
-    // A gap fill, which has its own number and uses no new one.
-    Fill { begin: u64, new: u64 },
     Logout { why: u64 },
     // A Test Request; the bytes lent are its 112.
     Test,
@@ -37,6 +35,9 @@ pub struct Plan {
     pub status: Status,
     pub expected: u64,
     pub heartbeat: u64,
+    // The place of a replay.
+    pub at: u64,
+    pub to: u64,
 }
 
 // Messages that change nothing but our numbers.
@@ -51,6 +52,8 @@ pub fn saying(r: Record, first: Letter, second: Letter) -> Plan
         status: st,
         expected: r.expected,
         heartbeat: r.heartbeat,
+        at: r.at,
+        to: r.to,
     }
 }
 
@@ -68,6 +71,8 @@ pub fn counting(r: Record, first: Letter) -> Plan
         status: st,
         expected: count,
         heartbeat: r.heartbeat,
+        at: r.at,
+        to: r.to,
     }
 }
 
@@ -83,6 +88,8 @@ pub fn expecting(r: Record, e: u64) -> Plan
         status: st,
         expected: e,
         heartbeat: r.heartbeat,
+        at: r.at,
+        to: r.to,
     }
 }
 
@@ -97,6 +104,8 @@ pub fn closing(r: Record, first: Letter, second: Letter, e: u64) -> Plan
         status: Status::Closed,
         expected: e,
         heartbeat: r.heartbeat,
+        at: 0,
+        to: 0,
     }
 }
 
@@ -113,6 +122,8 @@ pub fn delivering(r: Record) -> Plan
         status: st,
         expected: r.expected + 1,
         heartbeat: r.heartbeat,
+        at: r.at,
+        to: r.to,
     }
 }
 
@@ -127,6 +138,25 @@ pub fn accepting(anew: bool, second: Letter, e: u64, seconds: u64) -> Plan
         status: Status::Active,
         expected: e,
         heartbeat: seconds,
+        at: 0,
+        to: 0,
+    }
+}
+
+// A replay of the numbers from one to another starts; a message may go out with it, and E becomes e.
+pub fn serving(r: Record, first: Letter, e: u64, at: u64, to: u64) -> Plan
+    ensures { λ p. ⌜ p ≡ serves (sessionOf r) first e at to ⌝ }
+{
+    let st = r.status;
+    Plan {
+        delivered: false,
+        first,
+        second: Letter::Nothing,
+        status: st,
+        expected: e,
+        heartbeat: r.heartbeat,
+        at,
+        to,
     }
 }
 
@@ -157,7 +187,6 @@ pub fn next_after(l: Letter, n: u64) -> u64
         Letter::Ask { from: _ } => one,
         Letter::Reject { reason: _, tag: _ } => one,
         Letter::RejectType => one,
-        Letter::Fill { begin: _, new: _ } => n,
         Letter::Logout { why: _ } => one,
         Letter::Test => one,
     }
@@ -174,7 +203,6 @@ fn is_nothing(l: Letter) -> bool
         Letter::Ask { from: _ } => false,
         Letter::Reject { reason: _, tag: _ } => false,
         Letter::RejectType => false,
-        Letter::Fill { begin: _, new: _ } => false,
         Letter::Logout { why: _ } => false,
         Letter::Test => false,
     }

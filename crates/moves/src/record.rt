@@ -1,7 +1,7 @@
 // The record of a session, its ranges and its changes.
 use bytes::has;
 ghost use mathlib.Core.Path.{_≡_};
-ghost use Rattle.moves.specs.Session.{turned, numbered, inRange};
+ghost use Rattle.moves.specs.Session.{_==_, turned, numbered, placed, inRange};
 ghost use Rattle.message.specs.Unfit.{stringTo, compID};
 ghost use Rattle.moves.specs.Held.{sessionOf, held, with};
 ghost use Rattle.moves.specs.code.Plan.{changed};
@@ -28,6 +28,19 @@ pub struct Record {
     pub heartbeat: u64,
     // When the last message was sent, in microseconds since 1970.
     pub sent: u64,
+    // The next number of a running replay, and the last one asked for; 0 and 0 if none is running.
+    pub at: u64,
+    pub to: u64,
+}
+
+pub fn is_active(s: Status) -> bool
+    ensures { λ b. ⌜ b ≡ (s == Status.Active) ⌝ }
+{
+    match s {
+        Status::Waiting => false,
+        Status::Active => true,
+        Status::Closed => false,
+    }
 }
 
 // Whether bytes are a string: 1 to so many, none of them `|`.
@@ -59,7 +72,7 @@ fn holds_comp_id(c: [u8; 11], n: usize) -> bool
     is_comp_id(&c[..n])
 }
 
-// Whether a record keeps its ranges: the CompIDs, the numbers 1 to 999,999,999, the heartbeat 1 to 60.
+// Whether a record keeps its ranges: the CompIDs, the numbers 1 to 999,999,999, the heartbeat 1 to 60, the place of a replay.
 pub fn in_range(r: Record) -> bool
     ensures { λ b. ⌜ b ≡ inRange (sessionOf r) ⌝ }
 {
@@ -80,7 +93,27 @@ pub fn in_range(r: Record) -> bool
     if r.heartbeat < 1 {
         return false;
     }
-    r.heartbeat <= 60
+    if 60 < r.heartbeat {
+        return false;
+    }
+    is_placed(r)
+}
+
+// Whether the place of a replay is within 1 to one below the next number out while Active, or there is none.
+fn is_placed(r: Record) -> bool
+    ensures { λ b. ⌜ b ≡ placed (sessionOf r) (sessionOf r .replay) ⌝ }
+{
+    if r.at == 0 {
+        return r.to == 0;
+    }
+    let st = r.status;
+    if !is_active(st) {
+        return false;
+    }
+    if r.to < r.at {
+        return false;
+    }
+    r.to < r.next
 }
 
 fn is_numbered(n: u64) -> bool
@@ -100,8 +133,10 @@ pub fn changed(
     next: u64,
     heartbeat: u64,
     sent: u64,
+    at: u64,
+    to: u64,
 ) -> Record
-    ensures { λ n. ⌜ n ≡ with r (changed (sessionOf r) status expected next heartbeat sent) ⌝ }
+    ensures { λ n. ⌜ n ≡ with r (changed (sessionOf r) status expected next heartbeat sent (record { at = at; to = to })) ⌝ }
 {
     let ours = r.ours;
     let peer = r.peer;
@@ -115,11 +150,14 @@ pub fn changed(
         next,
         heartbeat,
         sent,
+        at,
+        to,
     }
 }
 
+// Another status; an unfinished replay is dropped.
 pub fn turned(r: Record, status: Status) -> Record
     ensures { λ n. ⌜ n ≡ with r (turned status (sessionOf r)) ⌝ }
 {
-    changed(r, status, r.expected, r.next, r.heartbeat, r.sent)
+    changed(r, status, r.expected, r.next, r.heartbeat, r.sent, 0, 0)
 }

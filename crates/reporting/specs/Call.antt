@@ -2,34 +2,41 @@
 use Prim.Native.Nat.{ℕ, _+_}
 use mathlib.Core.List.{List, [], _∷_}
 use mathlib.Core.Option.{Option, none, some}
-use mathlib.Core.Bool.{not}
+use mathlib.Core.Bool.{Bool, not}
 use lib.ListN.{length}
 use Rattle.bytes.specs.Bytes.{Bytes}
 use Rattle.calendar.specs.Time.{limit}
+use Rattle.places.specs.Places.{isStore}
 use Rattle.report.specs.Values.{Values, takes}
-use Rattle.report.specs.Report.{sent}
+use Rattle.report.specs.Report.{Report, sent}
+use Rattle.store.specs.Store.{keep}
 use Rattle.moves.specs.Words.{_<?_, _≤?_, _when_, first}
-use Rattle.moves.specs.Session.{_==_, Session, numbering, sent-at, inRange}
+use Rattle.moves.specs.Session.{_==_, Session, running, numbering, sent-at, inRange}
 use Rattle.moves.specs.declared.record.Status.the-variants.{Active}
 use Rattle.session.specs.Calls.{Outcome, over, answering, spent}
-use Rattle.session.specs.declared.Refusal.the-variants.{SessionClosed, NumbersSpent, TimePast, BadValue, NoRoom, BadRecord, ReportTooLong}
+use Rattle.session.specs.declared.Refusal.the-variants.{SessionClosed, NumbersSpent, TimePast, BadValue, NoRoom, BadRecord, ReportTooLong, Replaying, BadStore}
 use Rattle.session.specs.declared.Answer.{Answer}
 use Rattle.session.specs.declared.Answer.the-variants.{Done, Refused}
 
 -- a session s that sends the values v at the time t
 module _ (s : Session) (v : Values) (t : ℕ) where
-  -- its bytes, with the next number out
+  -- with the next number out, and its bytes
+  abbrev pub theReport : Report
+  theReport = record { values = v; number = s .next; time = t }
+
   unfoldable pub message : Bytes
-  message = sent (s .ours) (s .peers) (record { values = v; number = s .next; time = t })
+  message = sent (s .ours) (s .peers) theReport
 
   -- "12, report longer than 512 bytes"
   abbrev pub longest : ℕ
   longest = 512
 
-  -- "the order for a report is 11, 7, 2, 5, 8, 12, 9"
-  unfoldable pub refusals : ℕ → List (Option Answer)
-  refusals room =
+  -- "the order for a report is 11, 7, 2, 5, 8, 12, 9"; Q-4: "13, report while replaying, after 11; 14, store not of 32,768 bytes, after 13"
+  unfoldable pub refusals : Bool → ℕ → List (Option Answer)
+  refusals stored room =
       Refused BadRecord when not (inRange s) ∷
+      Refused Replaying when running (s .replay) ∷
+      Refused BadStore when not stored ∷
       Refused TimePast when limit ≤? t ∷
       Refused SessionClosed when not (s .status == Active) ∷  -- "Outside Active a report is refusal 2, session unchanged."
       Refused NumbersSpent when spent s ∷
@@ -47,5 +54,13 @@ module _ (s : Session) (v : Values) (t : ℕ) where
   unless (some a) old = answering a s old
   unless none old = sending old
 
-  unfoldable pub report : Bytes → Outcome
-  report buf = unless (first (refusals (length buf))) buf
+  unfoldable pub report : Bytes → Bytes → Outcome
+  report buf store = unless (first (refusals (isStore store) (length buf))) buf
+
+  -- THE STORE behind it: the report is kept, and "no refusal changes the store"
+  abbrev pub keptUnless : Option Answer → Bytes → Bytes
+  keptUnless (some a) store = store
+  keptUnless none store = keep (s .ours) (s .peers) theReport store
+
+  unfoldable pub storeAfter : Bytes → Bytes → Bytes
+  storeAfter buf store = keptUnless (first (refusals (isStore store) (length buf))) store

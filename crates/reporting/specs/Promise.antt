@@ -1,4 +1,4 @@
--- What is promised of the report call, for any session, values, time and buffer; and of a run of a session's calls with reports among them.
+-- What is promised of the report call, for any session, values, time, buffer and store; and of the store behind any number of them.
 use Prim.Native.Nat.{ℕ, _+_}
 use mathlib.Core.Path.{_≡_}
 use mathlib.Core.List.{List, [], _∷_}
@@ -6,16 +6,18 @@ use mathlib.Core.Bool.{true}
 use Rattle.bytes.specs.Bytes.{Bytes}
 use Rattle.report.specs.Values.{Values}
 use Rattle.report.specs.Report.{Report}
+use Rattle.places.specs.Places.{isStore, zeroed}
+use Rattle.store.specs.Store.{find, keep}
+use Rattle.store.specs.Store as Store
+use Rattle.store.specs.Promise.{last64}
 use Rattle.report.specs.Promise.{Written}
-use Rattle.moves.specs.Session.{Session, numbering, sent-at, inRange}
-use Rattle.session.specs.Calls.{Outcome, Call, call}
-use Rattle.session.specs.Promise.{OfBytes, AllInRange, Kept}
-use Rattle.session.specs.declared.Answer.the-variants.{Done}
-use Rattle.reporting.specs.Call.{message, report}
-
--- the report that a session sends with the values v at the time t
-abbrev pub theReport : Session → Values → ℕ → Report
-theReport s v t = record { values = v; number = s .next; time = t }
+use Rattle.moves.specs.Session.{Session, no-replay, numbering, sent-at, inRange}
+use Rattle.session.specs.Calls.{Outcome}
+use Rattle.session.specs.Promise.{InRange, Kept}
+use Rattle.session.specs.declared.Refusal.{Refusal}
+use Rattle.session.specs.declared.Answer.{Answer}
+use Rattle.session.specs.declared.Answer.the-variants.{Done, Delivered, NothingDue, Refused}
+use Rattle.reporting.specs.Call.{theReport, message, report, storeAfter}
 
 -- A REPORT THAT WENT OUT
 pub record Reported (s : Session) (v : Values) (t : ℕ) (o : Outcome) : Type 0 where
@@ -26,31 +28,49 @@ pub record Reported (s : Session) (v : Values) (t : ℕ) (o : Outcome) : Type 0 
   -- .. "takes the next number out", and sets last sent; nothing else of the record changes
   pub used : o .session ≡ sent-at t (numbering (s .next + 1) s)
 
--- A RUN: a session's own call, or a report
-pub data Turn : Type 0 where
-  Ours : Call → Turn
-  ReportOut : Values → ℕ → Bytes → Turn
+-- THE STORE behind a report
+pub record Stored (s : Session) (v : Values) (t : ℕ) (buf store : Bytes) : Type 0 where
+  -- a report that went out is found again under its number, whole; ..
+  pub kept : report s v t buf store .answer ≡ Done → storeAfter s v t buf store ≡ keep (s .ours) (s .peers) (theReport s v t) store
+  -- .. "no refusal changes the store"
+  pub refused : (k : Refusal) → report s v t buf store .answer ≡ Refused k → storeAfter s v t buf store ≡ store
 
-abbrev pub turn : Session → Turn → Outcome
-turn s (Ours c) = call s c
-turn s (ReportOut v t buf) = report s v t buf
+-- A RUN OF REPORTS on one session with one store: the reports that went out, and the store behind them
+pub record Told : Type 0 where
+  pub values : Values
+  pub time : ℕ
+  pub buffer : Bytes
 
-abbrev pub run : Session → List Turn → List Outcome
-run s [] = []
-run s (c ∷ cs) = turn s c ∷ run (turn s c .session) cs
+abbrev pub wentOut : Answer → Report → List Report → List Report
+wentOut Done r rs = r ∷ rs
+wentOut Delivered r rs = rs
+wentOut NothingDue r rs = rs
+wentOut (Refused k) r rs = rs
 
--- what is lent to a session's own calls is of bytes
-abbrev pub Lent : List Turn → Type 0
-Lent [] = Unit {0}
-Lent (Ours c ∷ cs) = OfBytes (c ∷ []) × Lent cs
-Lent (ReportOut v t buf ∷ cs) = Lent cs
+abbrev pub sentReports : Session → Bytes → List Told → List Report
+sentReports s store [] = []
+sentReports s store (c ∷ cs) =
+    let o = report s (c .values) (c .time) (c .buffer) store in
+    wentOut (o .answer) (theReport s (c .values) (c .time)) (sentReports (o .session) (storeAfter s (c .values) (c .time) (c .buffer) store) cs)
+
+abbrev pub storeBehind : Session → Bytes → List Told → Bytes
+storeBehind s store [] = store
+storeBehind s store (c ∷ cs) =
+    storeBehind (report s (c .values) (c .time) (c .buffer) store .session) (storeAfter s (c .values) (c .time) (c .buffer) store) cs
 
 pub record Promise : Type 0 where
-  pub reported : (s : Session) (v : Values) (t : ℕ) (buf : Bytes) → report s v t buf .answer ≡ Done → Reported s v t (report s v t buf)
+  pub reported : (s : Session) (v : Values) (t : ℕ) (buf store : Bytes) → report s v t buf store .answer ≡ Done → Reported s v t (report s v t buf store)
   -- "8, 9 and 12 change nothing"; 5 closes, and the others change nothing either; the buffer keeps its old bytes behind the report and under a refusal
-  pub kept : (s : Session) (v : Values) (t : ℕ) (buf : Bytes) → Kept (report s v t buf) s buf
+  pub kept : (s : Session) (v : Values) (t : ℕ) (buf store : Bytes) → Kept (report s v t buf store) s buf
   -- two different reports never have the same bytes, whichever sessions send them
-  pub told-apart : (s s′ : Session) (v v′ : Values) (t t′ : ℕ) (buf buf′ : Bytes) → report s v t buf .answer ≡ Done → report s′ v′ t′ buf′ .answer ≡ Done
+  pub told-apart : (s s′ : Session) (v v′ : Values) (t t′ : ℕ) (buf buf′ store store′ : Bytes) → report s v t buf store .answer ≡ Done → report s′ v′ t′ buf′ store′ .answer ≡ Done
       → message s v t ≡ message s′ v′ t′ → theReport s v t ≡ theReport s′ v′ t′
-  -- "record breaks its ranges": none does that comes from one in its ranges
-  pub ranges : (s : Session) (cs : List Turn) → Lent cs → inRange s ≡ true → AllInRange (run s cs)
+  -- "record breaks its ranges": it does not that comes from one in its ranges
+  pub ranged : (s : Session) (v : Values) (t : ℕ) (buf store : Bytes) → inRange s ≡ true → InRange (report s v t buf store .session)
+  -- "13, report while replaying": so no report takes a place of the store while one is running, and none of them moves a replay
+  pub no-replay-moved : (s : Session) (v : Values) (t : ℕ) (buf store : Bytes) → report s v t buf store .answer ≡ Done → (s .replay ≡ no-replay) × (report s v t buf store .session .replay ≡ no-replay)
+  -- Q-4: "Keep the last 64 reports of Q-1 in a store that the host lends"
+  pub stored : (s : Session) (v : Values) (t : ℕ) (buf store : Bytes) → Stored s v t buf store
+  -- from a zeroed store on, behind any report calls, refused ones among them: exactly the last 64 that went out are found, each whole
+  pub last : (s : Session) (store : Bytes) (cs : List Told) → isStore store ≡ true → (n : ℕ)
+      → find n (Store.kept (s .ours) (s .peers) (storeBehind s (zeroed store) cs)) ≡ find n (last64 (sentReports s (zeroed store) cs))

@@ -8,15 +8,19 @@ use moves::Record;
 use moves::Status;
 use moves::changed;
 use moves::in_range;
+use moves::is_active;
 use moves::turned;
+use places::is_store;
+use places::put_place;
 use report::put_own;
 use session::Answer;
 use session::Answered;
 use session::Refusal;
-use session::is_active;
 use session::is_spent;
 use session::unchanged;
+use store::free_place;
 ghost use mathlib.Core.Path.{_≡_};
+ghost use mathlib.Core.Bool.{true};
 ghost use Prim.Native.Nat.{_+_, _≤_, _<_};
 ghost use lib.ListN.{length};
 ghost use Rattle.calendar.specs.Time.{limit};
@@ -25,11 +29,13 @@ ghost use Rattle.message.specs.Wrote.{Wrote};
 ghost use Rattle.report.specs.Layout.{valuesGiven};
 ghost use Rattle.moves.specs.Words.{first};
 ghost use Rattle.moves.specs.Held.{sessionOf, with};
-ghost use Rattle.moves.specs.Session.{sent-at, numbering};
+ghost use Rattle.moves.specs.Session.{sent-at, numbering, inRange};
 ghost use Rattle.session.specs.declared.Answer.the-variants as Answer;
 ghost use Rattle.moves.specs.code.Plan.{Ready};
 ghost use Rattle.session.specs.Held.{Leaves};
-ghost use Rattle.reporting.specs.Call.{unless, report};
+ghost use Rattle.places.specs.Places.{isStore, putAt};
+ghost use Rattle.store.specs.Store.{takes, kept};
+ghost use Rattle.reporting.specs.Call.{unless, report, keptUnless, storeAfter};
 ghost use Rattle.reporting.specs.code.Sending.{ofValues, headOf, PutBody};
 
 // 35, 49, 56, 34 and 52, at the front of a body.
@@ -65,7 +71,7 @@ fn reported(r: Record, len: usize, time: u64) -> Answered
     ensures { λ a. ⌜ a ≡ record { answer = Answer.Done; after = with r (sent-at time (numbering (r .next + 1) (sessionOf r))); len = len } ⌝ }
 {
     let st = r.status;
-    let after = changed(r, st, r.expected, r.next + 1, r.heartbeat, time);
+    let after = changed(r, st, r.expected, r.next + 1, r.heartbeat, time, r.at, r.to);
     Answered {
         answer: Answer::Done,
         after,
@@ -73,10 +79,18 @@ fn reported(r: Record, len: usize, time: u64) -> Answered
     }
 }
 
-// 8, 12, 9, or the report at the front of the buffer.
-fn send(r: Record, values: &[u64; 82], text: &[u8], time: u64, buf: &mut [u8]) -> Answered
-    requires { ⌜ Ready r × (time < limit) ⌝ }
-    ensures { λ a. ⌜ Leaves r (unless (sessionOf r) (valuesGiven (now (values .entry)) (now (text .entry))) time (first (ofValues (sessionOf r) (valuesGiven (now (values .entry)) (now (text .entry))) time (length (now (buf .entry))))) (now (buf .entry))) a (now (buf .exit)) ⌝ }
+// 8, 12, 9, or the report at the front of the buffer and in the store.
+fn send(
+    r: Record,
+    values: &[u64; 82],
+    text: &[u8],
+    time: u64,
+    buf: &mut [u8],
+    store: &mut [u8],
+) -> Answered
+    requires { ⌜ Ready r × (inRange (sessionOf r) ≡ true) × (isStore (now store) ≡ true) × (time < limit) ⌝ }
+    ensures sent { λ a. ⌜ Leaves r (unless (sessionOf r) (valuesGiven (now (values .entry)) (now (text .entry))) time (first (ofValues (sessionOf r) (valuesGiven (now (values .entry)) (now (text .entry))) time (length (now (buf .entry))))) (now (buf .entry))) a (now (buf .exit)) ⌝ }
+    ensures kept { λ _. ⌜ now (store .exit) ≡ keptUnless (sessionOf r) (valuesGiven (now (values .entry)) (now (text .entry))) time (first (ofValues (sessionOf r) (valuesGiven (now (values .entry)) (now (text .entry))) time (length (now (buf .entry))))) (now (store .entry)) ⌝ }
 {
     let mut body = [0u8; 768];
     let k = put_body(&mut body, r, values, text, time);
@@ -91,16 +105,44 @@ fn send(r: Record, values: &[u64; 82], text: &[u8], time: u64, buf: &mut [u8]) -
         return unchanged(r, Answer::Refused(Refusal::NoRoom));
     }
     let len = put_frame(buf, 0, &body[..k]);
+    keep_report(r, store, &buf[..len]);
     reported(r, len, time)
 }
 
-// A report of the host's: one Trade Capture Report with the next number out, at the front of the buffer. 11, 7, 2 outside Active and 5, which closes,
-// stand before what is asked of the values.
-pub fn report(r: Record, values: &[u64; 82], text: &[u8], time: u64, buf: &mut [u8]) -> Answered
-    ensures { λ a. ⌜ Leaves r (report (sessionOf r) (valuesGiven (now (values .entry)) (now (text .entry))) time (now (buf .entry))) a (now (buf .exit)) ⌝ }
+// A report that went out is kept: in the first empty place, else in the lowest number's.
+fn keep_report(r: Record, store: &mut [u8], m: &[u8])
+    requires { ⌜ (inRange (sessionOf r) ≡ true) × (isStore (now store) ≡ true) × (length (now m) ≤ 512) ⌝ }
+    ensures { λ _. ⌜ now (store .exit) ≡ putAt (takes (kept (sessionOf r .ours) (sessionOf r .peers) (now (store .entry)))) (now (m .entry)) (now (store .entry)) ⌝ }
+{
+    let ours = r.ours;
+    let o = r.oursLen;
+    let peer = r.peer;
+    let p = r.peerLen;
+    let i = free_place(store, &ours[..o], &peer[..p]);
+    put_place(store, i, m)
+}
+
+// A report of the host's: one Trade Capture Report with the next number out, at the front of the buffer, and kept in the store. 11, 13, 14, 7, 2 outside
+// Active and 5, which closes, stand before what is asked of the values.
+pub fn report(
+    r: Record,
+    values: &[u64; 82],
+    text: &[u8],
+    time: u64,
+    buf: &mut [u8],
+    store: &mut [u8],
+) -> Answered
+    ensures sent { λ a. ⌜ Leaves r (report (sessionOf r) (valuesGiven (now (values .entry)) (now (text .entry))) time (now (buf .entry)) (now (store .entry))) a (now (buf .exit)) ⌝ }
+    ensures kept { λ _. ⌜ now (store .exit) ≡ storeAfter (sessionOf r) (valuesGiven (now (values .entry)) (now (text .entry))) time (now (buf .entry)) (now (store .entry)) ⌝ }
 {
     if !in_range(r) {
         return unchanged(r, Answer::Refused(Refusal::BadRecord));
+    }
+    if r.at != 0 {
+        return unchanged(r, Answer::Refused(Refusal::Replaying));
+    }
+    if !is_store(store) {
+        return unchanged(r, Answer::Refused(Refusal::BadStore));
     }
     if 253_402_300_800_000_000 <= time {
         return unchanged(r, Answer::Refused(Refusal::TimePast));
@@ -113,5 +155,5 @@ pub fn report(r: Record, values: &[u64; 82], text: &[u8], time: u64, buf: &mut [
         let closed = turned(r, Status::Closed);
         return unchanged(closed, Answer::Refused(Refusal::NumbersSpent));
     }
-    send(r, values, text, time, buf)
+    send(r, values, text, time, buf, store)
 }

@@ -1,7 +1,7 @@
 // The moves: what a session does with the body of a good frame, decided rule by rule.
 mod serving;
 
-use crate::serving::fill_to;
+use crate::serving::last_asked;
 use crate::serving::serve;
 use crate::serving::unserved_tag;
 use dictionary::Verdict;
@@ -141,8 +141,8 @@ fn rule_4(r: Record, t: u8, body: &[u8]) -> Plan
         return saying(r, ask, Letter::Nothing);
     }
     let begin = number_in(body, 7, 0);
-    let new = fill_to(r, body);
-    saying(r, Letter::Fill { begin, new }, ask)
+    let last = last_asked(r, body);
+    moves::serving(r, ask, r.expected, begin, last)
 }
 
 // Rule 5: N < E.

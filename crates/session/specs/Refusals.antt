@@ -5,7 +5,7 @@ use mathlib.Core.Option.{Option, none, some}
 use Rattle.moves.specs.Session.{Session, turned}
 use Rattle.moves.specs.declared.record.Status.the-variants.{Closed}
 use Rattle.session.specs.declared.Refusal.{Refusal}
-use Rattle.session.specs.declared.Refusal.the-variants.{SessionClosed, NotLogon, BadLogon, NumbersSpent, BufferShort, TimePast, BadValue, NoRoom, NotOneFrame, BadRecord, ReportTooLong}
+use Rattle.session.specs.declared.Refusal.the-variants.{SessionClosed, NotLogon, BadLogon, NumbersSpent, BufferShort, TimePast, BadValue, NoRoom, NotOneFrame, BadRecord, ReportTooLong, Replaying, BadStore}
 use Rattle.session.specs.declared.Answer.{Answer}
 use Rattle.session.specs.declared.Answer.the-variants.{Done, Delivered, NothingDue, Refused}
 
@@ -22,13 +22,15 @@ row SessionClosed = (2, unchanged)  -- "step while Closed"
 row NotLogon = (3, closed)  -- "see Waiting": not A
 row BadLogon = (4, closed)  -- "see Waiting": field 34 unreadable, wrong CompIDs or any verdict
 row NumbersSpent = (5, closed)  -- "E or next out above 999,999,990"
-row BufferShort = (6, unchanged)  -- "reply buffer under 512 bytes"
+row BufferShort = (6, unchanged)  -- "reply buffer under 512 bytes"; document 02: "Refusal 6 now reads 600 bytes."
 row TimePast = (7, unchanged)  -- "time at or past 253,402,300,800,000,000"
 row BadValue = (8, unchanged)  -- "a value to write that the dictionary would reject", in a message of the venue's own
 row NoRoom = (9, unchanged)  -- "writer's buffer shorter than the message"; of a report document 02: "8, 9 and 12 change nothing"
 row NotOneFrame = (10, unchanged)  -- "not exactly one good frame"
 row BadRecord = (11, unchanged)  -- "record breaks its ranges (CompIDs as above, numbers 1 to 999,999,999, heartbeat 1 to 60)"
 row ReportTooLong = (12, unchanged)  -- document 02: "report longer than 512 bytes"
+row Replaying = (13, unchanged)  -- document 02: "report while replaying"; "13 and 14 change nothing"
+row BadStore = (14, unchanged)  -- document 02: "store not of 32,768 bytes"
 
 abbrev pub No : Refusal → ℕ
 No k = row k .0

@@ -36,5 +36,7 @@ pub fn blank() -> Record
         next: 1,
         heartbeat: 30,
         sent: 0,
+        at: 0,
+        to: 0,
     }
 }

@@ -7,7 +7,6 @@ mod played;
 use begin::blank;
 use begin::in_eleven;
 use frame::body_of;
-pub use gates::is_active;
 pub use gates::is_spent;
 use gates::logon_gate;
 use gates::step_gate;
@@ -16,25 +15,31 @@ use moves::Record;
 use moves::Status;
 use moves::beating;
 use moves::closing;
+use moves::holds;
 use moves::in_range;
+use moves::is_active;
 use moves::is_comp_id;
 use moves::saying;
 use moves::turned;
 use own::is_test_id;
 use own::own_gate;
+use places::is_store;
+use places::zero_store;
 use played::play;
 pub use played::unchanged;
 use rulebook::active;
 use rulebook::waiting;
 ghost use mathlib.Core.Path.{_≡_};
 ghost use mathlib.Core.List.{[]};
+ghost use mathlib.Core.Option.{none};
 ghost use Prim.Native.Nat.{_≤_, _<_};
 ghost use lib.ListN.{length};
 ghost use Rattle.calendar.specs.Time.{limit};
 ghost use Rattle.session.specs.Refusals.{No};
+ghost use Rattle.moves.specs.Words.{first};
 ghost use Rattle.moves.specs.Session.{turned};
 ghost use Rattle.session.specs.declared.Answer.the-variants as Answer;
-ghost use Rattle.session.specs.Calls.{refusing, movesOn, due, step, tick, logout, test-request, new, reconnect};
+ghost use Rattle.session.specs.Calls.{refusing, turned-away, movesOn, due, step, storeBy, storeAfter, tick, logout, test-request, new, reconnect};
 ghost use Rattle.moves.specs.Held.{sessionOf};
 ghost use Rattle.session.specs.Held.{Leaves, answeredBy, answeredNew};
 ghost use Rattle.moves.specs.code.Plan.{Ready};
@@ -52,6 +57,8 @@ pub enum Refusal {
     NotOneFrame,
     BadRecord,
     ReportTooLong,
+    Replaying,
+    BadStore,
 }
 
 // The document's number of a refusal.
@@ -70,6 +77,8 @@ pub fn refusal_number(k: Refusal) -> u32
         Refusal::NotOneFrame => 10,
         Refusal::BadRecord => 11,
         Refusal::ReportTooLong => 12,
+        Refusal::Replaying => 13,
+        Refusal::BadStore => 14,
     }
 }
 
@@ -114,14 +123,37 @@ fn refused(r: Record, k: Refusal) -> Answered
         Refusal::NotOneFrame => unchanged(r, answer),
         Refusal::BadRecord => unchanged(r, answer),
         Refusal::ReportTooLong => unchanged(r, answer),
+        Refusal::Replaying => unchanged(r, answer),
+        Refusal::BadStore => unchanged(r, answer),
     }
 }
 
+// A logon that was not refused; if it is accepted with 141=Y the store is zeroed.
+fn logging_on(r: Record, body: &[u8], time: u64, buf: &mut [u8], store: &mut [u8]) -> Answered
+    requires { ⌜ Ready r × (r .status ≡ Status.Waiting) × (first (turned-away (sessionOf r) (now body)) ≡ none) ⌝ }
+    requires { ⌜ (600 ≤ length (now buf)) × (time < limit) ⌝ }
+    ensures moved { λ a. ⌜ Leaves r (movesOn (sessionOf r) (now (body .entry)) time (now (buf .entry))) a (now (buf .exit)) ⌝ }
+    ensures stored { λ _. ⌜ now (store .exit) ≡ storeBy (sessionOf r) (now (body .entry)) (movesOn (sessionOf r) (now (body .entry)) time (now (buf .entry))) (now (store .entry)) ⌝ }
+{
+    let p = waiting(r, body);
+    let left = play(r, p, body, time, buf);
+    let after = left.after;
+    let st = after.status;
+    if !is_active(st) {
+        return left;
+    }
+    if holds(body, 141, b"Y") {
+        zero_store(store);
+    }
+    left
+}
+
 // A step that no refusal before the moves stopped.
-fn moving(r: Record, body: &[u8], time: u64, buf: &mut [u8]) -> Answered
+fn moving(r: Record, body: &[u8], time: u64, buf: &mut [u8], store: &mut [u8]) -> Answered
     requires { ⌜ Ready r ⌝ }
-    requires { ⌜ (512 ≤ length (now buf)) × (time < limit) ⌝ }
-    ensures { λ a. ⌜ Leaves r (movesOn (sessionOf r) (now (body .entry)) time (now (buf .entry))) a (now (buf .exit)) ⌝ }
+    requires { ⌜ (600 ≤ length (now buf)) × (time < limit) ⌝ }
+    ensures moved { λ a. ⌜ Leaves r (movesOn (sessionOf r) (now (body .entry)) time (now (buf .entry))) a (now (buf .exit)) ⌝ }
+    ensures stored { λ _. ⌜ now (store .exit) ≡ storeBy (sessionOf r) (now (body .entry)) (movesOn (sessionOf r) (now (body .entry)) time (now (buf .entry))) (now (store .entry)) ⌝ }
 {
     let st = r.status;
     match st {
@@ -129,10 +161,7 @@ fn moving(r: Record, body: &[u8], time: u64, buf: &mut [u8]) -> Answered
             let gate = logon_gate(r, body);
             match gate {
                 Gate::Shut(k) => refused(r, k),
-                Gate::Open => {
-                    let p = waiting(r, body);
-                    play(r, p, body, time, buf)
-                }
+                Gate::Open => logging_on(r, body, time, buf, store),
             }
         }
         Status::Active => {
@@ -143,15 +172,16 @@ fn moving(r: Record, body: &[u8], time: u64, buf: &mut [u8]) -> Answered
     }
 }
 
-// A step: what the session does with a frame at a time. The reply stands at the front of the buffer.
-pub fn step(r: Record, frame: &[u8], time: u64, buf: &mut [u8]) -> Answered
-    ensures { λ a. ⌜ Leaves r (step (sessionOf r) (now (frame .entry)) time (now (buf .entry))) a (now (buf .exit)) ⌝ }
+// A step: what the session does with a frame at a time. The reply stands at the front of the buffer; the store is zeroed by a logon with 141=Y.
+pub fn step(r: Record, frame: &[u8], time: u64, buf: &mut [u8], store: &mut [u8]) -> Answered
+    ensures moved { λ a. ⌜ Leaves r (step (sessionOf r) (now (frame .entry)) time (now (buf .entry)) (now (store .entry))) a (now (buf .exit)) ⌝ }
+    ensures stored { λ _. ⌜ now (store .exit) ≡ storeAfter (sessionOf r) (now (frame .entry)) time (now (buf .entry)) (now (store .entry)) ⌝ }
 {
     let body = body_of(frame);
-    let gate = step_gate(r, 0 < body.len(), time, buf.len());
+    let gate = step_gate(r, is_store(store), 0 < body.len(), time, buf.len());
     match gate {
         Gate::Shut(k) => refused(r, k),
-        Gate::Open => moving(r, body, time, buf),
+        Gate::Open => moving(r, body, time, buf, store),
     }
 }
 
@@ -186,7 +216,7 @@ pub fn tick(r: Record, time: u64, buf: &mut [u8]) -> Answered
     if 253_402_300_800_000_000 <= time {
         return refused(r, Refusal::TimePast);
     }
-    if buf.len() < 512 {
+    if buf.len() < 600 {
         return refused(r, Refusal::BufferShort);
     }
     let st = r.status;
@@ -253,6 +283,8 @@ pub fn new(ours: &[u8], peer: &[u8]) -> Answered
         next: 1,
         heartbeat: 30,
         sent: 0,
+        at: 0,
+        to: 0,
     };
     unchanged(r, Answer::Done)
 }

@@ -1,10 +1,10 @@
 // The venue's own messages: their refusals, in their order.
 use crate::Gate;
 use crate::Refusal;
-use crate::gates::is_active;
 use crate::gates::is_spent;
 use moves::Record;
 use moves::in_range;
+use moves::is_active;
 use moves::is_string;
 ghost use mathlib.Core.Path.{_≡_};
 ghost use Rattle.moves.specs.Words.{first};
@@ -22,7 +22,7 @@ pub fn own_gate(r: Record, time: u64, room: usize) -> Gate
     if 253_402_300_800_000_000 <= time {
         return Gate::Shut(Refusal::TimePast);
     }
-    if room < 512 {
+    if room < 600 {
         return Gate::Shut(Refusal::BufferShort);
     }
     let s = r.status;

@@ -51,11 +51,11 @@ pub fn play(r: Record, p: Plan, body: &[u8], time: u64, buf: &mut [u8]) -> Answe
     let next = next_after(second, next_after(first, r.next));
     if is_quiet(first, second) {
         return unchanged(
-            changed(r, st, p.expected, next, p.heartbeat, r.sent),
+            changed(r, st, p.expected, next, p.heartbeat, r.sent, p.at, p.to),
             answer,
         );
     }
     let len = stamped(r, first, second, body, time, buf);
-    let after = changed(r, st, p.expected, next, p.heartbeat, time);
+    let after = changed(r, st, p.expected, next, p.heartbeat, time, p.at, p.to);
     Answered { answer, after, len }
 }

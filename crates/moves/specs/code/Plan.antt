@@ -13,24 +13,24 @@ use Rattle.dictionary.specs.Verdict.{msgType}
 use Rattle.message.specs.Message.{absent}
 use Rattle.replies.specs.Reply.{optional}
 use Rattle.moves.specs.Words.{first, _otherwise_}
-use Rattle.moves.specs.Session.{Session}
+use Rattle.moves.specs.Session.{Session, Replay, no-replay}
 use Rattle.moves.specs.Seen.{isIt, repeated, numberIn, codeOf, reasonOf, tagOf}
 use Rattle.moves.specs.Moves as Words
-use Rattle.moves.specs.Moves.{Deed, Deeds, Write, Resend, Count, Fill-to, Reset-to, Anew, Heartbeat-becomes, Becomes, _holds_, b, e, L}
+use Rattle.moves.specs.Moves.{Deed, Deeds, Write, Start, Count, Fill-to, Reset-to, Anew, Heartbeat-becomes, Becomes, _holds_, b, e, L}
 use Rattle.moves.specs.declared.record.Record.{Record}
 use Rattle.moves.specs.declared.record.Status.{Status}
 use Rattle.moves.specs.declared.record.Status.the-variants.{Active, Closed}
 use Rattle.moves.specs.declared.plan.Plan.{Plan}
 use Rattle.moves.specs.declared.plan.Letter.{Letter}
-use Rattle.moves.specs.declared.plan.Letter.the-variants.{Nothing, Heartbeat, Echo, Logon, Ask, Reject, RejectType, Fill, Logout, Test}
+use Rattle.moves.specs.declared.plan.Letter.the-variants.{Nothing, Heartbeat, Echo, Logon, Ask, Reject, RejectType, Logout, Test}
 
 -- E + 1, or not
 abbrev pub raised : Bool → ℕ → ℕ
 raised c e = cond c (e + 1) e
 
 -- all changes of a record at once
-abbrev pub changed : Session → Status → ℕ → ℕ → ℕ → ℕ → Session
-changed s st e n h t = record { ours = s .ours; peers = s .peers; status = st; E = e; next = n; heartbeat = h; sent = t }
+abbrev pub changed : Session → Status → ℕ → ℕ → ℕ → ℕ → Replay → Session
+changed s st e n h t p = record { ours = s .ours; peers = s .peers; status = st; E = e; next = n; heartbeat = h; sent = t; replay = p }
 
 -- WHAT DEEDS COME TO: whether the frame is delivered, the messages with their numbers, and the record but for its last sent
 pub record Sum : Type 0 where
@@ -40,24 +40,25 @@ pub record Sum : Type 0 where
   pub E : ℕ
   pub next : ℕ
   pub heartbeat : ℕ
+  pub replay : Replay
 
 abbrev pub adding : Sum → Deed → Sum
-adding a (Write l) = record { delivered = a .delivered; letters = a .letters ++ ((a .next, l) ∷ []); status = a .status; E = a .E; next = a .next + 1; heartbeat = a .heartbeat }
-adding a (Resend n l) = record { delivered = a .delivered; letters = a .letters ++ ((n, l) ∷ []); status = a .status; E = a .E; next = a .next; heartbeat = a .heartbeat }
-adding a Count = record { delivered = a .delivered; letters = a .letters; status = a .status; E = a .E + 1; next = a .next; heartbeat = a .heartbeat }
-adding a (Fill-to n) = record { delivered = a .delivered; letters = a .letters; status = a .status; E = n; next = a .next; heartbeat = a .heartbeat }
-adding a (Reset-to n) = record { delivered = a .delivered; letters = a .letters; status = a .status; E = n; next = a .next; heartbeat = a .heartbeat }
-adding a Anew = record { delivered = a .delivered; letters = a .letters; status = a .status; E = 2; next = 1; heartbeat = a .heartbeat }
-adding a (Heartbeat-becomes n) = record { delivered = a .delivered; letters = a .letters; status = a .status; E = a .E; next = a .next; heartbeat = n }
-adding a (Becomes st) = record { delivered = a .delivered; letters = a .letters; status = st; E = a .E; next = a .next; heartbeat = a .heartbeat }
-adding a Words.Deliver = record { delivered = true; letters = a .letters; status = a .status; E = a .E; next = a .next; heartbeat = a .heartbeat }
+adding a (Write l) = record { delivered = a .delivered; letters = a .letters ++ ((a .next, l) ∷ []); status = a .status; E = a .E; next = a .next + 1; heartbeat = a .heartbeat; replay = a .replay }
+adding a (Start p) = record { delivered = a .delivered; letters = a .letters; status = a .status; E = a .E; next = a .next; heartbeat = a .heartbeat; replay = p }
+adding a Count = record { delivered = a .delivered; letters = a .letters; status = a .status; E = a .E + 1; next = a .next; heartbeat = a .heartbeat; replay = a .replay }
+adding a (Fill-to n) = record { delivered = a .delivered; letters = a .letters; status = a .status; E = n; next = a .next; heartbeat = a .heartbeat; replay = a .replay }
+adding a (Reset-to n) = record { delivered = a .delivered; letters = a .letters; status = a .status; E = n; next = a .next; heartbeat = a .heartbeat; replay = a .replay }
+adding a Anew = record { delivered = a .delivered; letters = a .letters; status = a .status; E = 2; next = 1; heartbeat = a .heartbeat; replay = a .replay }
+adding a (Heartbeat-becomes n) = record { delivered = a .delivered; letters = a .letters; status = a .status; E = a .E; next = a .next; heartbeat = n; replay = a .replay }
+adding a (Becomes st) = record { delivered = a .delivered; letters = a .letters; status = st; E = a .E; next = a .next; heartbeat = a .heartbeat; replay = no-replay }
+adding a Words.Deliver = record { delivered = true; letters = a .letters; status = a .status; E = a .E; next = a .next; heartbeat = a .heartbeat; replay = a .replay }
 
 abbrev pub adds : Sum → Deeds → Sum
 adds a [] = a
 adds a (d ∷ ds) = adds (adding a d) ds
 
 abbrev pub summed : Session → Deeds → Sum
-summed s ds = adds (record { delivered = false; letters = []; status = s .status; E = s .E; next = s .next; heartbeat = s .heartbeat }) ds
+summed s ds = adds (record { delivered = false; letters = []; status = s .status; E = s .E; next = s .next; heartbeat = s .heartbeat; replay = s .replay }) ds
 
 -- A PLAN: a message of the code's in the words of the moves, with its number; by the body that came, or by the 112 that a Test Request is to have
 abbrev pub lettersOf : Bytes → ℕ → Letter → List (ℕ × Words.Letter)
@@ -68,7 +69,6 @@ lettersOf body n (Logon anew) = (cond anew 1 n, Words.Logon (repeated (firstFiel
 lettersOf body n (Ask from) = (n, Words.ResendRequest from) ∷ []
 lettersOf body n (Reject reason tag) = (n, Words.Reject (numberIn 1 999_999_999 (firstField 34 body) otherwise 0) tag (repeated (codeOf (msgType body))) reason) ∷ []
 lettersOf body n RejectType = (n, Words.Reject (numberIn 1 999_999_999 (firstField 34 body) otherwise 0) 35 absent 11) ∷ []
-lettersOf body n (Fill begin new) = (begin, Words.GapFill new) ∷ []
 lettersOf body n (Logout why) = (n, Words.Logout why) ∷ []
 lettersOf id n Test = (n, Words.TestRequest id) ∷ []
 
@@ -81,13 +81,12 @@ behind n (Logon anew) = cond anew 2 (n + 1)
 behind n (Ask from) = n + 1
 behind n (Reject reason tag) = n + 1
 behind n RejectType = n + 1
-behind n (Fill begin new) = n
 behind n (Logout why) = n + 1
 behind n Test = n + 1
 
 abbrev pub planned : Bytes → Session → Plan → Sum
 planned body s p =
-    record { delivered = p .delivered; letters = lettersOf body (s .next) (p .first) ++ lettersOf body (behind (s .next) (p .first)) (p .second); status = p .status; E = p .expected; next = behind (behind (s .next) (p .first)) (p .second); heartbeat = p .heartbeat }
+    record { delivered = p .delivered; letters = lettersOf body (s .next) (p .first) ++ lettersOf body (behind (s .next) (p .first)) (p .second); status = p .status; E = p .expected; next = behind (behind (s .next) (p .first)) (p .second); heartbeat = p .heartbeat; replay = record { at = p .at; to = p .to } }
 
 abbrev pub isNothing : Letter → Bool
 isNothing Nothing = true
@@ -97,28 +96,31 @@ isNothing (Logon anew) = false
 isNothing (Ask from) = false
 isNothing (Reject reason tag) = false
 isNothing RejectType = false
-isNothing (Fill begin new) = false
 isNothing (Logout why) = false
 isNothing Test = false
 
 -- the plans that the rules make on a session
 abbrev pub says : Session → Letter → Letter → Plan
-says s a b = record { delivered = false; first = a; second = b; status = s .status; expected = s .E; heartbeat = s .heartbeat }
+says s a b = record { delivered = false; first = a; second = b; status = s .status; expected = s .E; heartbeat = s .heartbeat; at = s .replay .at; to = s .replay .to }
 
 abbrev pub counts : Session → Letter → Plan
-counts s a = record { delivered = false; first = a; second = Nothing; status = s .status; expected = s .E + 1; heartbeat = s .heartbeat }
+counts s a = record { delivered = false; first = a; second = Nothing; status = s .status; expected = s .E + 1; heartbeat = s .heartbeat; at = s .replay .at; to = s .replay .to }
 
 abbrev pub expects : Session → ℕ → Plan
-expects s n = record { delivered = false; first = Nothing; second = Nothing; status = s .status; expected = n; heartbeat = s .heartbeat }
+expects s n = record { delivered = false; first = Nothing; second = Nothing; status = s .status; expected = n; heartbeat = s .heartbeat; at = s .replay .at; to = s .replay .to }
 
 abbrev pub closes : Session → Letter → Letter → ℕ → Plan
-closes s a b n = record { delivered = false; first = a; second = b; status = Closed; expected = n; heartbeat = s .heartbeat }
+closes s a b n = record { delivered = false; first = a; second = b; status = Closed; expected = n; heartbeat = s .heartbeat; at = 0; to = 0 }
 
 abbrev pub delivers : Session → Plan
-delivers s = record { delivered = true; first = Nothing; second = Nothing; status = s .status; expected = s .E + 1; heartbeat = s .heartbeat }
+delivers s = record { delivered = true; first = Nothing; second = Nothing; status = s .status; expected = s .E + 1; heartbeat = s .heartbeat; at = s .replay .at; to = s .replay .to }
 
 abbrev pub accepts : Bool → Letter → ℕ → ℕ → Plan
-accepts anew b n seconds = record { delivered = false; first = Logon anew; second = b; status = Active; expected = n; heartbeat = seconds }
+accepts anew b n seconds = record { delivered = false; first = Logon anew; second = b; status = Active; expected = n; heartbeat = seconds; at = 0; to = 0 }
+
+-- a message, E, and the replay that starts
+abbrev pub serves : Session → Letter → ℕ → ℕ → ℕ → Plan
+serves s a n b l = record { delivered = false; first = a; second = Nothing; status = s .status; expected = n; heartbeat = s .heartbeat; at = b; to = l }
 
 module _ (s : Session) (body : Bytes) where
   -- the tag of the CompID that is wrong, or 0
@@ -129,9 +131,9 @@ module _ (s : Session) (body : Bytes) where
   unfoldable pub unservedTag : ℕ
   unservedTag = cond (ltb (L s body) (b s body)) 7 (cond (ltb 0 (e s body) && ltb (e s body) (b s body)) 16 0)
 
-  -- the number to which a gap fill goes
-  unfoldable pub fillTo : ℕ
-  fillTo = cond (eqb (e s body) 0) (L s body) (min (e s body) (L s body)) + 1
+  -- the last number that a Resend Request asks for
+  unfoldable pub lastAsked : ℕ
+  lastAsked = cond (eqb (e s body) 0) (L s body) (min (e s body) (L s body))
 
 -- the first byte of a type's code, the last of AD's and AE's, or 0
 abbrev pub typeByte : Option MsgType → ℕ

@@ -3,7 +3,7 @@ use Prim.Native.Nat.{ℕ, _≤_}
 use mathlib.Core.Path.{_≡_}
 use mathlib.Core.List.{List, [], _∷_}
 use mathlib.Core.Option.{Option}
-use mathlib.Core.Bool.{true, false, not}
+use mathlib.Core.Bool.{Bool, true, false, not}
 use lib.ListN.{length}
 use Rattle.bytes.specs.Bytes.{Bytes, fix}
 use Rattle.calendar.specs.Time.{limit}
@@ -12,18 +12,20 @@ use Rattle.message.specs.Wrote.{Wrote}
 use Rattle.report.specs.Values.{Values, takes}
 use Rattle.report.specs.Report.{fieldsOf}
 use Rattle.moves.specs.Words.{_<?_, _≤?_, _when_}
-use Rattle.moves.specs.Session.{_==_, Session, inRange}
+use Rattle.moves.specs.Session.{_==_, Session, running, inRange}
 use Rattle.moves.specs.declared.record.Status.the-variants.{Active}
 use Rattle.session.specs.Calls.{spent}
-use Rattle.session.specs.declared.Refusal.the-variants.{SessionClosed, NumbersSpent, TimePast, BadValue, NoRoom, BadRecord, ReportTooLong}
+use Rattle.session.specs.declared.Refusal.the-variants.{SessionClosed, NumbersSpent, TimePast, BadValue, NoRoom, BadRecord, ReportTooLong, Replaying, BadStore}
 use Rattle.session.specs.declared.Answer.{Answer}
 use Rattle.session.specs.declared.Answer.the-variants.{Refused}
 use Rattle.reporting.specs.Call.{message, longest}
 
--- the refusals that ask nothing of the values, 11, 7, 2, 5, and those that do, 8, 12, 9
-unfoldable pub ofSession : Session → ℕ → List (Option Answer)
-ofSession s t =
+-- the refusals that ask nothing of the values, 11, 13, 14, 7, 2, 5, and those that do, 8, 12, 9
+unfoldable pub ofSession : Session → Bool → ℕ → List (Option Answer)
+ofSession s stored t =
     Refused BadRecord when not (inRange s) ∷
+    Refused Replaying when running (s .replay) ∷
+    Refused BadStore when not stored ∷
     Refused TimePast when limit ≤? t ∷
     Refused SessionClosed when not (s .status == Active) ∷
     Refused NumbersSpent when spent s ∷

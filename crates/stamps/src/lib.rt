@@ -1,0 +1,29 @@
+// Whether bytes are a time as our messages carry it: from 1970 on, six decimals, no second 60.
+use dates::judge_time;
+ghost use mathlib.Core.Path.{_≡_};
+ghost use Rattle.stamps.specs.Stamp.{isStamp};
+
+pub fn is_stamp(v: &[u8]) -> bool
+    ensures { λ b. ⌜ b ≡ isStamp (now (v .entry)) ⌝ }
+{
+    if v.len() != 24 {
+        return false;
+    }
+    if judge_time(v) != 0 {
+        return false;
+    }
+    // The year is 1970 or later: in 19xx the third digit is 7 or more.
+    if v[0] < b'1' {
+        return false;
+    }
+    if v[0] == b'1' {
+        if v[1] < b'9' {
+            return false;
+        }
+        if v[2] < b'7' {
+            return false;
+        }
+    }
+    // No second 60.
+    v[15] < b'6'
+}
