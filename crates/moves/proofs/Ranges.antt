@@ -1,18 +1,19 @@
 -- The record's ranges, test by test.
 -- Assumes nothing.
 use Prim.Native.Nat.{ℕ, _≤_, _<_}
-use mathlib.Core.Path.{_≡_, ap}
+use mathlib.Core.Path.{_≡_, ap, _∙_}
 use mathlib.Core.Bool.{Bool, true, false, not}
-use lib.Dec.{leb}
+use lib.Dec.{eqb, leb, ltb}
 use lib.ListN.{length, take}
-use borrow.Author.Tests.{lt-leb, le-leb, not-true, not-false}
+use borrow.Author.Tests.{lt-leb, le-leb, eq-eqb, ne-eqb, not-true, not-false}
 use Rattle.bytes.specs.Bytes.{Bytes, has, within}
 use Rattle.bytes.proofs.Numerals.{within-is}
 use Rattle.bytes.proofs.Tests.{both}
-use Rattle.moves.specs.Session.{numbered, inRange}
+use Rattle.moves.specs.Session.{_==_, numbered, placed, inRange}
 use Rattle.message.specs.Unfit.{stringTo, compID}
 use Rattle.moves.specs.Held.{held, sessionOf}
 use Rattle.moves.specs.declared.record.Record.{Record}
+use Rattle.moves.specs.declared.record.Status.the-variants.{Active}
 
 -- A STRING, a CompID
 pub string-short : (most : ℕ) (c : Bytes) → length c < 1 → false ≡ stringTo most c
@@ -77,8 +78,27 @@ module _ (r : Record) {a : Bool} (ra : a ≡ compID (held (r .oursLen) (r .ours)
           unfolding inRange
           range-slow h = rw (← ra, not-false a ha, ← rb, not-false b hb, ← re, not-false e he, ← rn, not-false n hn, lt-leb 1 (r .heartbeat) h)
 
-          pub range-rest : 1 ≤ r .heartbeat → leb (r .heartbeat) 60 ≡ inRange (sessionOf r)
+          pub range-fast : 1 ≤ r .heartbeat → 60 < r .heartbeat → false ≡ inRange (sessionOf r)
           unfolding inRange
-          range-rest h = rw (← ra, not-false a ha, ← rb, not-false b hb, ← re, not-false e he, ← rn, not-false n hn, le-leb 1 (r .heartbeat) h)
+          range-fast h k = rw (← ra, not-false a ha, ← rb, not-false b hb, ← re, not-false e he, ← rn, not-false n hn, le-leb 1 (r .heartbeat) h, lt-leb (r .heartbeat) 60 k)
 
-pub ruleset ranges = (string-short, string-long, string-bar, string-comp, held-long, held-comp, number-low, number-rest, range-ours, range-peer, range-expected, range-next, range-slow, range-rest)
+          pub range-rest : 1 ≤ r .heartbeat → r .heartbeat ≤ 60 → {p : Bool} → p ≡ placed (sessionOf r) (sessionOf r .replay) → p ≡ inRange (sessionOf r)
+          unfolding inRange
+          range-rest h k q = q ∙ rw (← ra, not-false a ha, ← rb, not-false b hb, ← re, not-false e he, ← rn, not-false n hn, le-leb 1 (r .heartbeat) h, le-leb (r .heartbeat) 60 k)
+
+-- THE PLACE OF A REPLAY
+module _ (r : Record) where
+  pub placed-none : r .at ≡ 0 → eqb (r .to) 0 ≡ placed (sessionOf r) (sessionOf r .replay)
+  placed-none e = rw (eq-eqb (r .at) 0 e)
+
+  module _ (e : r .at ≡ 0 → ⊥) {a : Bool} (ra : a ≡ (r .status == Active)) where
+    pub placed-idle : not a ≡ true → false ≡ placed (sessionOf r) (sessionOf r .replay)
+    placed-idle h = rw (ne-eqb (r .at) 0 e, ← ra, not-true a h)
+
+    pub placed-turned : not a ≡ false → r .to < r .at → false ≡ placed (sessionOf r) (sessionOf r .replay)
+    placed-turned h k = rw (ne-eqb (r .at) 0 e, ← ra, not-false a h, lt-leb (r .at) (r .to) k)
+
+    pub placed-rest : not a ≡ false → r .at ≤ r .to → ltb (r .to) (r .next) ≡ placed (sessionOf r) (sessionOf r .replay)
+    placed-rest h k = rw (ne-eqb (r .at) 0 e, ← ra, not-false a h, le-leb (r .at) (r .to) k)
+
+pub ruleset ranges = (string-short, string-long, string-bar, string-comp, held-long, held-comp, number-low, number-rest, range-ours, range-peer, range-expected, range-next, range-slow, range-fast, range-rest, placed-none, placed-idle, placed-turned, placed-rest)

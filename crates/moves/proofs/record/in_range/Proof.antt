@@ -17,4 +17,6 @@ in-range-spec =
     (λ c κs. search needs)
     (λ c. search ranges)
     (λ c. search ranges)
+    (λ c. search ranges)
+    (λ c κs. search needs)
     (λ c. search ranges))
