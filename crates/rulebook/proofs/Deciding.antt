@@ -18,13 +18,13 @@ use Rattle.moves.specs.Words.{speaks, first, _when_, _otherwise_}
 use Rattle.moves.specs.Session.{Session}
 use Rattle.moves.specs.Seen.{isIt, isClean}
 use Rattle.moves.specs.Moves.{#, N, readable, counted, unserved, served, bare-reset, too-high, too-low, filled, reject}
-use Rattle.moves.specs.code.Plan.{planned, summed, says, counts, expects, closes, raised, rejectedBy, typeByte, isBareReset, strangeTag, unservedTag, fillTo, Ready}
+use Rattle.moves.specs.code.Plan.{planned, summed, says, counts, expects, closes, raised, rejectedBy, typeByte, isBareReset, strangeTag, unservedTag, lastAsked, serves, Ready}
 use Rattle.moves.specs.Held.{sessionOf}
 use Rattle.moves.specs.declared.record.Record.{Record}
 use Rattle.moves.specs.code.Reads.{NumberIn}
 use Rattle.moves.specs.declared.plan.Plan.{Plan}
 use Rattle.moves.specs.declared.plan.Letter.{Letter}
-use Rattle.moves.specs.declared.plan.Letter.the-variants.{Nothing, Ask, Reject, Fill, Logout}
+use Rattle.moves.specs.declared.plan.Letter.the-variants.{Nothing, Ask, Reject, Logout}
 use Rattle.moves.proofs.Types.{agree-2, agree-4, is-type, not-type}
 
 -- a number that was read is the one that the moves read
@@ -95,17 +95,17 @@ module _ (s : Session) (body : Bytes) where
       end-high h k = rw (← (hash s R), ← (hash s Q), le-ltb (s .next - 1) n l, lt-ltb 0 m (omega arith), le-ltb m n k)
 
   module _ {m : ℕ} (Q : NumberIn 0 16 body m) where
-    pub fill-all : m ≡ 0 → s .next - 1 + 1 ≡ fillTo s body
-    unfolding fillTo
-    fill-all h = rw (← (hash s Q), h)
+    pub asked-all : m ≡ 0 → s .next - 1 ≡ lastAsked s body
+    unfolding lastAsked
+    asked-all h = rw (← (hash s Q), h)
 
-    pub fill-end : (m ≡ 0 → ⊥) → m ≤ s .next - 1 → m + 1 ≡ fillTo s body
-    unfolding fillTo
-    fill-end h l = let k : min m (s .next - 1) ≡ m = omega arith in rw (← (hash s Q), ne-eqb m 0 h, k)
+    pub asked-end : (m ≡ 0 → ⊥) → m ≤ s .next - 1 → m ≡ lastAsked s body
+    unfolding lastAsked
+    asked-end h l = let k : min m (s .next - 1) ≡ m = omega arith in rw (← (hash s Q), ne-eqb m 0 h, k)
 
-    pub fill-last : (m ≡ 0 → ⊥) → s .next - 1 < m → s .next - 1 + 1 ≡ fillTo s body
-    unfolding fillTo
-    fill-last h l = let k : min m (s .next - 1) ≡ s .next - 1 = omega arith in rw (← (hash s Q), ne-eqb m 0 h, k)
+    pub asked-past : (m ≡ 0 → ⊥) → s .next - 1 < m → s .next - 1 ≡ lastAsked s body
+    unfolding lastAsked
+    asked-past h l = let k : min m (s .next - 1) ≡ s .next - 1 = omega arith in rw (← (hash s Q), ne-eqb m 0 h, k)
 
   -- RULE 4
   module _ {x : ℕ} (e : x ≡ typeByte (msgType body)) where
@@ -123,8 +123,8 @@ module _ (s : Session) (body : Bytes) where
         unfolding too-high reject readable
         high-unserved z pw = rw (pw, is-type agree-2 body e h, ← f, ← k, not-false b q, unserved-is, ← w, ne-eqb u 0 z)
 
-        pub high-served : u ≡ 0 → {n m : ℕ} → NumberIn 0 7 body n → m ≡ fillTo s body → {p : Plan} → p ≡ says s (Fill n m) (Ask (s .E)) → planned body s p ≡ summed s (too-high s body)
-        unfolding too-high served fillTo reject readable
+        pub high-served : u ≡ 0 → {n m : ℕ} → NumberIn 0 7 body n → m ≡ lastAsked s body → {p : Plan} → p ≡ serves s (Ask (s .E)) (s .E) n m → planned body s p ≡ summed s (too-high s body)
+        unfolding too-high served lastAsked reject readable
         high-served z R p pw = rw (pw, is-type agree-2 body e h, ← f, ← k, not-false b q, unserved-is, ← w, eq-eqb u 0 z, ← (hash s R), p)
 
   -- A RESEND REQUEST IN TURN
@@ -132,8 +132,8 @@ module _ (s : Session) (body : Bytes) where
   unfolding reject readable
   turn-unserved {u = u} w z pw = rw (pw, unserved-is, ← w, ne-eqb u 0 z)
 
-  pub turn-served : {u n m : ℕ} → u ≡ unservedTag s body → u ≡ 0 → NumberIn 0 7 body n → m ≡ fillTo s body → {p : Plan} → p ≡ counts s (Fill n m) → planned body s p ≡ summed s (counted s body (unserved s body otherwise served s body))
-  unfolding served fillTo reject readable
+  pub turn-served : {u n m : ℕ} → u ≡ unservedTag s body → u ≡ 0 → NumberIn 0 7 body n → m ≡ lastAsked s body → {p : Plan} → p ≡ serves s Nothing (s .E + 1) n m → planned body s p ≡ summed s (counted s body (unserved s body otherwise served s body))
+  unfolding served lastAsked reject readable
   turn-served {u = u} w z R p pw = rw (pw, unserved-is, ← w, eq-eqb u 0 z, ← (hash s R), p)
 
   -- RULE 5
@@ -178,4 +178,4 @@ module _ (r : Record) (body : Bytes) (R : Ready r) {b : Bool} (e : b ≡ isIt (t
     pub strange-none : not d ≡ false → 0 ≡ strangeTag (sessionOf r) body
     strange-none k = rw (le-leb (r .peerLen) 11 (R .peer), ← e, not-false b h, le-leb (r .oursLen) 11 (R .ours), ← f, not-false d k)
 
-pub ruleset deciding = (rejected-clean, rejected-none, rejected-is, reset-verdict, reset-below, reset-taken, begin-high, end-none, end-low, end-high, fill-all, fill-end, fill-last, high-other, high-unclean, high-unserved, high-served, turn-unserved, turn-served, low-first, low-without, low-ignored, fill-low, fill-on, strange-peer, strange-ours, strange-none, stranger-next, stranger-other)
+pub ruleset deciding = (rejected-clean, rejected-none, rejected-is, reset-verdict, reset-below, reset-taken, begin-high, end-none, end-low, end-high, asked-all, asked-end, asked-past, high-other, high-unclean, high-unserved, high-served, turn-unserved, turn-served, low-first, low-without, low-ignored, fill-low, fill-on, strange-peer, strange-ours, strange-none, stranger-next, stranger-other)

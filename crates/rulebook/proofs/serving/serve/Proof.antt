@@ -13,5 +13,6 @@ serve-spec =
     (λ c. search deciding)
     (λ c κs. search needs)
     (λ c κs. search needs)
+    (λ c. search needs)
     (λ c κs. search needs)
     (λ c. search deciding))
