@@ -28,7 +28,7 @@ use Rattle.letters.specs.code.Put.{bytesOf, AllPut, rejectOf, typeReject
 use Rattle.letters.specs.code.Fit.{FitId, FitLogon}
 use Rattle.moves.specs.declared.record.Record.{Record}
 use Rattle.moves.specs.declared.plan.Letter.{Letter}
-use Rattle.moves.specs.declared.plan.Letter.the-variants.{Nothing, Heartbeat, Echo, Logon, Ask, Reject, RejectType, Fill, Logout, Test}
+use Rattle.moves.specs.declared.plan.Letter.the-variants.{Nothing, Heartbeat, Echo, Logon, Ask, Reject, RejectType, Logout, Test}
 use Rattle.letters.proofs.Replying.{was-put}
 use Rattle.letters.proofs.Carried.{logon-seconds}
 
@@ -93,11 +93,6 @@ module _ (ours peers stamp body d d′ : Bytes) (n at to : ℕ) (l : Letter) (S 
 
   pub put-reject-type : l ≡ RejectType → Wrote d d′ at to (typeRejectOf ours peers n stamp body) → to ≤ at + replyRoom → Put
   put-reject-type e w h = alone e refl w h
-
-  pub put-fill : {begin new : ℕ} → l ≡ Fill begin new → Replied ours peers begin stamp (nineDigits new) d d′ at to (Reply.gapFill ours peers begin stamp new) → Put
-  put-fill {begin = begin} {new = new} e R =
-      let F = subst (λ (y : Letter). AllPut (lettersOf body n y)) e A in
-      let w = was-put S begin R (le-leb new 999_999_999 (F .1 .high)) (F .0) (S .room) in alone e refl (w .0) (w .1)
 
   pub put-logout : {why : ℕ} → l ≡ Logout why → Replied ours peers n stamp (nineDigits why) d d′ at to (Reply.logout ours peers n stamp why) → Put
   put-logout {why = why} e R =
