@@ -117,6 +117,12 @@ module _ (t : ℕ) where
     pub utc-allowed : allowed time (utc t) ≡ true
     utc-allowed = reads-allowed (utc t) date second micros read (dated .good) (omega arith)
 
+    pub utc-year : 1970 ≤ number-at 0 4 (utc t)
+    utc-year = rw (read .year) (dated .good .year-from)
+
+    pub utc-second : number-at 15 2 (utc t) ≤ 59
+    utc-second = rw (read .seconds) (omega arith)
+
     pub utc-names : microseconds (utc t) ≡ t
     utc-names = reads-named (utc t) date second micros read ∙ ap (λ (d : ℕ). (d * 86400 + second) * 1000000 + micros) (dated .named) ∙ parts t
 

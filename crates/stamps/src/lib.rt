@@ -12,18 +12,19 @@ pub fn is_stamp(v: &[u8]) -> bool
     if judge_time(v) != 0 {
         return false;
     }
+    // No second 60.
+    if b'6' <= v[15] {
+        return false;
+    }
     // The year is 1970 or later: in 19xx the third digit is 7 or more.
+    if b'2' <= v[0] {
+        return true;
+    }
     if v[0] < b'1' {
         return false;
     }
-    if v[0] == b'1' {
-        if v[1] < b'9' {
-            return false;
-        }
-        if v[2] < b'7' {
-            return false;
-        }
+    if v[1] < b'9' {
+        return false;
     }
-    // No second 60.
-    v[15] < b'6'
+    b'7' <= v[2]
 }
