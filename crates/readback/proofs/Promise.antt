@@ -1,12 +1,12 @@
 -- What is promised of the reading back, proved.
-use Prim.Native.Nat.{ℕ, _≤_}
+use Prim.Native.Nat.{ℕ, _≤_, _<_}
 use mathlib.Core.Path.{_≡_, refl, ap, sym, _∙_}
 use mathlib.Core.List.{List, [], _∷_, _++_}
 use mathlib.Core.Bool.{true}
 use mathlib.Core.Option.{Option, none, some}
 use lib.ListN.{length, getD}
 use lib.Seq.{take-all}
-use Rattle.bytes.specs.Bytes.{Bytes, decimal}
+use Rattle.bytes.specs.Bytes.{Bytes, fix, decimal}
 use Rattle.fields.specs.Field.{firstField}
 use Rattle.table.specs.Dictionary.{header, fields}
 use Rattle.table.specs.declared.MsgType.{MsgType}
@@ -15,11 +15,12 @@ use Rattle.dictionary.specs.Verdict.{verdict, msgType}
 use Rattle.dictionary.specs.Promise.{required}
 use Rattle.dictionary.specs.declared.Verdict.the-variants.{Clean}
 use Rattle.dictionary.proofs.Clean.{clean-body}
-use Rattle.message.specs.Message.{row}
+use Rattle.calendar.specs.Time.{utc, limit}
+use Rattle.message.specs.Message.{Value, absent, bytes, row, framed}
 use Rattle.message.specs.Whole.{bodyIn}
 use Rattle.message.proofs.Wholes.{body-back}
 use Rattle.report.specs.Values as Report
-use Rattle.report.specs.Report.{Report, fieldsOf, sent, sendable, valuesIn, reportIn}
+use Rattle.report.specs.Report.{Report, fieldsWith, sent, again, sendable, valuesIn, reportIn}
 use Rattle.report.proofs.Promise as Written
 use Rattle.report.proofs.ReadBack.{sendable-is}
 use Rattle.report.proofs.Longest.{few-parties}
@@ -47,14 +48,13 @@ given body h =
     let b = there body (s .0) (s .1) 31 refl in
     record { clean = s .0; report = s .1; values = values-given body (a .0) (a .1) (b .0) (b .1) }
 
--- WHAT OUR REPORT CALL WROTE: it begins with 35=AE, and has at most eight parties
-begun : (us them : Bytes) (r : Report) → namesReport (row (fieldsOf us them r)) ≡ true
+-- WHAT OUR REPORT CALL WROTE, sent or sent again: it begins with 35=AE, and has at most eight parties
+begun : (us them : Bytes) (n : ℕ) (dup : Value) (t : ℕ) (orig : Value) (v : Report.Values) → namesReport (row (fieldsWith us them n dup t orig v)) ≡ true
 unfolding firstField decimal
-begun us them r = refl
+begun us them n dup t orig v = refl
 
-names-report : (us them : Bytes) (r : Report) → namesReport (bodyIn (sent us them r)) ≡ true
-unfolding sent
-names-report us them r = ap namesReport (body-back (row (fieldsOf us them r))) ∙ begun us them r
+names-report : (us them : Bytes) (n : ℕ) (dup : Value) (t : ℕ) (orig : Value) (v : Report.Values) → namesReport (bodyIn (framed (row (fieldsWith us them n dup t orig v)))) ≡ true
+names-report us them n dup t orig v = ap namesReport (body-back (row (fieldsWith us them n dup t orig v))) ∙ begun us them n dup t orig v
 
 up-to-eight : (v : Report.Values) → length (v .parties) ≤ 8 → upToEight v ≡ v
 up-to-eight v h i =
@@ -73,18 +73,26 @@ up-to-eight v h i =
       parties = take-all 8 (v .parties) h i;
     }
 
-named : (us them : Bytes) (r : Report) → reportIn (bodyIn (sent us them r)) ≡ r → valuesIn (bodyIn (sent us them r)) ≡ r .values
-unfolding reportIn
-named us them r e = ap (λ (x : Report). x .values) e
-
-back : (us them : Bytes) (r : Report) → sendable us them r ≡ true → ReadsBack (bodyIn (sent us them r)) r
-back us them r h =
-    let W = Written.promise .written us them r h in
-    let a = values-clean (bodyIn (sent us them r)) (W .clean) (names-report us them r) in
+-- a clean body of such a report that names its values reads back as them
+reads : (us them body : Bytes) (r : Report) → sendable us them r ≡ true → verdict body ≡ Clean → namesReport body ≡ true → valuesIn body ≡ r .values → ReadsBack body r
+reads us them body r h c n e =
+    let a = values-clean body c n in
     record {
       answered = a;
-      its-values = given (bodyIn (sent us them r)) a .values ∙ ap upToEight (named us them r (W .reads)) ∙ up-to-eight (r .values) (few-parties (r .values) (sendable-is us them r h .taken));
+      its-values = given body a .values ∙ ap upToEight e ∙ up-to-eight (r .values) (few-parties (r .values) (sendable-is us them r h .taken));
     }
+
+back : (us them : Bytes) (r : Report) → sendable us them r ≡ true → ReadsBack (bodyIn (sent us them r)) r
+unfolding sent reportIn
+back us them r h =
+    let W = Written.promise .written us them r h in
+    reads us them _ r h (W .clean) (names-report us them (r .number) absent (r .time) absent (r .values)) (ap (λ (x : Report). x .values) (W .reads))
+
+back-again : (us them : Bytes) (r : Report) → sendable us them r ≡ true → (t : ℕ) → t < limit → ReadsBack (bodyIn (again us them r t)) r
+unfolding again
+back-again us them r h t l =
+    let W = Written.promise .repeated us them r h t in
+    reads us them _ r h (W .clean l) (names-report us them (r .number) (bytes (fix "Y")) t (bytes (utc (r .time))) (r .values)) (W .reads)
 
 -- the case that number and values tell
 told : Option ℕ → List ℕ → ReadBack
@@ -102,4 +110,4 @@ numbers-tell : (r s : ReadBack) → numbers r ≡ numbers s → r ≡ s
 numbers-tell r s h = sym (told-back r) ∙ ap (λ (p : Option ℕ × List ℕ). told (p .0) (p .1)) h ∙ told-back s
 
 pub promise : Promise
-promise = record { given = given; back = back; finding = finding-says; refusal-10 = refusal-says; told-apart = numbers-tell }
+promise = record { given = given; back = back; back-again = back-again; finding = finding-says; refusal-10 = refusal-says; told-apart = numbers-tell }

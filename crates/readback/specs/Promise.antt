@@ -1,5 +1,5 @@
 -- What is promised of the reading back, in document 02's words. Proved once, in proofs/Promise.antt.
-use Prim.Native.Nat.{ℕ}
+use Prim.Native.Nat.{ℕ, _<_}
 use mathlib.Core.Path.{_≡_}
 use mathlib.Core.Logic.{_⊎_}
 use mathlib.Core.Bool.{true, cond}
@@ -10,9 +10,10 @@ use Rattle.fields.specs.Field.{isBody}
 use Rattle.table.specs.declared.MsgType.the-variants.{TradeCaptureReport}
 use Rattle.dictionary.specs.Verdict.{verdict, msgType}
 use Rattle.dictionary.specs.declared.Verdict.the-variants as Found
+use Rattle.calendar.specs.Time.{limit}
 use Rattle.message.specs.Whole.{bodyIn}
 use Rattle.report.specs.Values as Report
-use Rattle.report.specs.Report.{Report, sent, sendable, valuesIn}
+use Rattle.report.specs.Report.{Report, sent, again, sendable, valuesIn}
 use Rattle.report.specs.Layout.{valuesGiven}
 use Rattle.readback.specs.Back.{readBack, wordsIn, numbers}
 use Rattle.readback.specs.declared.ReadBack.{ReadBack}
@@ -50,6 +51,8 @@ pub record ReadsBack (body : Bytes) (r : Report) : Type 0 where
 pub record Promise : Type 0 where
   pub given : (body : Bytes) → readBack body ≡ Values → Given body
   pub back : (us them : Bytes) (r : Report) → sendable us them r ≡ true → ReadsBack (bodyIn (sent us them r)) r
+  -- and of what goes out again (Q-4), the same
+  pub back-again : (us them : Bytes) (r : Report) → sendable us them r ≡ true → (t : ℕ) → t < limit → ReadsBack (bodyIn (again us them r t)) r
   -- a finding is the verdict's, or that a clean body is of another type: 11, tag 35
   pub finding : (body : Bytes) (r t : ℕ) → readBack body ≡ Finding r t → (verdict body ≡ Found.Finding r t) ⊎ ((verdict body ≡ Found.Clean) × ((r ≡ 11) × (t ≡ 35)))
   -- refusal 10 where the verdict has it, for bytes that are no body, there, and only there
