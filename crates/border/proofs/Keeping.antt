@@ -1,5 +1,5 @@
 -- The record is kept: what a new session's record was saved as is loaded again; saving another state changes the state's words alone, and that state is
--- loaded again; saving what was loaded changes nothing; and a session that is Closed differs in one word. Assumes nothing.
+-- loaded again; saving what was loaded changes nothing; and a session that is Closed differs in its status and its replay. Assumes nothing.
 use Prim.Native.Nat.{ℕ, zero, suc, _+_, _≤_, _<_}
 use mathlib.Core.Path.{_≡_, refl, sym, ap, _∙_, subst}
 use mathlib.Core.List.{List, [], _∷_, _++_}
@@ -8,7 +8,7 @@ use mathlib.Core.Option.{Option, none, some, Option·some-injective, Option·non
 use native.Mathlib.Omega.{arith}
 use borrow.Author.Tests.{eq-eqb, eqb-true}
 use lib.Dec.{eqb, leb}
-use lib.ListN.{length, getD, set, take, drop, drop-of-length-le}
+use lib.ListN.{length, getD, take, drop, drop-of-length-le}
 use lib.Seq.{drop-cons, length-sets}
 use Rattle.bytes.specs.Bytes.{Bytes, Byted}
 use Rattle.bytes.proofs.Tests.{both}
@@ -18,16 +18,16 @@ use Rattle.moves.specs.declared.record.Record.{Record}
 use Rattle.moves.specs.declared.record.Status.{Status}
 use Rattle.moves.specs.declared.record.Status.the-variants.{Waiting, Active, Closed}
 use Rattle.border.proofs.Records.{status-read}
-use Rattle.border.specs.Record.{eleven, compIDsOf, state, wordsOf, saved, statusOf, spare, statusIf, statusIn, recordWith, recordIf, recordIn}
+use Rattle.border.specs.Record.{eleven, compIDsOf, state, wordsOf, saved, closedIn, statusOf, spare, statusIf, statusIn, recordWith, recordIf, recordIn}
 use Rattle.border.specs.code.Held.{found, statusHeld}
 
 -- A LIST element by element
 front-of : (w : List ℕ) (j : ℕ) → j < length w → drop j w ≡ getD w j 0 ∷ drop (suc j) w
 front-of w j h = drop-cons w j 0 h
 
-six : (w : List ℕ) → 6 ≤ length w → w ≡ getD w 0 0 ∷ getD w 1 0 ∷ getD w 2 0 ∷ getD w 3 0 ∷ getD w 4 0 ∷ getD w 5 0 ∷ drop 6 w
-six w h =
-    front-of w 0 (omega arith) ∙ rw (front-of w 1 (omega arith), front-of w 2 (omega arith), front-of w 3 (omega arith), front-of w 4 (omega arith), front-of w 5 (omega arith))
+eight : (w : List ℕ) → 8 ≤ length w → w ≡ getD w 0 0 ∷ getD w 1 0 ∷ getD w 2 0 ∷ getD w 3 0 ∷ getD w 4 0 ∷ getD w 5 0 ∷ getD w 6 0 ∷ getD w 7 0 ∷ drop 8 w
+eight w h =
+    front-of w 0 (omega arith) ∙ rw (front-of w 1 (omega arith), front-of w 2 (omega arith), front-of w 3 (omega arith), front-of w 4 (omega arith), front-of w 5 (omega arith), front-of w 6 (omega arith), front-of w 7 (omega arith))
 
 eleven-all : (l : Bytes) → length l ≡ 11 → eleven 0 l ≡ l
 eleven-all l e =
@@ -75,9 +75,9 @@ its-number (suc zero) st e = ap code (Option·some-injective Active st e)
 its-number (suc (suc zero)) st e = ap code (Option·some-injective Closed st e)
 its-number (suc (suc (suc n))) st e = absurd (Option·none-ne-some st e)
 
--- WHAT IS SAVED: the state's five words, and nothing else
-pub saved-is : (words : List ℕ) (r : Record) → 6 ≤ length words → saved words r ≡ getD words 0 0 ∷ (state r ++ drop 6 words)
-saved-is words r h = ap (λ (w : List ℕ). saved w r) (six words h)
+-- WHAT IS SAVED: the state's seven words, and nothing else
+pub saved-is : (words : List ℕ) (r : Record) → 8 ≤ length words → saved words r ≡ getD words 0 0 ∷ (state r ++ drop 8 words)
+saved-is words r h = ap (λ (w : List ℕ). saved w r) (eight words h)
 
 -- words that hold a status: 24 of them, of this version, spare ones zero
 record Kept (words : List ℕ) (st : Status) : Type 0 where
@@ -116,9 +116,9 @@ module _ (ids : Bytes) (words : List ℕ) where
       let K = kept-is words (r .status) (L .0) in
       let n = its-number (getD words 1 0) (r .status) (K .numbered) in
       saved-is words r (omega (arith, K .long))
-      ∙ ap (λ (x : Record). getD words 0 0 ∷ (code (r .status) ∷ x .expected ∷ x .next ∷ x .heartbeat ∷ x .sent ∷ drop 6 words)) (L .1)
-      ∙ ap (λ (k : ℕ). getD words 0 0 ∷ k ∷ getD words 2 0 ∷ getD words 3 0 ∷ getD words 4 0 ∷ getD words 5 0 ∷ drop 6 words) (sym n)
-      ∙ sym (six words (omega (arith, K .long)))
+      ∙ ap (λ (x : Record). getD words 0 0 ∷ (code (r .status) ∷ x .expected ∷ x .next ∷ x .heartbeat ∷ x .sent ∷ x .at ∷ x .to ∷ drop 8 words)) (L .1)
+      ∙ ap (λ (k : ℕ). getD words 0 0 ∷ k ∷ getD words 2 0 ∷ getD words 3 0 ∷ getD words 4 0 ∷ getD words 5 0 ∷ getD words 6 0 ∷ getD words 7 0 ∷ drop 8 words) (sym n)
+      ∙ sym (eight words (omega (arith, K .long)))
 
   -- another state that is saved is loaded again
   pub saved-loads : (r : Record) (s : Session) → recordIn ids words ≡ some r → recordIn ids (saved words (with r s)) ≡ some (with r s)
@@ -136,12 +136,12 @@ module _ (ids : Bytes) (words : List ℕ) where
       ∙ ap (λ (w : List ℕ). some (recordWith ids w (s .status))) h
       ∙ ap some (sym (ap (λ (x : Record). with x s) (L .1)))
 
-  -- a session that is Closed, and nothing else changed: one word
-  pub closed-words : (r : Record) → recordIn ids words ≡ some r → saved words (with r (turned Closed (sessionOf r))) ≡ set words 1 (code Closed)
+  -- a session that is Closed, and nothing else changed
+  pub closed-words : (r : Record) → recordIn ids words ≡ some r → saved words (with r (turned Closed (sessionOf r))) ≡ closedIn words
   closed-words r e =
       let K = kept-is words (r .status) (loaded-with r e .0) in
       saved-is words (with r (turned Closed (sessionOf r))) (omega (arith, K .long))
-      ∙ ap (λ (w : List ℕ). set w 1 (code Closed)) (sym (saved-is words r (omega (arith, K .long))) ∙ loaded-saves r e)
+      ∙ ap closedIn (sym (saved-is words r (omega (arith, K .long))) ∙ loaded-saves r e)
 
   -- the CompIDs of a record are bytes, if those that it lies in are
   pub held-bytes : (r : Record) → recordIn ids words ≡ some r → Byted ids → Byted (sessionOf r .ours) × Byted (sessionOf r .peers)
@@ -168,7 +168,7 @@ module _ (words : List ℕ) where
       go none e = refl
       go (some st) e = absurd (false≢true (sym e))
 
-  pub a-record : (ids : Bytes) {ours peer : Bytes} {o p : ℕ} {st : Status} → found (statusIn words) ≡ true → ours ≡ eleven 1 ids → o ≡ getD ids 0 0 → peer ≡ eleven 13 ids → p ≡ getD ids 12 0 → st ≡ statusHeld (statusOf (getD words 1 0)) → some (record { ours = ours; oursLen = o; peer = peer; peerLen = p; status = st; expected = getD words 2 0; next = getD words 3 0; heartbeat = getD words 4 0; sent = getD words 5 0 }) ≡ recordIn ids words
+  pub a-record : (ids : Bytes) {ours peer : Bytes} {o p : ℕ} {st : Status} → found (statusIn words) ≡ true → ours ≡ eleven 1 ids → o ≡ getD ids 0 0 → peer ≡ eleven 13 ids → p ≡ getD ids 12 0 → st ≡ statusHeld (statusOf (getD words 1 0)) → some (record { ours = ours; oursLen = o; peer = peer; peerLen = p; status = st; expected = getD words 2 0; next = getD words 3 0; heartbeat = getD words 4 0; sent = getD words 5 0; at = getD words 6 0; to = getD words 7 0 }) ≡ recordIn ids words
   a-record ids h a b c d e =
       let f = its-found h in
       let s = ap statusHeld (kept-is words (statusHeld (statusIn words)) f .numbered) in
@@ -179,4 +179,4 @@ pub new-loads : (r : Record) → length (r .ours) ≡ 11 → length (r .peer) �
 unfolding statusIn spare
 new-loads r a b =
     ap (recordIf (compIDsOf r) (wordsOf r)) (its-status (r .status))
-    ∙ ap (λ (x : Bytes × Bytes). some (record { ours = x .0; oursLen = r .oursLen; peer = x .1; peerLen = r .peerLen; status = r .status; expected = r .expected; next = r .next; heartbeat = r .heartbeat; sent = r .sent })) (rw (eleven-all (r .ours) a, eleven-all (r .peer) b))
+    ∙ ap (λ (x : Bytes × Bytes). some (record { ours = x .0; oursLen = r .oursLen; peer = x .1; peerLen = r .peerLen; status = r .status; expected = r .expected; next = r .next; heartbeat = r .heartbeat; sent = r .sent; at = r .at; to = r .to })) (rw (eleven-all (r .ours) a, eleven-all (r .peer) b))

@@ -76,7 +76,7 @@ eleven-is l k =
 abbrev pub zeroWord : ℕ → Bool
 zeroWord w = eqb w 0
 
-pub spare-is : (words : List ℕ) → spare words ≡ all zeroWord (drop 6 words)
+pub spare-is : (words : List ℕ) → spare words ≡ all zeroWord (drop 8 words)
 unfolding spare
 spare-is words = refl
 

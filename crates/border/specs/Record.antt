@@ -6,7 +6,7 @@ use mathlib.Core.List.{List, [], _∷_, _++_, map}
 use mathlib.Core.Bool.{Bool, true, false, _&&_}
 use mathlib.Core.Option.{Option, none, some}
 use lib.Dec.{eqb}
-use lib.ListN.{length, drop, getD, replicate}
+use lib.ListN.{length, drop, getD, set, replicate}
 use lib.Seq.{sets}
 use Rattle.bytes.specs.Bytes.{Bytes, all}
 use Rattle.moves.specs.Session.{code}
@@ -32,6 +32,10 @@ wordsOf r = (1 ∷ state r) ++ replicate 16 0
 -- the words with another state; all others stay
 abbrev pub saved : List ℕ → Record → List ℕ
 saved words r = sets words 1 (state r)
+
+-- the words of a session that is Closed and otherwise unchanged: "Closing .. drops an unfinished replay"
+abbrev pub closedIn : List ℕ → List ℕ
+closedIn words = set (set (set words 1 (code Closed)) 6 0) 7 0
 
 -- "status Waiting, Active or Closed", by its number
 abbrev pub statusOf : ℕ → Option Status

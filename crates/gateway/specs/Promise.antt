@@ -6,7 +6,7 @@ use mathlib.Core.Logic.{_⊎_}
 use mathlib.Core.List.{List, [], _∷_}
 use mathlib.Core.Option.{Option, none, some}
 use mathlib.Core.Bool.{true}
-use lib.ListN.{length, set, take, drop}
+use lib.ListN.{length, take, drop}
 use Rattle.bytes.specs.Bytes.{Bytes, Byted, fix, decimal, within}
 use Rattle.frame.specs.Frame.{fixt, Good}
 use Rattle.frame.specs.Stream.{Frames, joined}
@@ -30,15 +30,14 @@ use Rattle.store.specs.Promise as Store
 use Rattle.readback.specs.Back.{readBack, wordsIn}
 use Rattle.readback.specs.declared.ReadBack.the-variants as ReadBack
 use Rattle.readback.specs.Promise as Back
-use Rattle.moves.specs.Session.{code, inRange}
+use Rattle.moves.specs.Session.{inRange}
 use Rattle.moves.specs.Held.{sessionOf}
 use Rattle.session.specs.Promise as Session
 use Rattle.reporting.specs.Promise as Reporting
 use Rattle.replaying.specs.Promise as Replaying
 use Rattle.moves.specs.declared.record.Record.{Record}
-use Rattle.moves.specs.declared.record.Status.the-variants.{Closed}
 use Rattle.gateway.specs.Border.{ReadOut, PutOut, DropOut, BodyOut, FieldOut, FirstOut, VerdictOut, ReportValuesOut}
-use Rattle.border.specs.Record.{recordIn}
+use Rattle.border.specs.Record.{closedIn, recordIn}
 use Rattle.border.specs.Values.{valuesOf}
 use Rattle.gateway.specs.Calls.{Left, LeftWithStore, LeftByNew, LeftByReconnect, LeftByWrite, WriteOut, NewOut, ReconnectOut, StepOut, TickOut, LogoutOut, TestRequestOut, ReportOut, ReplayOut}
 
@@ -72,12 +71,9 @@ pub record Ranged (ids : Bytes) (words : List ℕ) : Type 0 where
 
 -- "A refusal keeps every old byte of the reply buffer and changes the session only where the table says": not at all, or it is Closed, under 3, 4 and 5,
 -- and then an unfinished replay is dropped
-abbrev pub closed : List ℕ → List ℕ
-closed words = set (set (set words 1 (code Closed)) 6 0) 7 0
-
 pub record Refused (words : List ℕ) (buf : Bytes) (number : ℕ) (words′ : List ℕ) (buf′ : Bytes) : Type 0 where
   pub buffer : buf′ ≡ buf
-  pub session : (words′ ≡ words) ⊎ ((within 3 5 number ≡ true) × (words′ ≡ closed words))
+  pub session : (words′ ≡ words) ⊎ ((within 3 5 number ≡ true) × (words′ ≡ closedIn words))
 
 -- the report of values: a good frame of at most 512 bytes with a clean verdict, and fixgw_report_values reads these values back out of its body
 pub record WholeReport (v : Values) (m : Bytes) : Type 0 where

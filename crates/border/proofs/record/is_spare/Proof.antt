@@ -11,7 +11,7 @@ use Rattle.border.specs.Record.{spare}
 use Rattle.border.proofs.Records.{zeroWord, spare-is, spare-stop, spare-next, spare-end}
 
 abbrev Inv-loop : tie.InvT-loop
-Inv-loop words i₀ i = (6 ≤ i) × (spare words ≡ all zeroWord (drop i words))
+Inv-loop words i₀ i = (8 ≤ i) × (spare words ≡ all zeroWord (drop i words))
 
 abbrev μ-loop : tie.MeasureT-loop
 μ-loop words i₀ i = length words - i

@@ -20,10 +20,16 @@ shared-slice-read-t21 c = let s = c .before .before .before .before .before .bef
 shared-slice-read-t23 : tie.Need-shared-slice-read-t23
 shared-slice-read-t23 c = let s = c .before .before .before .before .before .before .before .before .before .before .before .before .before in omega (arith, record-length (s .args .words .now) (s .pre))
 
+shared-slice-read-t25 : tie.Need-shared-slice-read-t25
+shared-slice-read-t25 c = let s = c .before .before .before .before .before .before .before .before .before .before .before .before .before .before in omega (arith, record-length (s .args .words .now) (s .pre))
+
+shared-slice-read-t27 : tie.Need-shared-slice-read-t27
+shared-slice-read-t27 c = let s = c .before .before .before .before .before .before .before .before .before .before .before .before .before .before .before in omega (arith, record-length (s .args .words .now) (s .pre))
+
 returns : tie.Need-returns
 returns c =
-    let s = c .before .before .before .before .before .before .before .before .before .before .before .before .before in
-    a-record (s .args .words .now) (s .args .ids .now) (s .pre) (c .before .before .before .before .before .before .before .before .before .before .before .eleven-from .ensures) (c .before .before .before .before .before .before .before .before .before .length-of .ensures) (c .before .before .before .before .before .before .before .before .eleven-from2 .ensures) (c .before .before .before .before .before .before .length-of2 .ensures) (c .before .before .before .before .status-of .ensures)
+    let s = c .before .before .before .before .before .before .before .before .before .before .before .before .before .before .before in
+    a-record (s .args .words .now) (s .args .ids .now) (s .pre) (c .before .before .before .before .before .before .before .before .before .before .before .before .before .eleven-from .ensures) (c .before .before .before .before .before .before .before .before .before .before .before .length-of .ensures) (c .before .before .before .before .before .before .before .before .before .before .eleven-from2 .ensures) (c .before .before .before .before .before .before .before .before .length-of2 .ensures) (c .before .before .before .before .before .before .status-of .ensures)
 
 pub load-spec : {M : Type 1} → statement M
 load-spec =
@@ -41,4 +47,6 @@ load-spec =
     shared-slice-read-t19
     shared-slice-read-t21
     shared-slice-read-t23
+    shared-slice-read-t25
+    shared-slice-read-t27
     returns)

@@ -1,4 +1,4 @@
--- `save`: five stores.
+-- `save`: seven stores.
 use borrow.Author.Needs.{needs}
 use native.Mathlib.Omega.{arith}
 use Rattle.border.proofs.record.save.Statement.{statement}
@@ -7,7 +7,13 @@ use mathlib.Core.List.{_∷_, []}
 use lib.Seq.{lt-length-sets}
 
 slice-write-words-5 : tie.Need-slice-write-words-5
-slice-write-words-5 c = lt-length-sets (c .before .before .args .words .now) 1 (c .status-number .result ∷ c .before .before .args .r .expected ∷ c .before .before .args .r .next ∷ c .before .before .args .r .heartbeat ∷ []) (omega arith)
+slice-write-words-5 c = let a = c .before .before .args in lt-length-sets (a .words .now) 1 (c .status-number .result ∷ a .r .expected ∷ a .r .next ∷ a .r .heartbeat ∷ []) (omega arith)
+
+slice-write-words-6 : tie.Need-slice-write-words-6
+slice-write-words-6 c = let a = c .before .before .args in lt-length-sets (a .words .now) 1 (c .status-number .result ∷ a .r .expected ∷ a .r .next ∷ a .r .heartbeat ∷ a .r .sent ∷ []) (omega arith)
+
+slice-write-words-7 : tie.Need-slice-write-words-7
+slice-write-words-7 c = let a = c .before .before .args in lt-length-sets (a .words .now) 1 (c .status-number .result ∷ a .r .expected ∷ a .r .next ∷ a .r .heartbeat ∷ a .r .sent ∷ a .r .at ∷ []) (omega arith)
 
 returns : tie.Need-returns
 returns c = rw (c .status-number .ensures)
@@ -22,5 +28,7 @@ save-spec =
     (λ c. search needs)
     (λ c. search needs)
     slice-write-words-5
+    slice-write-words-6
+    slice-write-words-7
     (λ c. search needs)
     returns)
