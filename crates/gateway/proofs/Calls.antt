@@ -19,9 +19,11 @@ use Rattle.moves.specs.Session.{fresh, turned}
 use Rattle.message.specs.Unfit.{compID}
 use Rattle.moves.specs.Held.{sessionOf}
 use Rattle.session.specs.Held.{answeredBy, Leaves, answeredNew}
-use Rattle.session.specs.Calls.{keeping, step, tick, logout, test-request, new, reconnect}
+use Rattle.session.specs.Calls.{keeping, step, storeAfter, tick, logout, test-request, new, reconnect}
 use Rattle.report.specs.Layout.{valuesGiven}
 use Rattle.reporting.specs.Call.{report}
+use Rattle.reporting.specs.Call as Reporting
+use Rattle.replaying.specs.Call.{replay}
 use Rattle.moves.specs.declared.record.Record.{Record}
 use Rattle.session.specs.declared.Answered.{Answered}
 use Rattle.moves.specs.declared.record.Status.the-variants.{Closed}
@@ -30,13 +32,13 @@ use Rattle.session.specs.declared.Answer.the-variants.{Done, Refused}
 use Rattle.border.specs.Numbers.{refusalOf, valueOf}
 use Rattle.border.specs.Record.{compIDsOf, wordsOf, saved, recordIn}
 use Rattle.border.specs.Values.{valuesOf}
-use Rattle.gateway.specs.Calls.{unread, stepFrom, stepOut, replyFrom, tickOut, logoutOut, testRequestOut, reportOut, reconnectFrom, reconnectOut, newIf, newOut, writeFrom, writeOut}
+use Rattle.gateway.specs.Calls.{unread, stepFrom, stepOut, replyFrom, tickOut, logoutOut, testRequestOut, reportFrom, reportOut, replayOut, reconnectFrom, reconnectOut, newIf, newOut, writeFrom, writeOut}
 
 -- NO RECORD lies in the bytes and words
 module _ (ids : Bytes) (words : List ℕ) (none-lies : none ≡ recordIn ids words) where
-  pub step-unread : (frame : Bytes) (time : ℕ) (buf : Bytes) → unread words (0 ∷ 0 ∷ []) buf ≡ stepOut ids words frame time buf
+  pub step-unread : (frame : Bytes) (time : ℕ) (buf store : Bytes) → record { left = unread words (0 ∷ 0 ∷ []) buf; store = store } ≡ stepOut ids words frame time buf store
   unfolding stepOut
-  step-unread frame time buf = ap (stepFrom words frame time buf) none-lies
+  step-unread frame time buf store = ap (stepFrom words frame time buf store) none-lies
 
   pub tick-unread : (time : ℕ) (buf : Bytes) → unread words (0 ∷ []) buf ≡ tickOut ids words time buf
   unfolding tickOut
@@ -50,9 +52,13 @@ module _ (ids : Bytes) (words : List ℕ) (none-lies : none ≡ recordIn ids wor
   unfolding testRequestOut
   test-request-unread id time buf = ap (replyFrom words buf (λ r. test-request (sessionOf r) id time buf)) none-lies
 
-  pub report-unread : (values : List ℕ) (text : Bytes) (time : ℕ) (buf : Bytes) → unread words (0 ∷ []) buf ≡ reportOut ids words values text time buf
+  pub report-unread : (values : List ℕ) (text : Bytes) (time : ℕ) (buf store : Bytes) → record { left = unread words (0 ∷ []) buf; store = store } ≡ reportOut ids words values text time buf store
   unfolding reportOut
-  report-unread values text time buf = ap (replyFrom words buf (λ r. report (sessionOf r) (valuesGiven values text) time buf)) none-lies
+  report-unread values text time buf store = ap (reportFrom words values text time buf store) none-lies
+
+  pub replay-unread : (time : ℕ) (buf store : Bytes) → unread words (0 ∷ []) buf ≡ replayOut ids words time buf store
+  unfolding replayOut
+  replay-unread time buf store = ap (replyFrom words buf (λ r. replay (sessionOf r) time buf store)) none-lies
 
   pub reconnect-unread : record { number = 11; words = words } ≡ reconnectOut ids words
   unfolding reconnectOut
@@ -61,9 +67,10 @@ module _ (ids : Bytes) (words : List ℕ) (none-lies : none ≡ recordIn ids wor
 -- ONE LIES THERE, and what a call left of it is saved
 module _ (ids : Bytes) (words : List ℕ) {r : Record} (one-lies : some r ≡ recordIn ids words) where
   module _ {a : Answered} {n : ℕ} {words′ : List ℕ} (numbered : n ≡ refusalOf (numbers (a .answer))) (saves : words′ ≡ saved words (a .after)) where
-    pub step-left : (frame : Bytes) (time : ℕ) (buf : Bytes) {buf′ : Bytes} {d : ℕ} → d ≡ valueOf (numbers (a .answer)) → Leaves r (step (sessionOf r) frame time buf) a buf′ → record { number = n; words = words′; out = d ∷ a .len ∷ []; buffer = buf′ } ≡ stepOut ids words frame time buf
+    pub step-left : (frame : Bytes) (time : ℕ) (buf store : Bytes) {buf′ store′ : Bytes} {d : ℕ} → d ≡ valueOf (numbers (a .answer)) → Leaves r (step (sessionOf r) frame time buf store) a buf′ → store′ ≡ storeAfter (sessionOf r) frame time buf store
+        → record { left = record { number = n; words = words′; out = d ∷ a .len ∷ []; buffer = buf′ }; store = store′ } ≡ stepOut ids words frame time buf store
     unfolding stepOut
-    step-left frame time buf delivers leaves = rw (numbered, saves, delivers, leaves .answered, leaves .buffer) (ap (stepFrom words frame time buf) one-lies)
+    step-left frame time buf store delivers leaves stored = rw (numbered, saves, delivers, stored, leaves .answered, leaves .buffer) (ap (stepFrom words frame time buf store) one-lies)
 
     pub tick-left : (time : ℕ) (buf : Bytes) {buf′ : Bytes} → Leaves r (tick (sessionOf r) time buf) a buf′ → record { number = n; words = words′; out = a .len ∷ []; buffer = buf′ } ≡ tickOut ids words time buf
     unfolding tickOut
@@ -77,9 +84,15 @@ module _ (ids : Bytes) (words : List ℕ) {r : Record} (one-lies : some r ≡ re
     unfolding testRequestOut
     test-request-left id time buf leaves = rw (numbered, saves, leaves .answered, leaves .buffer) (ap (replyFrom words buf (λ y. test-request (sessionOf y) id time buf)) one-lies)
 
-    pub report-left : (values : List ℕ) (text : Bytes) (time : ℕ) (buf : Bytes) {buf′ : Bytes} → Leaves r (report (sessionOf r) (valuesGiven values text) time buf) a buf′ → record { number = n; words = words′; out = a .len ∷ []; buffer = buf′ } ≡ reportOut ids words values text time buf
+    pub report-left : (values : List ℕ) (text : Bytes) (time : ℕ) (buf store : Bytes) {buf′ store′ : Bytes} → Leaves r (report (sessionOf r) (valuesGiven values text) time buf store) a buf′
+        → store′ ≡ Reporting.storeAfter (sessionOf r) (valuesGiven values text) time buf store
+        → record { left = record { number = n; words = words′; out = a .len ∷ []; buffer = buf′ }; store = store′ } ≡ reportOut ids words values text time buf store
     unfolding reportOut
-    report-left values text time buf leaves = rw (numbered, saves, leaves .answered, leaves .buffer) (ap (replyFrom words buf (λ y. report (sessionOf y) (valuesGiven values text) time buf)) one-lies)
+    report-left values text time buf store leaves stored = rw (numbered, saves, stored, leaves .answered, leaves .buffer) (ap (reportFrom words values text time buf store) one-lies)
+
+    pub replay-left : (time : ℕ) (buf store : Bytes) {buf′ : Bytes} → Leaves r (replay (sessionOf r) time buf store) a buf′ → record { number = n; words = words′; out = a .len ∷ []; buffer = buf′ } ≡ replayOut ids words time buf store
+    unfolding replayOut
+    replay-left time buf store leaves = rw (numbered, saves, leaves .answered, leaves .buffer) (ap (replyFrom words buf (λ y. replay (sessionOf y) time buf store)) one-lies)
 
     pub reconnect-left : a ≡ answeredBy r (reconnect (sessionOf r)) → record { number = n; words = words′ } ≡ reconnectOut ids words
     unfolding reconnectOut
