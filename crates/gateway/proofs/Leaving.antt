@@ -1,17 +1,17 @@
--- What a call on a record leaves, of every outcome of a session's call and of a report. Assumes nothing.
+-- What a call on a record leaves, of every outcome of a session's call, of a report and of a replay call. Assumes nothing.
 use Prim.Native.Nat.{ℕ, _-_}
 use mathlib.Core.Path.{_≡_, refl, sym, ap, ap₂, _∙_, subst}
 use mathlib.Core.Logic.{_⊎_, inl, inr}
 use mathlib.Core.List.{List, [], _∷_}
 use mathlib.Core.Bool.{true}
 use mathlib.Core.Option.{none, some, Option·some-injective}
-use lib.ListN.{length, set, take, drop}
+use lib.ListN.{length, take, drop}
 use lib.Seq.{take-append-seam, drop-append-seam}
 use Rattle.bytes.specs.Bytes.{Bytes, Byted, within}
 use Rattle.frame.specs.Frame.{fixt, front}
 use Rattle.frame.specs.Stream.{Frames, joined}
 use Rattle.message.proofs.Joined.{joined-frames}
-use Rattle.moves.specs.Session.{Session, code, inRange}
+use Rattle.moves.specs.Session.{Session, inRange}
 use Rattle.session.specs.Refusals.{No, numbers}
 use Rattle.moves.specs.Held.{sessionOf, with}
 use Rattle.session.specs.Calls.{Outcome, refusing, Call, call}
@@ -19,24 +19,27 @@ use Rattle.session.specs.Promise.{Kept, Whole, AllWhole, OfBytes, lent}
 use Rattle.report.specs.Layout.{valuesGiven}
 use Rattle.reporting.specs.Call.{report}
 use Rattle.reporting.proofs.Promise as Reporting
+use Rattle.replaying.specs.Call.{its-table, replay}
+use Rattle.replaying.specs.Promise.{ReplayOn}
+use Rattle.replaying.proofs.Promise as Replaying
 use Rattle.moves.specs.declared.record.Record.{Record}
 use Rattle.session.specs.declared.Answer.{Answer}
 use Rattle.session.specs.declared.Answer.the-variants as Answer
 use Rattle.session.specs.declared.Refusal.{Refusal}
-use Rattle.session.specs.declared.Refusal.the-variants.{SessionClosed, NotLogon, BadLogon, NumbersSpent, BufferShort, TimePast, BadValue, NoRoom, NotOneFrame, BadRecord, ReportTooLong}
-use Rattle.moves.specs.declared.record.Status.the-variants.{Closed}
+use Rattle.session.specs.declared.Refusal.the-variants.{SessionClosed, NotLogon, BadLogon, NumbersSpent, BufferShort, TimePast, BadValue, NoRoom, NotOneFrame, BadRecord, ReportTooLong, Replaying, BadStore}
 use Rattle.session.proofs.Promise as Session
 use Rattle.border.specs.Numbers.{refusalOf}
-use Rattle.border.specs.Record.{saved, recordIn}
+use Rattle.border.specs.Record.{saved, closedIn, recordIn}
 use Rattle.gateway.specs.Calls.{leftBy, unread, replyLength}
-use Rattle.gateway.specs.Promise.{Ranged, Refused, WholeReport, AllOf, Replied, Leaves, outLength}
+use Rattle.gateway.specs.Promise.{Ranged, Refused, WholeReport, Replayed, AllOf, Replied, Leaves, outLength}
 use Rattle.gateway.proofs.Reports.{report-whole}
+use Rattle.gateway.proofs.Replays.{replay-whole}
 use Rattle.report.proofs.Given.{given-bytes}
 use Rattle.border.proofs.Keeping.{loaded-saves, saved-loads, closed-words, held-bytes}
 
--- a table's row at the border: nothing of the words is changed, or the status alone
+-- a table's row at the border: nothing of the words is changed, or the session is Closed
 module _ (ids : Bytes) (words : List ℕ) (r : Record) (lies : recordIn ids words ≡ some r) where
-  refused-words : (k : Refusal) → let w = saved words (with r (refusing k (sessionOf r) [] .session)) in (w ≡ words) ⊎ ((within 3 5 (No k) ≡ true) × (w ≡ set words 1 (code Closed)))
+  refused-words : (k : Refusal) → let w = saved words (with r (refusing k (sessionOf r) [] .session)) in (w ≡ words) ⊎ ((within 3 5 (No k) ≡ true) × (w ≡ closedIn words))
   refused-words SessionClosed = inl (loaded-saves ids words r lies)
   refused-words NotLogon = inr (refl, closed-words ids words r lies)
   refused-words BadLogon = inr (refl, closed-words ids words r lies)
@@ -48,6 +51,8 @@ module _ (ids : Bytes) (words : List ℕ) (r : Record) (lies : recordIn ids word
   refused-words NotOneFrame = inl (loaded-saves ids words r lies)
   refused-words BadRecord = inl (loaded-saves ids words r lies)
   refused-words ReportTooLong = inl (loaded-saves ids words r lies)
+  refused-words Replaying = inl (loaded-saves ids words r lies)
+  refused-words BadStore = inl (loaded-saves ids words r lies)
 
   -- a call that leaves the outcome o of the session that lies there
   module _ (buf : Bytes) (o : Outcome) (kept : Kept o (sessionOf r) buf) where
@@ -65,7 +70,7 @@ module _ (ids : Bytes) (words : List ℕ) (r : Record) (lies : recordIn ids word
 
     -- its record is the session that the call left
     same-session : sessionOf (with r (o .session)) ≡ o .session
-    same-session = ap₂ (λ (us them : Bytes). record { ours = us; peers = them; status = o .session .status; E = o .session .E; next = o .session .next; heartbeat = o .session .heartbeat; sent = o .session .sent }) (sym (kept .ours)) (sym (kept .peers))
+    same-session = ap₂ (λ (us them : Bytes). record { ours = us; peers = them; status = o .session .status; E = o .session .E; next = o .session .next; heartbeat = o .session .heartbeat; sent = o .session .sent; replay = o .session .replay }) (sym (kept .ours)) (sym (kept .peers))
 
     pub left-ranged : (inRange (sessionOf r) ≡ true → inRange (o .session) ≡ true) → Ranged ids words → Ranged ids (saved words (with r (o .session)))
     left-ranged go R =
@@ -115,10 +120,18 @@ module _ (ids : Bytes) (words : List ℕ) (r : Record) (lies : recordIn ids word
       (λ Bi. let h = held-bytes ids words r lies Bi in let R = Session.promise .replies (sessionOf r) c B (h .0) (h .1) in (all-whole (call (sessionOf r) c .reply) (R .whole), R .read))
 
 -- THE REPORT: a refusal, or one message
-pub left-report : (ids : Bytes) (words : List ℕ) (r : Record) (lies : recordIn ids words ≡ some r) (values : List ℕ) (text : Bytes) (t : ℕ) (buf : Bytes) → Byted text
-    → let o = report (sessionOf r) (valuesGiven values text) t buf in Leaves (WholeReport (valuesGiven values text)) ids words buf (replyLength o) (leftBy words r o (replyLength o ∷ []))
-left-report ids words r lies values text t buf B =
+pub left-report : (ids : Bytes) (words : List ℕ) (r : Record) (lies : recordIn ids words ≡ some r) (values : List ℕ) (text : Bytes) (t : ℕ) (buf store : Bytes) → Byted text
+    → let o = report (sessionOf r) (valuesGiven values text) t buf store in Leaves (WholeReport (valuesGiven values text)) ids words buf (replyLength o) (leftBy words r o (replyLength o ∷ []))
+left-report ids words r lies values text t buf store B =
     let v = valuesGiven values text in
-    let o = report (sessionOf r) v t buf in
-    left-by ids words r lies buf o (Reporting.promise .kept (sessionOf r) v t buf) (WholeReport v) (replyLength o ∷ []) refl (Reporting.report-ranged (sessionOf r) v t buf)
-    (λ Bi. let h = held-bytes ids words r lies Bi in report-whole (sessionOf r) v t buf (h .0) (h .1) (given-bytes values text B))
+    let o = report (sessionOf r) v t buf store in
+    left-by ids words r lies buf o (Reporting.promise .kept (sessionOf r) v t buf store) (WholeReport v) (replyLength o ∷ []) refl (λ h. Reporting.promise .ranged (sessionOf r) v t buf store h .ranged)
+    (λ Bi. let h = held-bytes ids words r lies Bi in report-whole (sessionOf r) v t buf store (h .0) (h .1) (given-bytes values text B))
+
+-- THE REPLAY CALL: a refusal, nothing due, or one message
+pub left-replay : (ids : Bytes) (words : List ℕ) (r : Record) (lies : recordIn ids words ≡ some r) (t : ℕ) (buf store : Bytes) → Byted store
+    → let o = replay (sessionOf r) t buf store in Leaves (Replayed (its-table (sessionOf r) t store)) ids words buf (replyLength o) (leftBy words r o (replyLength o ∷ []))
+left-replay ids words r lies t buf store B =
+    let o = replay (sessionOf r) t buf store in
+    left-by ids words r lies buf o (Replaying.promise .kept (sessionOf r) t buf store) (Replayed (its-table (sessionOf r) t store)) (replyLength o ∷ []) refl (λ h. Replaying.promise .ranges (sessionOf r) (ReplayOn t buf store ∷ []) tt h .0 .ranged)
+    (λ Bi. let h = held-bytes ids words r lies Bi in replay-whole (sessionOf r) t buf store (h .0) (h .1) B)

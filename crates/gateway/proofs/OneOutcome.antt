@@ -9,7 +9,7 @@ use Rattle.frame.specs.Frame.{fixt}
 use Rattle.line.specs.Line.{Line}
 use Rattle.frame.proofs.Unique.{reads-one}
 use Rattle.gateway.specs.Border.{readNumber, readWords, ReadOut, PutOut, DropOut, BodyOut, its-body, no-frame, FieldOut, FirstOut, VerdictOut, ReportValuesOut}
-use Rattle.gateway.specs.Calls.{Left, LeftByReconnect, LeftByNew, LeftByWrite, WriteOut, NewOut, ReconnectOut, StepOut, TickOut, LogoutOut, TestRequestOut, ReportOut}
+use Rattle.gateway.specs.Calls.{Left, LeftWithStore, LeftByReconnect, LeftByNew, LeftByWrite, WriteOut, NewOut, ReconnectOut, StepOut, TickOut, LogoutOut, TestRequestOut, ReportOut, ReplayOut}
 use Rattle.gateway.proofs.Bodies.{same-lengths}
 
 -- two that are the same third
@@ -66,13 +66,19 @@ new-one ids words us them A B =
 parts : {x y : Left} → x ≡ y → (x .number ≡ y .number) × ((x .words ≡ y .words) × ((x .out ≡ y .out) × (x .buffer ≡ y .buffer)))
 parts e = (ap (λ (x : Left). x .number) e, (ap (λ (x : Left). x .words) e, (ap (λ (x : Left). x .out) e, ap (λ (x : Left). x .buffer) e)))
 
+-- and of the store
+parts-with : {x y : LeftWithStore} → x ≡ y → (x .left .number ≡ y .left .number) × ((x .left .words ≡ y .left .words) × ((x .left .out ≡ y .left .out) × ((x .left .buffer ≡ y .left .buffer) × (x .store ≡ y .store))))
+parts-with e =
+    let p = parts (ap (λ (x : LeftWithStore). x .left) e) in (p .0, (p .1 .0, (p .1 .1 .0, (p .1 .1 .1, ap (λ (x : LeftWithStore). x .store) e))))
+
 module _ (ids : Bytes) (words : List ℕ) {r r′ : ℕ} {words₁ words₂ : List ℕ} where
   pub reconnect-one : ReconnectOut ids words r words₁ → ReconnectOut ids words r′ words₂ → (r ≡ r′) × (words₁ ≡ words₂)
   reconnect-one A B = let e = both A B in (ap (λ (x : LeftByReconnect). x .number) e, ap (λ (x : LeftByReconnect). x .words) e)
 
   module _ {out out′ : List ℕ} {buf₁ buf₂ : Bytes} where
-    pub step-one : (frame : Bytes) (time : ℕ) (buf : Bytes) → StepOut ids words frame time buf r words₁ out buf₁ → StepOut ids words frame time buf r′ words₂ out′ buf₂ → (r ≡ r′) × ((words₁ ≡ words₂) × ((out ≡ out′) × (buf₁ ≡ buf₂)))
-    step-one frame time buf A B = parts (both A B)
+    pub step-one : (frame : Bytes) (time : ℕ) (buf store : Bytes) {store₁ store₂ : Bytes} → StepOut ids words frame time buf store r words₁ out buf₁ store₁ → StepOut ids words frame time buf store r′ words₂ out′ buf₂ store₂
+        → (r ≡ r′) × ((words₁ ≡ words₂) × ((out ≡ out′) × ((buf₁ ≡ buf₂) × (store₁ ≡ store₂))))
+    step-one frame time buf store A B = parts-with (both A B)
 
     pub tick-one : (time : ℕ) (buf : Bytes) → TickOut ids words time buf r words₁ out buf₁ → TickOut ids words time buf r′ words₂ out′ buf₂ → (r ≡ r′) × ((words₁ ≡ words₂) × ((out ≡ out′) × (buf₁ ≡ buf₂)))
     tick-one time buf A B = parts (both A B)
@@ -83,5 +89,9 @@ module _ (ids : Bytes) (words : List ℕ) {r r′ : ℕ} {words₁ words₂ : Li
     pub test-request-one : (id : Bytes) (time : ℕ) (buf : Bytes) → TestRequestOut ids words id time buf r words₁ out buf₁ → TestRequestOut ids words id time buf r′ words₂ out′ buf₂ → (r ≡ r′) × ((words₁ ≡ words₂) × ((out ≡ out′) × (buf₁ ≡ buf₂)))
     test-request-one id time buf A B = parts (both A B)
 
-    pub report-one : (values : List ℕ) (text : Bytes) (time : ℕ) (buf : Bytes) → ReportOut ids words values text time buf r words₁ out buf₁ → ReportOut ids words values text time buf r′ words₂ out′ buf₂ → (r ≡ r′) × ((words₁ ≡ words₂) × ((out ≡ out′) × (buf₁ ≡ buf₂)))
-    report-one values text time buf A B = parts (both A B)
+    pub report-one : (values : List ℕ) (text : Bytes) (time : ℕ) (buf store : Bytes) {store₁ store₂ : Bytes} → ReportOut ids words values text time buf store r words₁ out buf₁ store₁ → ReportOut ids words values text time buf store r′ words₂ out′ buf₂ store₂
+        → (r ≡ r′) × ((words₁ ≡ words₂) × ((out ≡ out′) × ((buf₁ ≡ buf₂) × (store₁ ≡ store₂))))
+    report-one values text time buf store A B = parts-with (both A B)
+
+    pub replay-one : (time : ℕ) (buf store : Bytes) → ReplayOut ids words time buf store r words₁ out buf₁ → ReplayOut ids words time buf store r′ words₂ out′ buf₂ → (r ≡ r′) × ((words₁ ≡ words₂) × ((out ≡ out′) × (buf₁ ≡ buf₂)))
+    replay-one time buf store A B = parts (both A B)

@@ -34,16 +34,21 @@ use Rattle.message.specs.Unfit.{compID}
 use Rattle.session.specs.Refusals.{numbers}
 use Rattle.moves.specs.Held.{held, sessionOf}
 use Rattle.session.specs.Held.{padded, recordOf}
-use Rattle.session.specs.Calls.{Outcome, keeping, tick, logout, test-request, new, reconnect, call, Step, Tick, OurLogout, OurTestRequest, Reconnect}
+use Rattle.session.specs.Calls.{Outcome, keeping, step, tick, logout, test-request, new, reconnect, call, Step, Tick, OurLogout, OurTestRequest, Reconnect}
 use Rattle.session.specs.Promise.{Whole}
 use Rattle.report.specs.Layout.{valuesGiven}
 use Rattle.reporting.specs.Call.{report}
+use Rattle.replaying.specs.Call.{replay}
+use Rattle.kept.proofs.Promise as Kept
+use Rattle.store.proofs.Promise as Store
+use Rattle.replaying.proofs.Promise as Replaying
 use Rattle.report.proofs.Promise as ReportMessage
 use Rattle.reporting.proofs.Promise as Reporting
 use Rattle.readback.proofs.Promise as Back
 use Rattle.moves.specs.declared.record.Record.{Record}
 use Rattle.session.specs.declared.Answer.{Answer}
 use Rattle.session.specs.declared.Answer.the-variants as Answer
+use Rattle.session.specs.declared.Refusal.{Refusal}
 use Rattle.session.specs.declared.Refusal.the-variants.{BadRecord}
 use Rattle.moves.specs.declared.record.Status.the-variants.{Closed}
 use Rattle.session.proofs.Promise as Session
@@ -51,10 +56,10 @@ use Rattle.border.specs.Numbers.{refusalOf, valueOf}
 use Rattle.gateway.specs.Border.{readNumber, readWords, BodyOut, its-body, no-frame}
 use Rattle.border.specs.Record.{compIDsOf, wordsOf, recordIn}
 use Rattle.border.specs.Values.{valuesOf}
-use Rattle.gateway.specs.Calls.{Left, LeftByReconnect, LeftByNew, LeftByWrite, leftBy, replyLength, replyFrom, stepFrom, stepOut, tickOut, logoutOut, testRequestOut, reportOut, reconnectFrom, reconnectOut, newFrom, newIf, newOut, writeOut, WriteOut}
-use Rattle.gateway.specs.Promise.{Answers, Ranged, Refused, WholeReport, Leaves, outLength, Lasts, Promise}
+use Rattle.gateway.specs.Calls.{Left, LeftWithStore, LeftByReconnect, LeftByNew, LeftByWrite, leftBy, replyLength, replyFrom, stepFrom, stepOut, tickOut, logoutOut, testRequestOut, reportFrom, reportOut, replayOut, reconnectFrom, reconnectOut, newFrom, newIf, newOut, writeOut, WriteOut}
+use Rattle.gateway.specs.Promise.{Answers, Ranged, WholeReport, Replayed, tableIn, Leaves, LeavesStore, outLength, Lasts, Promise}
 use Rattle.gateway.proofs.OneOutcome.{read-one, body-one, field-one, first-one, verdict-one, report-values-one, put-one, drop-one}
-use Rattle.gateway.proofs.Leaving.{left-ranged, left-unread, left-call, left-report, call-ranged}
+use Rattle.gateway.proofs.Leaving.{left-ranged, left-unread, left-call, left-report, left-replay, call-ranged}
 use Rattle.border.proofs.Keeping.{new-loads}
 
 -- ANSWERS
@@ -89,12 +94,20 @@ answers =
       write = λ type values text buf. exactly (writeOut type values text buf);
       new = λ ids words us them. exactly (newOut ids words us them);
       reconnect = λ ids words. exactly (reconnectOut ids words);
-      step = λ ids words f t buf. exactly (stepOut ids words f t buf);
+      step = λ ids words f t buf store. exactly (stepOut ids words f t buf store);
       tick = λ ids words t buf. exactly (tickOut ids words t buf);
       logout = λ ids words t buf. exactly (logoutOut ids words t buf);
       test-request = λ ids words id t buf. exactly (testRequestOut ids words id t buf);
-      report = λ ids words values text t buf. exactly (reportOut ids words values text t buf);
+      report = λ ids words values text t buf store. exactly (reportOut ids words values text t buf store);
+      replay = λ ids words t buf store. exactly (replayOut ids words t buf store);
     }
+
+-- a number other than 0 is that of a refusal
+is-refused : (a : Answer) → (refusalOf (numbers a) ≡ 0 → ⊥) → (k : Refusal) × (a ≡ Answer.Refused k)
+is-refused Answer.Done h = absurd (h refl)
+is-refused Answer.Delivered h = absurd (h refl)
+is-refused Answer.NothingDue h = absurd (h refl)
+is-refused (Answer.Refused k) h = (k, refl)
 
 -- a new record
 module _ (us them : Bytes) (a : compID us ≡ true) (b : compID them ≡ true) where
@@ -149,23 +162,42 @@ reconnect-lasts ids words R = go (recordIn ids words) refl
         (reconnect-done (sessionOf r) (sym (ap (λ (x : Record). inRange (sessionOf x)) same) ∙ R .ranged), left-ranged ids words r e [] (reconnect (sessionOf r)) (Session.promise .buffers (sessionOf r) Reconnect) (call-ranged ids words r e Reconnect tt) R)
 
 lasts : Lasts
-unfolding stepOut tickOut logoutOut testRequestOut reportOut
+unfolding stepOut tickOut logoutOut testRequestOut reportOut replayOut
 lasts =
     record {
-      step = λ ids words f t buf o B so. subst (λ (z : Left). Leaves Whole ids words buf (outLength (z .out)) z) (sym so) (stepped ids words f t buf B (recordIn ids words) refl);
+      step = λ ids words f t buf store o B so. subst (λ (z : LeftWithStore). LeavesStore Whole ids words buf store (outLength (z .left .out)) z) (sym so) (stepped ids words f t buf store B (recordIn ids words) refl);
       tick = λ ids words t buf o so. subst (λ (z : Left). Leaves Whole ids words buf (outLength (z .out)) z) (sym so) (replying Whole ids words buf (λ r. tick (sessionOf r) t buf) (λ r e. left-call ids words r e (Tick t buf) tt _ refl) (recordIn ids words) refl);
       logout = λ ids words t buf o so. subst (λ (z : Left). Leaves Whole ids words buf (outLength (z .out)) z) (sym so) (replying Whole ids words buf (λ r. logout (sessionOf r) t buf) (λ r e. left-call ids words r e (OurLogout t buf) tt _ refl) (recordIn ids words) refl);
       test-request = λ ids words id t buf o B so. subst (λ (z : Left). Leaves Whole ids words buf (outLength (z .out)) z) (sym so) (replying Whole ids words buf (λ r. test-request (sessionOf r) id t buf) (λ r e. left-call ids words r e (OurTestRequest id t buf) (B, tt) _ refl) (recordIn ids words) refl);
-      report = λ ids words values text t buf o B so.
-          subst (λ (z : Left). Leaves (WholeReport (valuesGiven values text)) ids words buf (outLength (z .out)) z) (sym so)
-          (replying (WholeReport (valuesGiven values text)) ids words buf (λ r. report (sessionOf r) (valuesGiven values text) t buf) (λ r e. left-report ids words r e values text t buf B) (recordIn ids words) refl);
+      report = λ ids words values text t buf store o B so.
+          subst (λ (z : LeftWithStore). LeavesStore (WholeReport (valuesGiven values text)) ids words buf store (outLength (z .left .out)) z) (sym so) (reported ids words values text t buf store B (recordIn ids words) refl);
+      replay = λ ids words t buf store o B so.
+          subst (λ (z : Left). Leaves (Replayed (tableIn store (recordIn ids words))) ids words buf (outLength (z .out)) z) (sym so) (replayed ids words t buf store B (recordIn ids words) refl);
       reconnect = λ ids words o so R. subst (λ (z : LeftByReconnect). (z .number ≡ 0) × Ranged ids (z .words)) (sym so) (reconnect-lasts ids words R);
       new = λ ids words us them o so. subst (λ (z : LeftByNew). z .number ≡ 0 → Ranged (z .ids) (z .words)) (sym so) (new-lasts ids words us them);
     }
   where
-    stepped : (ids : Bytes) (words : List ℕ) (f : Bytes) (t : ℕ) (buf : Bytes) → Byted f → (x : Option Record) → recordIn ids words ≡ x → let z = stepFrom words f t buf x in Leaves Whole ids words buf (outLength (z .out)) z
-    stepped ids words f t buf B none e = left-unread Whole ids words buf (0 ∷ 0 ∷ []) e refl
-    stepped ids words f t buf B (some r) e = left-call ids words r e (Step f t buf) (B, tt) _ refl
+    stepped : (ids : Bytes) (words : List ℕ) (f : Bytes) (t : ℕ) (buf store : Bytes) → Byted f → (x : Option Record) → recordIn ids words ≡ x → let z = stepFrom words f t buf store x in LeavesStore Whole ids words buf store (outLength (z .left .out)) z
+    stepped ids words f t buf store B none e = record { leaves = left-unread Whole ids words buf (0 ∷ 0 ∷ []) e refl; stored = λ h. refl }
+    stepped ids words f t buf store B (some r) e =
+        record {
+          leaves = left-call ids words r e (Step f t buf store) (B, tt) _ refl;
+          stored = λ h. let k = is-refused (step (sessionOf r) f t buf store .answer) h in Session.promise .stores (sessionOf r) f t buf store .refused (k .0) (k .1);
+        }
+
+    reported : (ids : Bytes) (words values : List ℕ) (text : Bytes) (t : ℕ) (buf store : Bytes) → Byted text → (x : Option Record) → recordIn ids words ≡ x
+        → let z = reportFrom words values text t buf store x in LeavesStore (WholeReport (valuesGiven values text)) ids words buf store (outLength (z .left .out)) z
+    reported ids words values text t buf store B none e = record { leaves = left-unread (WholeReport (valuesGiven values text)) ids words buf (0 ∷ []) e refl; stored = λ h. refl }
+    reported ids words values text t buf store B (some r) e =
+        record {
+          leaves = left-report ids words r e values text t buf store B;
+          stored = λ h. let k = is-refused (report (sessionOf r) (valuesGiven values text) t buf store .answer) h in Reporting.promise .stored (sessionOf r) (valuesGiven values text) t buf store .refused (k .0) (k .1);
+        }
+
+    replayed : (ids : Bytes) (words : List ℕ) (t : ℕ) (buf store : Bytes) → Byted store → (x : Option Record) → recordIn ids words ≡ x
+        → let z = replyFrom words buf (λ r. replay (sessionOf r) t buf store) x in Leaves (Replayed (tableIn store x)) ids words buf (outLength (z .out)) z
+    replayed ids words t buf store B none e = left-unread (Replayed []) ids words buf (0 ∷ []) e refl
+    replayed ids words t buf store B (some r) e = left-replay ids words r e t buf store B
 
     replying : (Whole : Bytes → Type 0) (ids : Bytes) (words : List ℕ) (buf : Bytes) (does : Record → Outcome) → ((r : Record) → recordIn ids words ≡ some r → Leaves Whole ids words buf (replyLength (does r)) (leftBy words r (does r) (replyLength (does r) ∷ []))) → (x : Option Record) → recordIn ids words ≡ x → let z = replyFrom words buf does x in Leaves Whole ids words buf (outLength (z .out)) z
     replying Whole ids words buf does h none e = left-unread Whole ids words buf (0 ∷ []) e refl
@@ -222,4 +254,7 @@ promise =
       report-message = ReportMessage.promise;
       reports = Reporting.promise;
       read-back = Back.promise;
+      kept-place = Kept.promise;
+      store = Store.promise;
+      replays = Replaying.promise;
     }

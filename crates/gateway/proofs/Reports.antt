@@ -15,12 +15,11 @@ use Rattle.readback.specs.Back.{readBack, wordsIn}
 use Rattle.readback.proofs.Promise as Back
 use Rattle.moves.specs.Session.{Session}
 use Rattle.session.specs.Calls.{Outcome}
-use Rattle.reporting.specs.Call.{message, report}
-use Rattle.reporting.specs.Promise.{theReport}
+use Rattle.reporting.specs.Call.{theReport, message, report}
 use Rattle.reporting.proofs.Promise.{Passed, each-report, passed-sendable}
 use Rattle.gateway.specs.Promise.{WholeReport, AllOf}
 
-module _ (s : Session) (v : Values) (t : ℕ) (buf : Bytes) (ours : Byted (s .ours)) (peers : Byted (s .peers)) (b : OfBytes (own v)) where
+module _ (s : Session) (v : Values) (t : ℕ) (buf store : Bytes) (ours : Byted (s .ours)) (peers : Byted (s .peers)) (b : OfBytes (own v)) where
   good-report : Passed s v t → WholeReport v (message s v t)
   unfolding message
   good-report P =
@@ -40,5 +39,5 @@ module _ (s : Session) (v : Values) (t : ℕ) (buf : Bytes) (ours : Byted (s .ou
   abbrev Stands : Outcome → Type 0
   Stands o = AllOf (WholeReport v) (o .reply) × Frames fixt (joined (o .reply)) (o .reply)
 
-  pub report-whole : Stands (report s v t buf)
-  report-whole = each-report Stands s v t buf (λ k. (tt, joined-frames [] tt)) (λ P. let W = good-report P in ((W, tt), joined-frames (message s v t ∷ []) (W .frame, tt)))
+  pub report-whole : Stands (report s v t buf store)
+  report-whole = each-report Stands s v t buf store (λ k. (tt, joined-frames [] tt)) (λ P. let W = good-report P in ((W, tt), joined-frames (message s v t ∷ []) (W .frame, tt)))

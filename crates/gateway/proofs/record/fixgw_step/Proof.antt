@@ -21,7 +21,7 @@ returns-2 : tie.Need-returns-2
 returns-2 c =
     let a = c .before .before .before .before .before .before .before .before .before .before .before .before .before .before .before .before .before .before .args in
     let left = c .before .before .leave .ensures in
-    step-left (a .ids .now) (a .words .now) (c .before .before .before .before .before .before .before .before .before .before .load .ensures) (left .0) (left .1) (a .frame .now) (a .time) (a .buf .now) (a .store .now) (c .before .before .before .before .before .delivered .ensures) (c .before .before .before .before .before .before .before .before .step .ensures .0) (c .before .before .before .before .before .before .before .before .step .ensures .1)
+    step-left (a .ids .now) (a .words .now) (c .before .before .before .before .before .before .before .before .before .before .load .ensures) (left .0) (left .1) (a .frame .now) (a .time) (a .buf .now) (a .store .now) (c .before .before .before .before .before .delivered .ensures) (c .before .before .before .before .before .before .before .before .step .ensures .leaves) (c .before .before .before .before .before .before .before .before .step .ensures .stored)
 
 pub fixgw-step-spec : {M : Type 1} → statement M
 fixgw-step-spec =

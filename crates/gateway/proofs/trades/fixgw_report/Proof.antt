@@ -17,7 +17,7 @@ leave-requires : tie.Need-leave-requires
 leave-requires c κs = record-length (c .before .before .before .before .before .before .before .before .before .before .before .before .before .before .args .words .now) (sym (c .before .before .before .before .before .before .before .before .before .is-record .ensures) ∙ not-false _ (c .before .before .before .before .before .before .before .before .if1 .left))
 
 returns-2 : tie.Need-returns-2
-returns-2 c = let a = c .before .before .before .before .before .before .before .before .before .before .before .before .before .before .before .before .before .args in let left = c .before .before .leave .ensures in report-left (a .ids .now) (a .words .now) (c .before .before .before .before .before .before .before .before .before .load .ensures) (left .0) (left .1) (a .values .now) (a .text .now) (a .time) (a .buf .now) (a .store .now) (c .before .before .before .before .before .before .before .report .ensures .0) (c .before .before .before .before .before .before .before .report .ensures .1)
+returns-2 c = let a = c .before .before .before .before .before .before .before .before .before .before .before .before .before .before .before .before .before .args in let left = c .before .before .leave .ensures in report-left (a .ids .now) (a .words .now) (c .before .before .before .before .before .before .before .before .before .load .ensures) (left .0) (left .1) (a .values .now) (a .text .now) (a .time) (a .buf .now) (a .store .now) (c .before .before .before .before .before .before .before .report .ensures .leaves) (c .before .before .before .before .before .before .before .report .ensures .stored)
 
 pub fixgw-report-spec : {M : Type 1} → statement M
 fixgw-report-spec =
