@@ -73,7 +73,7 @@ fn read(bytes: &[u8]) {
 }
 
 // Answers one line; a played session goes on with the record that this returns.
-fn answer(r: Record, line: &[u8]) -> Record {
+fn answer(r: Record, line: &[u8], store: &mut [u8]) -> Record {
     print_case(line);
     if begins(line, b"verdict ") {
         judge(behind(line));
@@ -88,15 +88,16 @@ fn answer(r: Record, line: &[u8]) -> Record {
         return r;
     }
     io::write_all(1, b"\n");
-    rehearsal::play(r, line)
+    rehearsal::play(r, line, store)
 }
 
 fn answer_all(s: &[u8]) {
     let mut r = rehearsal::nobody();
+    let mut store = [0u8; 32_768];
     let mut at = 0;
     while at < s.len() {
         let end = find(s, at, b'\n');
-        r = answer(r, &s[at..end]);
+        r = answer(r, &s[at..end], &mut store);
         at = end + 1;
     }
 }

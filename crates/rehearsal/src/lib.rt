@@ -1,5 +1,5 @@
 // A session played line by line: what each call answers, the messages that it sends, and the record that it leaves.
-// `new OURS PEER`, `step TIME FRAME`, `tick TIME`, `reconnect`. A time is in microseconds since 1970.
+// `new OURS PEER`, `step TIME FRAME`, `tick TIME`, `replay TIME`, `reconnect`. A time is in microseconds since 1970.
 use frame::Reading;
 use moves::Record;
 use moves::Status;
@@ -78,6 +78,15 @@ fn print_status(status: Status) {
     }
 }
 
+// The place of a replay, if one is running.
+fn print_replay(at: u64, to: u64) {
+    if at == 0 {
+        return;
+    }
+    print_number(b", replay from ", at);
+    print_number(b" to ", to);
+}
+
 fn print_record(r: Record) {
     let status = r.status;
     print_status(status);
@@ -87,6 +96,7 @@ fn print_record(r: Record) {
     io::write_all(1, b" s, last sent ");
     let sent = calendar::utc(r.sent);
     print_bytes(&sent);
+    print_replay(r.at, r.to);
     io::write_all(1, b"\n");
 }
 
@@ -128,33 +138,44 @@ fn time_of(s: &[u8]) -> u64 {
     n
 }
 
-fn new(names: &[u8]) -> Record {
+// A new session begins with a store of zeros.
+fn new(names: &[u8], store: &mut [u8]) -> Record {
     let k = find(names, 0, b' ');
+    places::zero_store(store);
     told(session::new(&names[..k], behind(names)), b"")
 }
 
-fn step(r: Record, words: &[u8]) -> Record {
-    let mut buf = [0u8; 512];
-    let a = session::step(r, behind(words), time_of(words), &mut buf);
+fn step(r: Record, words: &[u8], store: &mut [u8]) -> Record {
+    let mut buf = [0u8; 600];
+    let a = session::step(r, behind(words), time_of(words), &mut buf, store);
     told(a, &buf)
 }
 
 fn tick(r: Record, words: &[u8]) -> Record {
-    let mut buf = [0u8; 512];
+    let mut buf = [0u8; 600];
     let a = session::tick(r, time_of(words), &mut buf);
     told(a, &buf)
 }
 
-// The line's call, made on the record.
-pub fn play(r: Record, line: &[u8]) -> Record {
+fn replay(r: Record, words: &[u8], store: &[u8]) -> Record {
+    let mut buf = [0u8; 600];
+    let a = replaying::replay(r, time_of(words), &mut buf, store);
+    told(a, &buf)
+}
+
+// The line's call, made on the record and its store.
+pub fn play(r: Record, line: &[u8], store: &mut [u8]) -> Record {
     if begins(line, b"new ") {
-        return new(behind(line));
+        return new(behind(line), store);
     }
     if begins(line, b"step ") {
-        return step(r, behind(line));
+        return step(r, behind(line), store);
     }
     if begins(line, b"tick ") {
         return tick(r, behind(line));
+    }
+    if begins(line, b"replay ") {
+        return replay(r, behind(line), store);
     }
     if begins(line, b"reconnect") {
         return told(session::reconnect(r), b"");
