@@ -35,7 +35,7 @@ pub fn put_bytes(buf: &mut [u8], at: usize, s: &[u8]) -> usize
 }
 
 // How many digits a number has that has at most nine.
-fn width(n: u64) -> usize
+pub fn width(n: u64) -> usize
     requires { ⌜ n < 1_000_000_000 ⌝ }
     ensures { λ r. ⌜ r ≡ length (decimal n) ⌝ }
 {
