@@ -1,0 +1,10 @@
+pub mod Holding
+pub mod Promise
+pub mod Behind
+pub mod Zeros
+pub mod Numbered
+pub mod Headings
+pub mod Fillings
+pub mod Least
+pub mod Laying
+pub mod Walking

@@ -1,5 +1,5 @@
 -- WHICH REPORT A PLACE HOLDS (document 02, Q-4): "A place that doesn't hold one AE frame as our report call writes it counts as empty".
-use Prim.Native.Nat.{ℕ, _+_}
+use Prim.Native.Nat.{ℕ}
 use mathlib.Core.Path.{_≡_}
 use mathlib.Core.List.{[], _∷_}
 use mathlib.Core.Bool.{true, cond}
@@ -8,7 +8,7 @@ use lib.Dec.{eqb}
 use lib.ListN.{length}
 use Rattle.bytes.specs.Bytes.{Bytes}
 use Rattle.places.specs.Places.{padded}
-use Rattle.report.specs.Report.{Report, sent, again, sendable, read}
+use Rattle.report.specs.Report.{Report, sent, sendable, read}
 
 -- a place without the zeros behind
 abbrev pub unlessZero : ℕ → Bytes → Bytes

@@ -1,1 +1,2 @@
 pub mod Peeked
+pub mod Walk

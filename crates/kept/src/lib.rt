@@ -1,90 +1,34 @@
 // Which report a place of the store holds, by its number; and that number read alone, where it stands.
 use bytes::checksum;
+use bytes::number;
+use bytes::stands;
 use listed::is_listed;
 use stamps::is_stamp;
 ghost use mathlib.Core.Path.{_≡_};
 ghost use mathlib.Core.Bool.{true};
-ghost use Prim.Native.Nat.{_+_, _≤_};
-ghost use lib.ListN.{length};
+ghost use Prim.Native.Nat.{_+_, _-_, _%_, _≤_};
+ghost use lib.ListN.{length, take, replicate};
+ghost use Rattle.bytes.specs.Bytes.{sum};
+ghost use Rattle.bytes.specs.code.Leaf.{Standing};
+ghost use Rattle.frame.specs.Frame.{trailer};
 ghost use Rattle.message.specs.Unfit.{compID};
 ghost use Rattle.kept.specs.Kept.{held, numberOf};
 ghost use Rattle.kept.specs.code.Peeked.{Peeked};
+ghost use Rattle.kept.specs.code.Walk.{Tells, Headed, Ended, Filled};
 
-// The digits from a place on up to `|`, at most nine and without a zero in front, as a number; 0 for none.
-fn number_from(place: &[u8], at: usize) -> u64
-    requires { ⌜ at + 10 ≤ length (now place) ⌝ }
-{
-    let mut n: u64 = 0;
-    let mut i = 0;
-    while i < 9 {
-        let x = place[at + i];
-        if x == 1 {
-            return n;
-        }
-        if x < b'0' {
-            return 0;
-        }
-        if b'9' < x {
-            return 0;
-        }
-        if x == b'0' {
-            if n == 0 {
-                return 0;
-            }
-        }
-        n = n * 10 + (x - b'0') as u64;
-        i += 1;
-    }
-    if place[at + 9] != 1 {
-        return 0;
-    }
-    n
-}
-
-// The number that a report in this place would have, if it holds one: behind mark, length, 35, 49 and 56, whose CompIDs have so many bytes together.
+// The number that a report in this place has, if it holds one: behind mark, length, 35, 49 and 56, whose CompIDs have so many bytes together.
 pub fn peek_number(place: &[u8], ids: usize) -> u64
     requires { ⌜ (length (now place) ≡ 512) × (ids ≤ 22) ⌝ }
     ensures { λ n. ⌜ Peeked (now (place .entry)) ids n ⌝ }
 {
-    number_from(place, 34 + ids)
-}
-
-// The length of the frame that a place begins with, by the three digits of its body's length; 0 where they do not fit the place. Every report's body has
-// more than 99 bytes.
-fn frame_end(place: &[u8]) -> usize
-    requires { ⌜ length (now place) ≡ 512 ⌝ }
-{
-    let a = place[13];
-    let b = place[14];
-    let c = place[15];
-    if a < b'1' {
-        return 0;
-    }
-    if b'5' < a {
-        return 0;
-    }
-    if b < b'0' {
-        return 0;
-    }
-    if b'9' < b {
-        return 0;
-    }
-    if c < b'0' {
-        return 0;
-    }
-    if b'9' < c {
-        return 0;
-    }
-    let n = 24 + 100 * (a - b'0') as usize + 10 * (b - b'0') as usize + (c - b'0') as usize;
-    if 512 < n {
-        return 0;
-    }
-    n
+    let n = number(place, 34 + ids, 9);
+    n.value as u64
 }
 
 // Whether these bytes stand at a place.
 fn stands_at(place: &[u8], at: usize, label: &[u8]) -> bool
     requires { ⌜ at + length (now label) ≤ length (now place) ⌝ }
+    ensures { λ b. ⌜ Standing (now (place .entry)) at (now (label .entry)) b ⌝ }
 {
     let mut i = 0;
     while i < label.len() {
@@ -96,49 +40,15 @@ fn stands_at(place: &[u8], at: usize, label: &[u8]) -> bool
     true
 }
 
-// Whether the last seven bytes before n are the trailer of those before.
-fn is_summed(place: &[u8], n: usize) -> bool
-    requires { ⌜ (7 ≤ n) × (n ≤ length (now place)) ⌝ }
-{
-    let at = n - 7;
-    if !stands_at(place, at, b"10=") {
-        return false;
-    }
-    let s = checksum(&place[..at]);
-    if place[at + 3] != b'0' + s / 100 {
-        return false;
-    }
-    if place[at + 4] != b'0' + s / 10 % 10 {
-        return false;
-    }
-    if place[at + 5] != b'0' + s % 10 {
-        return false;
-    }
-    place[at + 6] == 1
-}
-
-// Whether all bytes from n on are zero.
-fn is_zero_from(place: &[u8], n: usize) -> bool
-    requires { ⌜ n ≤ length (now place) ⌝ }
-{
-    let mut i = n;
-    while i < place.len() {
-        if place[i] != 0 {
-            return false;
-        }
-        i += 1;
-    }
-    true
-}
-
 // Whether a place begins as every report between these CompIDs does: the mark, and behind the length 35, 49, 56 and `34=`.
 fn is_headed(place: &[u8], us: &[u8], them: &[u8]) -> bool
     requires { ⌜ (length (now place) ≡ 512) × (length (now us) ≤ 11) × (length (now them) ≤ 11) ⌝ }
+    ensures { λ b. ⌜ Tells (Headed (now (us .entry)) (now (them .entry)) (now (place .entry))) b ⌝ }
 {
-    if !stands_at(place, 0, b"8=FIXT.1.1\x019=") {
+    if !stands(place, 0, b"8=FIXT.1.1\x019=") {
         return false;
     }
-    if !stands_at(place, 16, b"\x0135=AE\x0149=") {
+    if !stands(place, 16, b"\x0135=AE\x0149=") {
         return false;
     }
     let a = 26 + us.len();
@@ -148,22 +58,88 @@ fn is_headed(place: &[u8], us: &[u8], them: &[u8]) -> bool
     if !stands_at(place, a, b"\x0156=") {
         return false;
     }
-    let b = a + 4 + them.len();
-    if !stands_at(place, a + 4, them) {
+    let b = a + 4;
+    if !stands_at(place, b, them) {
         return false;
     }
-    stands_at(place, b, b"\x0134=")
+    stands_at(place, b + them.len(), b"\x0134=")
 }
 
-// How many digits a number has that has at most nine.
-fn digits_of(n: u64) -> usize {
-    let mut k = 1;
-    let mut rest = n;
-    while 9 < rest {
-        rest = rest / 10;
-        k += 1;
+// The length of the frame that a place begins with, by the three digits of its body's length; 0 where they are none or do not fit the place. Every
+// report's body has more than 99 bytes.
+fn frame_end(place: &[u8]) -> usize
+    requires { ⌜ length (now place) ≡ 512 ⌝ }
+    ensures { λ n. ⌜ Ended (now (place .entry)) n ⌝ }
+{
+    let body = number(place, 13, 3);
+    if body.value < 100 {
+        return 0;
     }
-    k
+    if 488 < body.value {
+        return 0;
+    }
+    body.value + 24
+}
+
+// Whether the last seven bytes before n are the trailer of those before.
+fn is_summed(place: &[u8], n: usize) -> bool
+    requires { ⌜ (7 ≤ n) × (n ≤ length (now place)) ⌝ }
+    ensures { λ b. ⌜ Standing (now (place .entry)) (n - 7) (trailer (sum (take (n - 7) (now (place .entry))) % 256)) b ⌝ }
+{
+    let at = n - 7;
+    let s = checksum(&place[..at]);
+    let end: [u8; 7] = [
+        b'1',
+        b'0',
+        b'=',
+        b'0' + s / 100,
+        b'0' + s / 10 % 10,
+        b'0' + s % 10,
+        1,
+    ];
+    stands_at(place, at, &end)
+}
+
+// Whether all bytes from n on are zero. The loop has no way out, so the compiler looks at sixteen bytes at once.
+fn is_zero_from(place: &[u8], n: usize) -> bool
+    requires { ⌜ n ≤ length (now place) ⌝ }
+    ensures { λ b. ⌜ Standing (now (place .entry)) n (replicate (length (now (place .entry)) - n) 0) b ⌝ }
+{
+    let mut zeros = true;
+    let mut i = n;
+    while i < place.len() {
+        if place[i] != 0 {
+            zeros = false;
+        }
+        i += 1;
+    }
+    zeros
+}
+
+// Whether a place holds from `|52=` on what a report of n bytes does: a time, the report's own fields up to the trailer, and zeros behind.
+fn is_filled(place: &[u8], at: usize, n: usize) -> bool
+    requires { ⌜ (length (now place) ≡ 512) × (1 ≤ at) × (at ≤ 512) × (n ≤ 512) ⌝ }
+    ensures { λ b. ⌜ Tells (Filled (now (place .entry)) at n) b ⌝ }
+{
+    if n < at + 36 {
+        return false;
+    }
+    if !stands_at(place, at, b"\x0152=") {
+        return false;
+    }
+    if !is_stamp(&place[at + 4..at + 28]) {
+        return false;
+    }
+    if place[at + 28] != 1 {
+        return false;
+    }
+    if !is_listed(&place[..n - 7], at + 29) {
+        return false;
+    }
+    if !is_summed(place, n) {
+        return false;
+    }
+    is_zero_from(place, n)
 }
 
 // The number of the report that a place holds, or 0: the frame, its header and its fields as our call writes them, zeros behind.
@@ -174,35 +150,20 @@ pub fn kept_number(place: &[u8], us: &[u8], them: &[u8]) -> u64
     if !is_headed(place, us, them) {
         return 0;
     }
-    let number = peek_number(place, us.len() + them.len());
-    if number == 0 {
+    let at = 34 + us.len() + them.len();
+    let n = number(place, at, 9);
+    if n.value == 0 {
         return 0;
     }
-    if 999_999_990 < number {
+    if place[at] == b'0' {
         return 0;
     }
-    let n = frame_end(place);
-    let at = 34 + us.len() + them.len() + digits_of(number);
-    if n < at + 36 {
+    if 999_999_990 < n.value {
         return 0;
     }
-    if !stands_at(place, at, b"\x0152=") {
+    let end = frame_end(place);
+    if !is_filled(place, at + n.count, end) {
         return 0;
     }
-    if !is_stamp(&place[at + 4..at + 28]) {
-        return 0;
-    }
-    if place[at + 28] != 1 {
-        return 0;
-    }
-    if !is_listed(&place[..n - 7], at + 29) {
-        return 0;
-    }
-    if !is_summed(place, n) {
-        return 0;
-    }
-    if !is_zero_from(place, n) {
-        return 0;
-    }
-    number
+    n.value as u64
 }
