@@ -30,7 +30,7 @@ row-short ((t is v) ∷ fs) h =
     (arith, length-append (tagged t (shown v)) (row fs), field-short TradeCaptureReport t (shown v) (here TradeCaptureReport (t is v) fs h), row-short fs (later TradeCaptureReport (t is v) fs h))
 
 -- THE PARTIES: at most eight, of 37 + 6 + 7 bytes each
-group-few : (ps : List Party) → any (unfit TradeCaptureReport) (group ps) ≡ false → length ps ≤ 8
+pub group-few : (ps : List Party) → any (unfit TradeCaptureReport) (group ps) ≡ false → length ps ≤ 8
 unfolding rowsOf header fields groupsOf №453 №580 №552 kindOf allowed
 group-few [] h = omega arith
 group-few (p ∷ ps) h =

@@ -87,7 +87,7 @@ or-nothing : (b : Bool) → (b || false) ≡ b
 or-nothing true = refl
 or-nothing false = refl
 
-rejected-is : (t : ℕ) (k : Kind) (v : Bytes) → Has t k → rejected TradeCaptureReport t v ≡ unwritten k v
+pub rejected-is : (t : ℕ) (k : Kind) (v : Bytes) → Has t k → rejected TradeCaptureReport t v ≡ unwritten k v
 unfolding rejected unwritten
 rejected-is t k v H = rw (H .own, H .kind)
 

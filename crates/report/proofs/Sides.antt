@@ -97,7 +97,7 @@ up-to-eight : allBelow 8 (λ k. not (unfit TradeCaptureReport (453 is number (su
 unfolding rejected rowsOf header fields groupsOf №453 №580 №552 kindOf formed allowed isNumber numeral decimal
 up-to-eight = refl
 
-count-fit : (n : ℕ) → (n ≡ 0 → ⊥) → n ≤ 8 → unfit TradeCaptureReport (453 is number n) ≡ false
+pub count-fit : (n : ℕ) → (n ≡ 0 → ⊥) → n ≤ 8 → unfit TradeCaptureReport (453 is number n) ≡ false
 count-fit zero h l = absurd (h refl)
 count-fit (suc k) h l = not-true _ (at-below 8 (λ k. not (unfit TradeCaptureReport (453 is number (suc k)))) up-to-eight k (omega arith))
 
