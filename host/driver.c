@@ -250,7 +250,7 @@ static bool answer_landed(struct words *in)
 {
     if (!all_taken(in))
         return false;
-    say("landed 1");
+    say("landed 1 4");
     return true;
 }
 
@@ -261,7 +261,7 @@ static const struct {
     { "read", answer_read }, { "stream", answer_stream }, { "fields", answer_fields }, { "verdict", answer_verdict },
     { "write", answer_write }, { "new", answer_new }, { "reconnect", answer_reconnect }, { "step", answer_step },
     { "tick", answer_tick }, { "landed", answer_landed }, { "report", answer_report },
-    { "report-values", answer_report_values },
+    { "report-values", answer_report_values }, { "replay", answer_replay },
 };
 
 static bool answer_request(struct words *in)

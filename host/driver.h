@@ -1,4 +1,4 @@
-/* What the driver's files share: the answer, a request's words, the lent buffer, the record of a request. */
+/* What the driver's files share: the answer, a request's words, the lent buffer, the record and the store of a request. */
 #ifndef HOST_DRIVER_H
 #define HOST_DRIVER_H
 
@@ -88,8 +88,26 @@ bool is_of_this_version(const struct fixgw_session *session);
 
 void say_record(const struct record *record);
 
-/* The answer of a call on a record whose one out word is the reply's length. */
-void say_reply(uint32_t refusal, uint64_t room, const uint64_t out[1], const struct record *record);
+/* The answer of a call on a record whose one out word is the reply's length, up to the record; false if it was not as
+   fixgw.h says, and that is the answer. */
+bool say_reply(uint32_t refusal, uint64_t room, const uint64_t out[1], const struct record *record);
+
+/* ---- The store of a request -------------------------------------------------------------------------------------- */
+
+/* What is lent: NULL for a length of 0. */
+struct store {
+    uint8_t *at;
+    size_t len;
+};
+
+/* LENGTH,PLACE=BYTES,..: the places in any order, each at most once; all other bytes are zero. */
+bool take_store(struct words *in, struct store *store);
+
+/* Whether the store is as it was lent, and the bytes behind it are; of one that may change these alone. Otherwise that
+   is the answer. */
+bool is_store_kept(const struct store *store, bool may_change);
+
+void say_store(const struct store *store);
 
 /* ---- How each request is answered -------------------------------------------------------------------------------- */
 
@@ -98,6 +116,7 @@ bool answer_new(struct words *in);
 bool answer_reconnect(struct words *in);
 bool answer_step(struct words *in);
 bool answer_tick(struct words *in);
+bool answer_replay(struct words *in);
 bool answer_report(struct words *in);
 bool answer_report_values(struct words *in);
 

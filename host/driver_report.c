@@ -122,14 +122,16 @@ bool answer_report(struct words *in)
 {
     uint64_t time, room, out[1] = { UNSET };
     struct record record;
+    struct store store;
     struct report report;
     if (!take_number(in, GREATEST_NUMBER, &time) || !take_number(in, MOST_LENT, &room) || !take_record(in, &record)
-        || !take_values(in, &report))
+        || !take_store(in, &store) || !take_values(in, &report))
         return false;
     lend(room);
     uint32_t refusal = fixgw_report(fixgw_comp_ids(&record.session), record.session.words, FIXGW_WORDS, report.words,
-                                    text.at, text.len, time, lent, room, out);
-    say_reply(refusal, room, out, &record);
+                                    text.at, text.len, time, lent, room, store.at, store.len, out);
+    if (is_store_kept(&store, !refusal) && say_reply(refusal, room, out, &record) && !refusal)
+        say_store(&store);
     return true;
 }
 

@@ -1,4 +1,4 @@
-/* The driver's requests on a session's record: new, reconnect, step, tick. */
+/* The driver's requests on a session's record: new, reconnect, step, tick, replay. */
 #include "driver.h"
 
 enum { GREATEST_LENGTH = 255 };             /* of a CompID in a record */
@@ -95,12 +95,15 @@ bool answer_step(struct words *in)
     uint64_t time, room, out[2] = { UNSET, UNSET };
     struct slice frame;
     struct record record;
+    struct store store;
     if (!take_number(in, GREATEST_NUMBER, &time) || !take_number(in, MOST_LENT, &room) || !take_bytes(in, &frame)
-        || !take_record(in, &record) || !all_taken(in))
+        || !take_record(in, &record) || !take_store(in, &store) || !all_taken(in))
         return false;
     lend(room);
-    uint32_t refusal = fixgw_session_step(&record.session, frame.at, frame.len, time, lent, room, out);
-    if (!is_kept(room, refusal ? 0 : out[1]) || (refusal && !are_zero(out, 2)) || !is_of_this_version(&record.session))
+    uint32_t refusal = fixgw_session_step(&record.session, frame.at, frame.len, time, lent, room, store.at, store.len,
+                                          out);
+    if (!is_kept(room, refusal ? 0 : out[1]) || (refusal && !are_zero(out, 2)) || !is_of_this_version(&record.session)
+        || !is_store_kept(&store, !refusal))
         return true;
     say_outcome(refusal);
     if (!refusal) {
@@ -110,19 +113,22 @@ bool answer_step(struct words *in)
         say_hex(lent, out[1]);
     }
     say_record(&record);
+    if (!refusal)
+        say_store(&store);
     return true;
 }
 
-void say_reply(uint32_t refusal, uint64_t room, const uint64_t out[1], const struct record *record)
+bool say_reply(uint32_t refusal, uint64_t room, const uint64_t out[1], const struct record *record)
 {
     if (!is_kept(room, refusal ? 0 : out[0]) || (refusal && !are_zero(out, 1)) || !is_of_this_version(&record->session))
-        return;
+        return false;
     say_outcome(refusal);
     if (!refusal) {
         say(" ");
         say_hex(lent, out[0]);
     }
     say_record(record);
+    return true;
 }
 
 bool answer_tick(struct words *in)
@@ -135,5 +141,20 @@ bool answer_tick(struct words *in)
     lend(room);
     uint32_t refusal = fixgw_session_tick(&record.session, time, lent, room, out);
     say_reply(refusal, room, out, &record);
+    return true;
+}
+
+bool answer_replay(struct words *in)
+{
+    uint64_t time, room, out[1] = { UNSET };
+    struct record record;
+    struct store store;
+    if (!take_number(in, GREATEST_NUMBER, &time) || !take_number(in, MOST_LENT, &room) || !take_record(in, &record)
+        || !take_store(in, &store) || !all_taken(in))
+        return false;
+    lend(room);
+    uint32_t refusal = fixgw_session_replay(&record.session, time, lent, room, store.at, store.len, out);
+    if (is_store_kept(&store, false))
+        say_reply(refusal, room, out, &record);
     return true;
 }

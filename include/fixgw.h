@@ -4,7 +4,7 @@
 #define FIXGW_H
 
 /* The version of this header, as major * 10000 + minor * 100 + patch. fixgw_version() answers that of the library. */
-#define FIXGW_VERSION 10200
+#define FIXGW_VERSION 20000
 
 /* Only these two headers are needed. A compiler that has none, but names its types, is served as well. */
 #ifdef __has_include
@@ -55,7 +55,9 @@ enum fixgw_refusal {
     FIXGW_REFUSED_WRITE_ROOM = 9,           /* the writer and a report: a buffer shorter than the message */
     FIXGW_REFUSED_NOT_A_FRAME = 10,         /* not exactly one good frame; for what is read from a body, no body */
     FIXGW_REFUSED_RECORD = 11,              /* the session's record breaks its ranges */
-    FIXGW_REFUSED_REPORT_LENGTH = 12        /* a report longer than FIXGW_REPORT_MOST bytes */
+    FIXGW_REFUSED_REPORT_LENGTH = 12,       /* a report longer than FIXGW_REPORT_MOST bytes */
+    FIXGW_REFUSED_REPLAYING = 13,           /* a report while a replay is running */
+    FIXGW_REFUSED_STORE = 14                /* a store that has not FIXGW_STORE bytes */
 };
 
 /* 373, SessionRejectReason: what a verdict finds and what a Reject carries. */
@@ -267,6 +269,8 @@ enum fixgw_word {
     FIXGW_WORD_NEXT_OUT,                    /* the number of our next message, 1 to 999,999,999 */
     FIXGW_WORD_HEARTBEAT,                   /* seconds, 1 to 60 */
     FIXGW_WORD_LAST_SENT,                   /* when we last sent a message, in microseconds since 1970; any number */
+    FIXGW_WORD_REPLAY_AT,                   /* the next number of a replay, which runs while Active alone; 0: none runs */
+    FIXGW_WORD_REPLAY_TO,                   /* the last number asked for, not below that, but below next out; or 0 too */
     FIXGW_WORDS_USED,                       /* from here on all are zero, and kept for versions to come */
     FIXGW_WORDS = 24
 };
@@ -275,8 +279,8 @@ enum {
     FIXGW_RECORD_VERSION = 1,
     FIXGW_COMP_ID = 11,                     /* bytes of a CompID's place; those behind its length mean nothing */
     FIXGW_COMP_IDS = 24,                    /* bytes of both with their lengths */
-    FIXGW_LEAST_REPLY_ROOM = 512,
-    FIXGW_LONGEST_REPLY = 269               /* by count, a gap fill and a Resend Request; that 512 suffice is proved */
+    FIXGW_LEAST_REPLY_ROOM = 600,
+    FIXGW_LONGEST_REPLY = 546               /* by count, the longest report again; that 600 suffice is proved */
 };
 
 struct fixgw_session {
@@ -289,6 +293,17 @@ typedef char fixgw_session_has_no_padding[sizeof(struct fixgw_session) == 216 ? 
 
 #define FIXGW_END_OF_TIME 253402300800000000u   /* the first microsecond of the year 10000 */
 
+/* The store of a session: the host lends it beside the record, to the same session each time, and keeps both together.
+   It holds the last 64 reports, each whole in a place of its own with zeros behind it. A new session's is all zeros; an
+   accepted Logon with 141=Y zeroes it. A place in which no report of this session stands as fixgw_report writes it
+   counts as empty, whatever its bytes are, and so does the second of two with one number. Under a refusal no byte of a
+   store changes. */
+enum {
+    FIXGW_STORE_PLACES = 64,
+    FIXGW_STORE_PLACE = 512,                /* bytes */
+    FIXGW_STORE = FIXGW_STORE_PLACES * FIXGW_STORE_PLACE        /* 32,768 bytes; of another length it is refusal 14 */
+};
+
 /* Every call on a record takes its two parts: comp_ids, the 24 bytes at its front, and words, with how many there are.
    Use the functions over struct fixgw_session below. A record is refused (11) if it breaks its ranges, and also if it
    has another number of words or another version, or if a word that is kept for later is not zero: so a host that was
@@ -300,19 +315,31 @@ typedef char fixgw_session_has_no_padding[sizeof(struct fixgw_session) == 216 ? 
 uint32_t fixgw_new(uint8_t comp_ids[FIXGW_COMP_IDS], uint64_t *words, size_t words_len,
                    const uint8_t *our_id, size_t our_len, const uint8_t *peer_id, size_t peer_len);
 
-/* The peer has a new connection: the status becomes Waiting, everything else stays.
+/* The peer has a new connection: the status becomes Waiting, an unfinished replay is dropped, everything else stays.
    11: the record breaks its ranges and stays as it is. */
 uint32_t fixgw_reconnect(const uint8_t comp_ids[FIXGW_COMP_IDS], uint64_t *words, size_t words_len);
 
 /* Takes one frame, moves the record on and writes what is to be sent.
    0: out is {delivered, reply length}. delivered is 1 if the frame is an application message (AD, F) for the host to
    act on, else 0. buf[0 .. reply length) holds no, one or two messages to send, in order; buf keeps its bytes behind
-   them.
-   11, 10, 7, 6, 2, 5, 3, 4, looked for in this order: out is {0, 0}, buf keeps all of its bytes, and the record stays
-   as it is, except that 5, 3 and 4 set it Closed. */
+   them. The store is zeroed by an accepted Logon with 141=Y, and stays as it is otherwise.
+   A Resend Request that can be served only starts a replay, in place of one that is running: FIXGW_WORD_REPLAY_AT is
+   then not 0. Send what is in buf, and call fixgw_replay until it is 0 again.
+   11, 14, 10, 7, 6, 2, 5, 3, 4, looked for in this order: out is {0, 0}, buf and store keep all of their bytes, and the
+   record stays as it is, except that 5, 3 and 4 set it Closed. What closes a session drops an unfinished replay. */
 uint32_t fixgw_step(const uint8_t comp_ids[FIXGW_COMP_IDS], uint64_t *words, size_t words_len,
                     const uint8_t *frame, size_t frame_len, uint64_t time_us, uint8_t *buf, size_t buf_len,
-                    uint64_t out[2]);
+                    uint8_t *store, size_t store_len, uint64_t out[2]);
+
+/* Writes the next message of a replay, in the order of the numbers: a report that the store holds goes out again under
+   its old number, with 43=Y, time_us as its 52 and its first 52 as 122; each longest run of other numbers up to the last
+   one asked for is one gap fill. It uses no new number; last sent becomes time_us, and the record's place moves on.
+   0: out is {message length}, 0 if no replay is running, and then nothing changes; buf keeps its bytes behind the
+   message.
+   11, 14, 7, 6, looked for in this order: out is {0}, buf keeps all of its bytes, and the record stays as it is. */
+uint32_t fixgw_replay(const uint8_t comp_ids[FIXGW_COMP_IDS], uint64_t *words, size_t words_len,
+                      uint64_t time_us, uint8_t *buf, size_t buf_len, const uint8_t *store, size_t store_len,
+                      uint64_t out[1]);
 
 /* Looks whether a Heartbeat is due, and writes it.
    0: out is {reply length}, 0 if nothing is due; the record moves on only if something is written; buf keeps its bytes
@@ -366,19 +393,22 @@ enum {
     FIXGW_REPORT_WORD_PARTIES = 3 * FIXGW_REPORT_TAGS,  /* the number of parties */
     FIXGW_REPORT_WORD_PARTY,                            /* six words for each party from here on */
     FIXGW_REPORT_WORDS = FIXGW_REPORT_WORD_PARTY + 6 * FIXGW_REPORT_PARTIES,    /* 82 */
-    FIXGW_REPORT_MOST = 512                 /* bytes of the longest report: a buffer of so many has room for each */
+    FIXGW_REPORT_MOST = FIXGW_STORE_PLACE   /* bytes of the longest report: a buffer of so many has room for each */
 };
 
 /* Writes one Trade Capture Report, whole, at the front of buf, under the session's next number; last sent becomes
    time_us. Use struct fixgw_report_draft and its functions below to fill the values.
-   0: out is {report length}, at most FIXGW_REPORT_MOST; buf keeps its bytes behind it.
-   11, 7, 2 (it is not Active), 5, 8, 12 (the report would be longer than FIXGW_REPORT_MOST), 9 (buf is shorter than the
-   report), looked for in this order: out is {0}, buf keeps all of its bytes, and the record stays as it is, except that
-   5 sets it Closed. 8 is a value that the dictionary would reject, a required one absent, a byte string that does not
-   lie in text, a decimal above 999,999,999,999,999 or with more than 8 places, or more than 8 parties. */
+   0: out is {report length}, at most FIXGW_REPORT_MOST; buf keeps its bytes behind it. The report stands in the store's
+   first empty place or, if there is none, in that of the lowest number; the other places stay.
+   11, 13 (a replay is running), 14, 7, 2 (it is not Active), 5, 8, 12 (the report would be longer than
+   FIXGW_REPORT_MOST), 9 (buf is shorter than the report), looked for in this order: out is {0}, buf and store keep all
+   of their bytes, and the record stays as it is, except that 5 sets it Closed. 8 is a value that the dictionary would
+   reject, a required one absent, a byte string that does not lie in text, a decimal above 999,999,999,999,999 or with
+   more than 8 places, or more than 8 parties. */
 uint32_t fixgw_report(const uint8_t comp_ids[FIXGW_COMP_IDS], uint64_t *words, size_t words_len,
                       const uint64_t values[FIXGW_REPORT_WORDS], const uint8_t *text, size_t text_len,
-                      uint64_t time_us, uint8_t *buf, size_t buf_len, uint64_t out[1]);
+                      uint64_t time_us, uint8_t *buf, size_t buf_len, uint8_t *store, size_t store_len,
+                      uint64_t out[1]);
 
 /* The values of the Trade Capture Report that a body is, as from a log (fixgw_body finds the body of a frame). It
    belongs to no session, and asks nothing of the order of the fields that the verdict does not ask.
@@ -562,10 +592,18 @@ static inline uint32_t fixgw_session_reconnect(struct fixgw_session *session)
 }
 
 static inline uint32_t fixgw_session_step(struct fixgw_session *session, const uint8_t *frame, size_t frame_len,
-                                          uint64_t time_us, uint8_t *buf, size_t buf_len, uint64_t out[2])
+                                          uint64_t time_us, uint8_t *buf, size_t buf_len, uint8_t *store,
+                                          size_t store_len, uint64_t out[2])
 {
     return fixgw_step(fixgw_comp_ids(session), session->words, FIXGW_WORDS, frame, frame_len, time_us, buf, buf_len,
-                      out);
+                      store, store_len, out);
+}
+
+static inline uint32_t fixgw_session_replay(struct fixgw_session *session, uint64_t time_us, uint8_t *buf,
+                                            size_t buf_len, const uint8_t *store, size_t store_len, uint64_t out[1])
+{
+    return fixgw_replay(fixgw_comp_ids(session), session->words, FIXGW_WORDS, time_us, buf, buf_len, store, store_len,
+                        out);
 }
 
 static inline uint32_t fixgw_session_tick(struct fixgw_session *session, uint64_t time_us, uint8_t *buf,
@@ -588,10 +626,11 @@ static inline uint32_t fixgw_session_test_request(struct fixgw_session *session,
 }
 
 static inline uint32_t fixgw_session_report(struct fixgw_session *session, const struct fixgw_report_draft *draft,
-                                            uint64_t time_us, uint8_t *buf, size_t buf_len, uint64_t out[1])
+                                            uint64_t time_us, uint8_t *buf, size_t buf_len, uint8_t *store,
+                                            size_t store_len, uint64_t out[1])
 {
     return fixgw_report(fixgw_comp_ids(session), session->words, FIXGW_WORDS, draft->values, draft->text,
-                        draft->text_len, time_us, buf, buf_len, out);
+                        draft->text_len, time_us, buf, buf_len, store, store_len, out);
 }
 
 /* A MsgType as a number of fixgw_type; 0 for one that is not of one or two bytes, or begins with a byte 0. */
