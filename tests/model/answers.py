@@ -1,13 +1,14 @@
 """The driver's answer to each request line, by its word (words.py has the grammar)."""
-from .calls import report, step, tick
+from .calls import replay, report, step, tick
 from .fields import cut, first_field, is_body, parts
 from .frame import read, read_in_pieces
 from .landed import LANDED
 from .record import new_session, reconnect
 from .report import MSG_TYPE, values_in
+from .store import EMPTY_STORE
 from .walk import verdict
-from .words import (GREATEST_ROOM, Unreadable, bytes_of, in_hex, in_words, number_of, pairs_of, record_of,
-                    report_values_of, report_words)
+from .words import (GREATEST_ROOM, RECORD_WORDS, Unreadable, bytes_of, in_hex, in_words, number_of, pairs_of, record_of,
+                    report_values_of, report_words, store_of, store_word)
 from .writer import write
 
 
@@ -51,16 +52,28 @@ def answer_reconnect(words):
     return f"{f'refusal {refusal}' if refusal else 'ok'} {in_words(record)}"
 
 
+def record_and_store(words):
+    """A record, the store behind it, and the words behind both. Before Q-4 none is lent."""
+    record, rest = record_of(words[:RECORD_WORDS]), words[RECORD_WORDS:]
+    return (record, store_of(rest[0]), rest[1:]) if 4 in LANDED else (record, EMPTY_STORE, rest)
+
+
+def with_store(line, store):
+    return f"{line} {store_word(store)}" if 4 in LANDED else line
+
+
 def outcome_of_step(words):
     time, room, frame = number_of(words[0]), number_of(words[1], GREATEST_ROOM), bytes_of(words[2])
-    return step(record_of(words[3:]), frame, time, room)
+    record, store, _ = record_and_store(words[3:])
+    return step(record, frame, time, room, store)
 
 
 def answer_step(words):
     outcome = outcome_of_step(words)
     if outcome.refusal:
         return f"refusal {outcome.refusal} {in_words(outcome.record)}"
-    return f"ok {int(outcome.delivered)} {in_hex(outcome.reply)} {in_words(outcome.record)}"
+    line = f"ok {int(outcome.delivered)} {in_hex(outcome.reply)} {in_words(outcome.record)}"
+    return with_store(line, outcome.store)
 
 
 def answer_tick(words):
@@ -77,7 +90,17 @@ def answer_landed(words):
 
 def answer_report(words):
     time, room = number_of(words[0]), number_of(words[1], GREATEST_ROOM)
-    outcome = report(record_of(words[2:9]), report_values_of(words[9:]), time, room)
+    record, store, values = record_and_store(words[2:])
+    outcome = report(record, report_values_of(values), time, room, store)
+    if outcome.refusal:
+        return f"refusal {outcome.refusal} {in_words(outcome.record)}"
+    return with_store(f"ok {in_hex(outcome.reply)} {in_words(outcome.record)}", outcome.store)
+
+
+def answer_replay(words):
+    time, room = number_of(words[0]), number_of(words[1], GREATEST_ROOM)
+    record, store, _ = record_and_store(words[2:])
+    outcome = replay(record, time, room, store)
     if outcome.refusal:
         return f"refusal {outcome.refusal} {in_words(outcome.record)}"
     return f"ok {in_hex(outcome.reply)} {in_words(outcome.record)}"
@@ -93,6 +116,7 @@ def answer_report_values(words):
 
 
 # The request's word: how it is answered, and the least and greatest number of words that may follow it.
+STORE_WORDS = 1 if 4 in LANDED else 0
 REQUESTS = {
     "read": (answer_read, 1, 1),
     "stream": (answer_stream, 0, None),
@@ -100,14 +124,17 @@ REQUESTS = {
     "verdict": (answer_verdict, 1, 1),
     "write": (answer_write, 2, None),
     "new": (answer_new, 2, 2),
-    "reconnect": (answer_reconnect, 7, 7),
-    "step": (answer_step, 10, 10),
-    "tick": (answer_tick, 9, 9),
+    "reconnect": (answer_reconnect, RECORD_WORDS, RECORD_WORDS),
+    "step": (answer_step, 3 + RECORD_WORDS + STORE_WORDS, 3 + RECORD_WORDS + STORE_WORDS),
+    "tick": (answer_tick, 2 + RECORD_WORDS, 2 + RECORD_WORDS),
 }
 if LANDED:
     REQUESTS["landed"] = (answer_landed, 0, 0)
 if 1 in LANDED:
-    REQUESTS.update({"report": (answer_report, 9, None), "report-values": (answer_report_values, 1, 1)})
+    REQUESTS.update({"report": (answer_report, 2 + RECORD_WORDS + STORE_WORDS, None),
+                     "report-values": (answer_report_values, 1, 1)})
+if 4 in LANDED:
+    REQUESTS["replay"] = (answer_replay, 3 + RECORD_WORDS, 3 + RECORD_WORDS)
 
 
 def words_of(line):

@@ -4,7 +4,7 @@ from dataclasses import replace
 from .dictionary import MESSAGES
 from .fields import first_field
 from .kinds import of_its_kind
-from .record import CLOSED
+from .record import CLOSED, no_replay
 from .times import in_utc
 from .walk import verdict
 from .writer import message
@@ -30,9 +30,10 @@ class Writing:
         self.record.next_out += 1
 
     def log_out(self, session_status=101):
-        """01: Logouts of ours set Closed and carry 1409=101; the answer to a Logout carries 1409=4."""
+        """01: Logouts of ours set Closed and carry 1409=101; the answer to a Logout carries 1409=4. 02: Closing .. drops
+        an unfinished replay"""
         self.send(b"5", {1409: session_status})
-        self.record.status = CLOSED
+        self.record = no_replay(replace(self.record, status=CLOSED))
 
     def ask_from_expected(self):
         self.send(b"2", {7: self.record.expected, 16: 0})
@@ -47,7 +48,9 @@ class Move(Writing):
         self.msg_type = first_field(body, 35)
         n = first_field(body, 34)       # "unreadable if absent or not of its kind"
         self.n = int(n) if n is not None and of_its_kind(34, n) else None
+        self.last_before = record.next_out - 1      # 02: with L from before the step
         self.delivered = False
+        self.zeroes_store = False
 
     def first(self, tag):
         return first_field(self.body, tag)

@@ -1,13 +1,15 @@
-"""The session's record of document 01: its ranges, a new session, a reconnect, and what a call on a record answers."""
+"""The session's record of document 01 with the place of a replay of document 02: its ranges, a new session, a reconnect,
+and what a call on a record answers."""
 from collections import namedtuple
 from dataclasses import dataclass, replace
 
 from .frame import BAR
+from .landed import LANDED
 
 WAITING, ACTIVE, CLOSED = 0, 1, 2
 GREATEST_NUMBER = 999_999_999
 LAST_USABLE_NUMBER = 999_999_990            # refusal 5 above
-LEAST_REPLY_ROOM = 512                      # refusal 6 below
+LEAST_REPLY_ROOM = 600 if 4 in LANDED else 512      # refusal 6 below; 02: Refusal 6 now reads 600 bytes
 END_OF_TIME = 253_402_300_800_000_000       # refusal 7 from here on
 SECOND = 1_000_000
 
@@ -21,11 +23,14 @@ class Record:
     next_out: int = 1
     heartbeat: int = 30
     last_sent: int = 0
+    at: int = 0                             # of a replay the next number, and the last one asked for; 0 and 0 for none
+    to: int = 0
 
 
-# What a step or tick answers: a refusal's number or None, whether the message is delivered, the reply's bytes, the
-# record afterwards, and the rule that fitted (for counting alone: "Waiting" or a number, None if refused before).
-Outcome = namedtuple("Outcome", "refusal delivered reply record rule")
+# What a call answers: a refusal's number or None, whether the message is delivered, the reply's bytes, the record
+# afterwards, the rule that fitted (for counting alone: "Waiting" or a number, None if refused before), and the store
+# afterwards, None for a call that is lent none to change.
+Outcome = namedtuple("Outcome", "refusal delivered reply record rule store", defaults=[None])
 
 
 def good_comp_id(comp_id):
@@ -37,7 +42,17 @@ def in_range(record):
     return (good_comp_id(record.ours) and good_comp_id(record.peer)
             and record.status in (WAITING, ACTIVE, CLOSED)
             and 1 <= record.expected <= GREATEST_NUMBER and 1 <= record.next_out <= GREATEST_NUMBER
-            and 1 <= record.heartbeat <= 60)
+            and 1 <= record.heartbeat <= 60 and (is_running(record) or (record.at, record.to) == (0, 0)))
+
+
+def is_running(record):
+    """02: the place, within 1 to L, is held in the record under refusal 11. Closing or a reconnect drops an unfinished
+    replay, so that one is running while Active alone."""
+    return record.status == ACTIVE and 1 <= record.at <= record.to <= record.next_out - 1
+
+
+def no_replay(record):
+    return replace(record, at=0, to=0)
 
 
 def numbers_used_up(record):
@@ -53,7 +68,7 @@ def new_session(ours, peer):
 
 
 def reconnect(record):
-    """01: A reconnect sets Waiting and keeps the numbers."""
+    """01: A reconnect sets Waiting and keeps the numbers. 02: Closing or a reconnect drops an unfinished replay"""
     if not in_range(record):
         return 11, record
-    return None, replace(record, status=WAITING)
+    return None, no_replay(replace(record, status=WAITING))

@@ -1,6 +1,6 @@
 """The moves of document 01 while Active, "first rule that fits", and rule 6 by type. Each rule answers whether it fits."""
 from .landed import LANDED
-from .serving import gap_fill_out, unservable
+from .serving import serve, unservable
 
 
 def rule_1(move):
@@ -45,7 +45,7 @@ def rule_4(move):
     if not move.n > move.record.expected:
         return False
     if move.msg_type == b"2" and not move.verdict() and not unservable(move):
-        gap_fill_out(move)
+        serve(move)
     move.ask_from_expected()
     return True
 
@@ -89,12 +89,12 @@ def test_request_in(move):
 
 
 def resend_request_in(move):
-    """01: Type 2: gap fill, below."""
+    """01: Type 2: gap fill, below. 02: Demand 2's serving rule now reads this way"""
     tag = unservable(move)
     if tag:
         move.reject(5, tag)
     else:
-        gap_fill_out(move)
+        serve(move)
 
 
 def gap_fill_in(move):

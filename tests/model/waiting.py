@@ -26,9 +26,11 @@ def accept_logon(move, reset):
 
 
 def logon_with_reset(move):
-    """01: 141=Y: with N = 1, E is 2, our Logon with 141=Y goes out as number 1, and the next is 2; else Logout."""
+    """01: 141=Y: with N = 1, E is 2, our Logon with 141=Y goes out as number 1, and the next is 2; else Logout. 02: An
+    accepted logon with 141=Y zeroes the store"""
     if move.n != 1:
         return move.log_out()
+    move.zeroes_store = True
     move.record.expected = 2
     move.record.next_out = 1
     return accept_logon(move, reset=True)

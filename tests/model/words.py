@@ -9,16 +9,19 @@ The grammar of a request, where the driver's page leaves room:
   NUMBER   is `0`, or a digit 1 to 9 and further digits; no sign, no leading zero; at most 18446744073709551615.
   BYTES    is `-` for none, or one or more pairs of the digits 0-9 a-f.
   BUFLEN   is a NUMBER up to 1048576, so that the driver can always lend as much.
-  RECORD   is BYTES BYTES and five NUMBERs, each as large as a NUMBER can be, the status too. The answer's record
-           repeats the request's words where the call left them alone: an overlong CompID stands in the answer whole,
-           and so does a status above 2.
+  RECORD   is BYTES BYTES and five NUMBERs, with Q-4 seven, each as large as a NUMBER can be, the status too. The
+           answer's record repeats the request's words where the call left them alone: an overlong CompID stands in the
+           answer whole, and so does a status above 2.
+  STORE    (Q-4) is one word: its length, a NUMBER up to 1048576, then `,PLACE=BYTES` for any number of places of 512
+           bytes, counted from 0, in any order, each at most once; the bytes of a place lie in it and in the length, and
+           all others are zero. An answer has the places that are not all zero, rising, without the zeros at their ends.
   stream   takes any number of pieces, none too (`frames pending -`); each is BYTES, so an empty piece is `-`.
   write    BUFLEN TYPE PAIR..; TYPE is the MsgType in BYTES (`30` is a Heartbeat, `-` an empty type); PAIR is a NUMBER,
            `=`, then `n` NUMBER or `b` BYTES. The call has a place for 21 tags: 7 16 34 36 45 108 371 373 1409 are taken
            with `n` alone, 43 49 52 56 58 98 112 122 123 141 372 1137 with `b` alone. For one of these 21 the other
            letter is `error`, and so is giving it twice; this holds whatever the type. For any other tag both letters
            are readable, any number of times, and the answer is `refusal 8`.
-  report   TIME BUFLEN RECORD VALUES.. (Q-1); the values in any order: a NUMBER, `=`, then `b` BYTES or `d` NUMBER `.`
+  report   TIME BUFLEN RECORD VALUES.. (Q-1), with Q-4 a STORE behind the RECORD; the values in any order: a NUMBER, `=`, then `b` BYTES or `d` NUMBER `.`
            NUMBER; and `party=` with three BYTES and a comma between them, once for each party in order. The call has a
            place for eleven tags: 31 32 are taken with `d` alone, 22 48 54 60 64 571 574 828 1427 with `b` alone. For one
            of these the other letter is `error`, and so is giving it twice. For any other tag, also 552, 453 and those of
@@ -30,12 +33,15 @@ import re
 
 from .decimals import Decimal
 from .dictionary import DECIMALS, FROM_ONE, FROM_ZERO
+from .landed import LANDED
 from .record import Record
 from .report import PARTY_TAGS, VALUE_TAGS, Values
+from .store import PLACE
 from .writer import WRITER_TAGS
 
 GREATEST_WORD = 2 ** 64 - 1
 GREATEST_ROOM = 1_048_576
+RECORD_WORDS = 9 if 4 in LANDED else 7
 NUMBER = re.compile(r"0|[1-9][0-9]{0,19}")
 WRITER_NUMBERS = {tag for tag in WRITER_TAGS if tag in FROM_ONE or tag in FROM_ZERO}
 
@@ -88,8 +94,30 @@ def in_hex(value):
 
 
 def in_words(record):
-    return (f"{in_hex(record.ours)} {in_hex(record.peer)} {record.status} {record.expected} {record.next_out}"
-            f" {record.heartbeat} {record.last_sent}")
+    words = (f"{in_hex(record.ours)} {in_hex(record.peer)} {record.status} {record.expected} {record.next_out}"
+             f" {record.heartbeat} {record.last_sent}")
+    return f"{words} {record.at} {record.to}" if 4 in LANDED else words
+
+
+# ---- The store ------------------------------------------------------------------------------------------------------
+
+def store_of(word):
+    length, *places = word.split(",")
+    store = bytearray(number_of(length, GREATEST_ROOM))
+    met = set()
+    for place in places:
+        number, equals, value = place.partition("=")
+        at, value = PLACE * number_of(number), bytes_of(value)
+        if not equals or at in met or at >= len(store) or len(value) > min(PLACE, len(store) - at):
+            raise Unreadable
+        store[at:at + len(value)] = value
+        met.add(at)
+    return bytes(store)
+
+
+def store_word(store):
+    places = (store[at:at + PLACE].rstrip(b"\0") for at in range(0, len(store), PLACE))
+    return ",".join([str(len(store)), *(f"{number}={place.hex()}" for number, place in enumerate(places) if place)])
 
 
 # ---- The values of a report -----------------------------------------------------------------------------------------
