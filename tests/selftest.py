@@ -9,11 +9,11 @@ import sys
 sys.dont_write_bytecode = True
 
 import model
-from worked import (basics, calls, decimals, desk, frames, kinds, lines, report_lines, reporting, reports, reports_in, rules,
-                    verdicts, waiting, writer)
+from worked import (basics, calls, decimals, desk, frames, kinds, lines, replays, report_lines, reporting, reports, reports_in,
+                    rules, store_lines, stores, verdicts, waiting, writer)
 
 CASES = [desk, frames, verdicts, kinds, waiting, rules, calls, writer, lines]
-OF_REQUESTS = {1: [decimals, reports, reports_in, reporting, report_lines]}
+OF_REQUESTS = {1: [decimals, reports, reports_in, reporting, report_lines], 4: [stores, replays, store_lines]}
 
 
 def main():

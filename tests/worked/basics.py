@@ -5,6 +5,9 @@ from model import ACTIVE, Record
 HELD = 0
 AT = 1_704_187_800_000_000                              # 20240102-09:30:00.000000
 NOW = "20240102-09:30:00.000000"
+ROOM = model.LEAST_REPLY_ROOM
+NONE_RUNNING = " 0 0" if 4 in model.LANDED else ""      # behind the first seven words of a record, and an empty store
+LENT = " 32768" if 4 in model.LANDED else ""            # behind a whole one
 
 
 def same(got, wanted):
@@ -63,11 +66,11 @@ F_FIELDS, AD_FIELDS = FIELDS["F"], FIELDS["AD"]
 
 # ---- Session --------------------------------------------------------------------------------------------------------
 
-def record(status=ACTIVE, expected=5, next_out=3, heartbeat=30, last=7):
-    return Record(b"GW", b"MM", status, expected, next_out, heartbeat, last)
+def record(status=ACTIVE, expected=5, next_out=3, heartbeat=30, last=7, at=0, to=0):
+    return Record(b"GW", b"MM", status, expected, next_out, heartbeat, last, at, to)
 
 
-def stepped(incoming, before=None, time=AT, room=512):
+def stepped(incoming, before=None, time=AT, room=ROOM):
     """(refusal, delivered, reply's bodies without header, record) of a step."""
     outcome = model.step(before or record(), framed(incoming), time, room)
     return outcome.refusal, outcome.delivered, bodies(outcome.reply), outcome.record

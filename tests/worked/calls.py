@@ -2,7 +2,7 @@
 import model
 from model import ACTIVE, CLOSED, WAITING, Record
 
-from .basics import AT, after, bodies, body, framed, record, same, stepped
+from .basics import AT, ROOM, after, bodies, body, framed, record, same, stepped
 
 
 def test_refusals_of_a_step_in_order():
@@ -15,18 +15,18 @@ def test_refusals_of_a_step_in_order():
     def refusal(before, frame, time, room):
         outcome = model.step(before, frame, time, room)
         return outcome.refusal, outcome.record == before, outcome.reply
-    same(refusal(broken, bad, late, 511), (11, True, b""))
-    same(refusal(used_up, bad, late, 511), (10, True, b""))
-    same(refusal(used_up, good, late, 511), (7, True, b""))
-    same(refusal(used_up, good, late - 1, 511), (6, True, b""))
-    same(refusal(used_up, good, late - 1, 512), (2, True, b""))
+    same(refusal(broken, bad, late, ROOM - 1), (11, True, b""))
+    same(refusal(used_up, bad, late, ROOM - 1), (10, True, b""))
+    same(refusal(used_up, good, late, ROOM - 1), (7, True, b""))
+    same(refusal(used_up, good, late - 1, ROOM - 1), (6, True, b""))
+    same(refusal(used_up, good, late - 1, ROOM), (2, True, b""))
     for status in WAITING, ACTIVE:
         for numbers in {"expected": 999_999_991}, {"next_out": 999_999_991}:
-            same(model.step(record(status=status, **numbers), good, late - 1, 512)[:4],
+            same(model.step(record(status=status, **numbers), good, late - 1, ROOM)[:4],
                  (5, False, b"", record(status=CLOSED, **numbers)))
-    same(model.step(record(next_out=999_999_990), framed(body("0", n=6)), AT, 512).record.next_out, 999_999_991)
+    same(model.step(record(next_out=999_999_990), framed(body("0", n=6)), AT, ROOM).record.next_out, 999_999_991)
     for frame in good + b"x", b"x" + good, b"", good + good:
-        same(refusal(record(), frame, AT, 512), (10, True, b""))
+        same(refusal(record(), frame, AT, ROOM), (10, True, b""))
 
 
 def test_ranges_of_the_record():
@@ -52,12 +52,12 @@ def test_new_and_reconnect():
 
 
 def test_tick():
-    def ticked(before, time=AT, room=512):
+    def ticked(before, time=AT, room=ROOM):
         return model.tick(before, time, room)[:4]
     late = 253_402_300_800_000_000
     for status in WAITING, ACTIVE, CLOSED:
-        same(ticked(record(status=status), late, 511), (7, False, b"", record(status=status)))
-        same(ticked(record(status=status), late - 1, 511), (6, False, b"", record(status=status)))
+        same(ticked(record(status=status), late, ROOM - 1), (7, False, b"", record(status=status)))
+        same(ticked(record(status=status), late - 1, ROOM - 1), (6, False, b"", record(status=status)))
     for status in WAITING, CLOSED:
         for numbers in {}, {"expected": 999_999_991}:
             same(ticked(record(status=status, **numbers)), (None, False, b"", record(status=status, **numbers)))
@@ -83,10 +83,10 @@ def test_the_largest_reply():
     header = f"49={'M' * 11}|56={'G' * 11}|34={{n}}|52=20240102-09:30:00|"
 
     def size(incoming, start=before):
-        return len(model.step(start, framed(incoming), AT, 512).reply)
+        return len(model.step(start, framed(incoming), AT, ROOM).reply)
     logging_on = model.reconnect(before)[1]
     sizes = [size(body("2", f"7={n - 1}|16=0|", n=n, header=header)),
              size(body("AD", n=n, header=header.replace("G" * 11, "G"))),
              size(body("1", f"112={'x' * 64}|", n=e, header=header)),
              size(body("A", "98=0|108=60|1137=9|", n=n, header=header), logging_on)]
-    same(max(sizes), 269)
+    same(max(sizes), 241 if 4 in model.LANDED else 269)             # no gap fill stands before another then

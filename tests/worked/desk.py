@@ -1,7 +1,7 @@
 """The desk examples W1 to W12, and those that document 01 has run by a program."""
 import model
 
-from .basics import AT, F_FIELDS, HEADER, NOW, PARTY, after, body, finding, framed, is_good, raw, record, same, stepped
+from .basics import AT, F_FIELDS, HEADER, NOW, PARTY, ROOM, after, body, finding, framed, is_good, raw, record, same, stepped
 
 
 def test_desk_examples_of_frames():
@@ -17,7 +17,7 @@ def test_desk_examples_of_frames():
 def test_desk_examples_of_the_session():
     w6 = raw("8=FIXT.1.1|9=50|35=0|49=GW|56=MM|34=2|52=20240102-09:30:00.000000|10=207|")
     same(len(w6), 73)                                                                                           # W6
-    same(model.tick(record(next_out=2, last=0), AT, 512).reply, w6)
+    same(model.tick(record(next_out=2, last=0), AT, ROOM).reply, w6)
     values = {49: b"GW", 56: b"MM", 34: 2, 52: NOW.encode()}
     same(model.write(73, b"0", values), (None, w6))
     same(model.write(72, b"0", values), (9, None))

@@ -1,5 +1,5 @@
 """Steps while Active: the six rules, rule 6 by type, serving."""
-from model import CLOSED
+from model import CLOSED, LANDED
 
 from .basics import AT, HEADER, after, body, raw, record, same, stepped
 
@@ -42,10 +42,18 @@ def test_rule_4():
         same(stepped(body(msg_type, n=6)), (None, False, ["35=2|34=3|" + ours], after(wrote=1)))
     same(stepped(body("4", "36=9|123=Y|", n=6)), (None, False, ["35=2|34=3|" + ours], after(wrote=1)))
     same(stepped(raw("35=ZZ|49=MM|56=GW|34=6|")), (None, False, ["35=2|34=3|" + ours], after(wrote=1)))
-    fill = "35=4|34=1|43=Y|122=NOW|123=Y|36=3|"
-    same(stepped(body("2", "7=1|16=0|", n=6)), (None, False, [fill, "35=2|34=3|" + ours], after(wrote=1)))
+    fills, place = served(1, 2)
+    same(stepped(body("2", "7=1|16=0|", n=6)), (None, False, [*fills, "35=2|34=3|" + ours], after(wrote=1, **place)))
     for fields in "7=3|16=0|", "7=2|16=1|", "7=0|16=0|", "7=1|", "7=1|16=0|58=x|":
         same(stepped(body("2", fields, n=6)), (None, False, ["35=2|34=3|" + ours], after(wrote=1)))
+
+
+def served(begin, last):
+    """What a step that serves these numbers writes for it, and what it changes in the record: one gap fill; with Q-4
+    nothing, and the place of a replay."""
+    if 4 in LANDED:
+        return [], {"at": begin, "to": last}
+    return [f"35=4|34={begin}|43=Y|122=NOW|123=Y|36={last + 1}|"], {"last": AT}
 
 
 def test_rule_5():
@@ -85,12 +93,12 @@ def test_rule_6_by_type():
 
 
 def test_serving():
-    def served(begin, end, next_out):
+    def asked(begin, end, next_out):
         return stepped(body("2", f"7={begin}|16={end}|"), record(next_out=next_out))
-    for begin, end, new in (1, 0, 10), (1, 5, 6), (1, 9, 10), (1, 50, 10), (9, 9, 10), (3, 3, 4):
-        same(served(begin, end, 10), (None, False, [f"35=4|34={begin}|43=Y|122=NOW|123=Y|36={new}|"],
-                                      after(expected=6, next_out=10, last=AT)))
+    for begin, end, last in (1, 0, 9), (1, 5, 5), (1, 9, 9), (1, 50, 9), (9, 9, 9), (3, 3, 3):
+        fills, changes = served(begin, last)
+        same(asked(begin, end, 10), (None, False, fills, after(expected=6, next_out=10, **changes)))
     for begin, end, next_out, tag in (1, 0, 1, 7), (10, 0, 10, 7), (10, 5, 10, 7), (5, 4, 10, 16), (5, 1, 10, 16):
-        same(served(begin, end, next_out),
+        same(asked(begin, end, next_out),
              (None, False, [f"35=3|34={next_out}|45=5|371={tag}|372=2|373=5|"],
               after(expected=6, next_out=next_out, wrote=1)))
