@@ -8,6 +8,7 @@ random source and gives request lines. `requests(seed)` mixes them by weight, wi
   writes       write; odd: lines that make no sense
   sides        Trade Capture Reports, and one fault in their groups; reports: report; reports_in: verdict, report-values
                and step with them
+  stores       what a place of a store may hold, and stores; replays: replay, report and step with them
   mixture      all of them, each file with its own weights
 
 A request of document 02 brings its generators in a file of its own, with its weights, behind those that are there.
@@ -15,6 +16,6 @@ A request of document 02 brings its generators in a file of its own, with its we
 from .basics import BAR, framed
 from .frames import read_every_front, read_length, read_noise, read_one, read_soup
 from .mixture import WEIGHTS, requests
-from .records import any_session, call_time, room
+from .records import any_session, any_store, call_time, room
 from .steps import step_any, step_not_one_frame
 from .verdicts import verdict_byte, verdict_faulty, verdict_length, verdict_noise

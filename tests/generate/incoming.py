@@ -1,7 +1,7 @@
 """A message that comes in to a session: its numbers and marks around the points where the moves turn."""
 from .basics import chance, hexed
 from .bodies import any_type, message
-from .records import call_time, room
+from .records import any_store, call_time, room
 from .values import NUMBER_EDGES, good_time
 
 
@@ -68,7 +68,9 @@ def incoming(r, session, msg_type=None):
     return message(r, msg_type, given)
 
 
-def asked_step(r, session, frame, time=None, lent=None):
+def asked_step(r, session, frame, time=None, lent=None, store=None):
     time = call_time(r) if time is None else time
     lent = room(r) if lent is None else lent
-    return f"step {time} {lent} {hexed(frame)} {session.words()}"
+    session.replaying(r, 0.15 if session.place == (0, 0) else 0)
+    store = any_store(r) if store is None else store
+    return f"step {time} {lent} {hexed(frame)} {session.words()}{store}"

@@ -1,13 +1,14 @@
 """The mixture of all generators by their weights, behind the desk examples and the listed odd lines."""
 import random
 
-from model import LANDED
+from model import LANDED, LEAST_REPLY_ROOM
 
-from . import frames, odd, records, reports, reports_in, steps, verdicts, writes
-from .basics import CALL_TIME, chance, framed, hexed
+from . import frames, odd, records, replays, reports, reports_in, steps, verdicts, writes
+from .basics import CALL_TIME, LENT, NONE_RUNNING, chance, framed, hexed
 
 # In this order: a seed's requests depend on it. Those of the requests of document 02 behind the others.
-PARTS = [frames, verdicts, records, steps, writes, odd] + ([reports, reports_in] if 1 in LANDED else [])
+PARTS = [frames, verdicts, records, steps, writes, odd] + ([reports, reports_in] if 1 in LANDED else []) \
+    + ([replays] if 4 in LANDED else [])
 WEIGHTS = {generator: weight for part in PARTS for generator, weight in part.WEIGHTS.items()}
 
 
@@ -21,11 +22,12 @@ def desk_requests():
     for line in ("8=FIXT.1.1|9=5|35=0|10=241|", "8=FIXT.1.1|9=5|35=0|10=242|", "8=FIXT.1.1|9=05|35=0|10=241|", "",
                  "8=FIXT.1.1|9=40|8=FIXT.1.1|9=5|35=0|10=241|"):
         yield "read " + hexed(whole(line))
-    yield f"tick {CALL_TIME} 512 4757 4d4d 1 1 2 30 0"
-    yield f"step {CALL_TIME} 512 {hexed(framed(whole(report)))} 4757 4d4d 1 32768 1 30 0"
+    call, behind = f"{CALL_TIME} {LEAST_REPLY_ROOM}", NONE_RUNNING + LENT
+    yield f"tick {call} 4757 4d4d 1 1 2 30 0{NONE_RUNNING}"
+    yield f"step {call} {hexed(framed(whole(report)))} 4757 4d4d 1 32768 1 30 0{behind}"
     for body in ("35=0|" + header.format(7), "35=4|" + header.format(9) + "36=5|", "35=4|" + header.format(9) + "36=4|",
                  "35=4|" + header.format(5) + "36=5|123=Y|"):
-        yield f"step {CALL_TIME} 512 {hexed(framed(whole(body)))} 4757 4d4d 1 5 1 30 0"
+        yield f"step {call} {hexed(framed(whole(body)))} 4757 4d4d 1 5 1 30 0{behind}"
     yield "verdict " + hexed(whole(order + "453=2|448=P|447=D|452=1|"))
     yield "verdict " + hexed(whole(order + "453=1|447=D|448=P|452=1|"))
 

@@ -1,8 +1,10 @@
 """Lines that make no sense: listed ones, and requests with one character or one word changed."""
 from model import LANDED
 
+from .basics import LENT, NONE_RUNNING
 from .frames import read_one
 from .records import new_session, reconnect, tick
+from .replays import replay_some, report_stored
 from .reports import report_clean, report_parties
 from .steps import step_any
 from .verdicts import verdict_clean
@@ -19,20 +21,23 @@ ODD_LINES = ("", " ", "read", "read ", " read -", "read  -", "read - -", "READ -
              "write 512 - 9999=c1", "write 512 30 9999=n1 9999=b-", "write 512 30 34=N1", "write 512 30 49=B41",
              "write 1048576 30", "write 1048577 30", "write 18446744073709551615 30", "write 512 30 0=n0",
              "write 512 30 18446744073709551616=n0", "write 512 30 34=n18446744073709551616",
-             "write 512 30 34=n99999999999999999999999999", "tick 0 512 47 4d 0 1 1 30",
-             "tick 0 512 47 4d 0 1 1 30 0 0", "tick 0 1048577 47 4d 0 1 1 30 0", "tick 0 1048576 47 4d 0 1 1 30 0",
-             "tick 00 512 47 4d 0 1 1 30 0", "tick 0 0512 47 4d 0 1 1 30 0", "tick - 512 47 4d 0 1 1 30 0",
-             "tick 18446744073709551616 512 47 4d 0 1 1 30 0", "step 0 512 - 47 4d 0 1 1 30",
-             "step 0 512 3 47 4d 0 1 1 30 0", "step 0 1048577 - 47 4d 0 1 1 30 0", "reconnect 47 4d 0 1 1 30",
-             "reconnect 47 4d 0 1 1 30 +1", "reconnect 47 4d -0 1 1 30 1", "reconnect 4 4d 0 1 1 30 1",
-             "reconnect 47 4D 0 1 1 30 1", "reconnect 47 4d 0 1 1 30 1 ", "reconnect 47 4d 0 1 1 30 1a")
+             "write 512 30 34=n99999999999999999999999999", *(f"tick {front} 47 4d {words}{NONE_RUNNING}" for front, words in (
+                 ("0 600", "0 1 1 30"), ("0 600", "0 1 1 30 0 0"), ("0 1048577", "0 1 1 30 0"), ("0 1048576", "0 1 1 30 0"),
+                 ("00 600", "0 1 1 30 0"), ("0 0600", "0 1 1 30 0"), ("- 600", "0 1 1 30 0"),
+                 ("18446744073709551616 600", "0 1 1 30 0"))),
+             *(f"step {front} 47 4d {words}{NONE_RUNNING}{LENT}" for front, words in (
+                 ("0 600 -", "0 1 1 30"), ("0 600 3", "0 1 1 30 0"), ("0 1048577 -", "0 1 1 30 0"))),
+             *(f"reconnect {words}{NONE_RUNNING}" for words in (
+                 "47 4d 0 1 1 30", "47 4d 0 1 1 30 +1", "47 4d -0 1 1 30 1", "4 4d 0 1 1 30 1", "47 4D 0 1 1 30 1",
+                 "47 4d 0 1 1 30 1 ", "47 4d 0 1 1 30 1a")))
 CHANGED = (step_any, tick, reconnect, write_clean, verdict_clean, read_one, new_session)
 if 1 in LANDED:
-    ODD_LINES += ("landed", "landed ", "landed 1", "fixt landed", "Landed", "report", "report 0 512 47 4d 1 1 1 30",
-                  "report 0 512 47 4d 1 1 1 30 0", "fixt report 0 0 47 4d 1 1 1 30 0", "report 0 1048577 47 4d 1 1 1 30 0",
-                  "report 0 1048576 47 4d 1 1 1 30 0", "report 00 512 47 4d 1 1 1 30 0", "report 0 512 47 4d 1 1 1 30 0 ",
+    ON = f"47 4d 1 1 1 30 0{NONE_RUNNING}{LENT}"
+    ODD_LINES += ("landed", "landed ", "landed 1", "fixt landed", "Landed", "report",
+                  f"report 0 512 47 4d 1 1 1 30{NONE_RUNNING}{LENT}", f"report 0 512 {ON}", f"fixt report 0 0 {ON}",
+                  f"report 0 1048577 {ON}", f"report 0 1048576 {ON}", f"report 00 512 {ON}", f"report 0 512 {ON} ",
                   "report-values", "report-values -", "report-values - -", "report-values 3", "report_values -",
-                  *("report 0 512 47 4d 1 1 1 30 0 " + words for words in (
+                  *(f"report 0 512 {ON} {words}" for words in (
                       "571", "571=", "571=b", "571=b4", "571=bA1", "571=n1", "571=d1.0", "0571=b41", "=b41",
                       "571=b41 571=b41", "571=b- 571=b-", "31=b31", "31=d", "31=d1", "31=d1.", "31=d.1", "31=d.",
                       "31=d01.0", "31=d1.00", "31=d-1.0", "31=d1.0.0", "31=n1", "31=D1.0",
@@ -43,6 +48,20 @@ if 1 in LANDED:
                       "party=-,-,-", "party=41,,31", "party=b41,44,31", "Party=41,44,31", "party=41,44,3",
                       "party =41,44,31", "18446744073709551616=b-", "0=b-", " 571=b41", "571=b41 ")))
     CHANGED += (report_clean, report_parties)
+if 4 in LANDED:
+    RUNNING = "47 4d 1 1 9 30 0 2 8"
+    ODD_LINES += ("replay", f"replay 0 600 {RUNNING}", f"replay 0 600 {RUNNING} 32768", f"fixt replay 0 600 {RUNNING} 32768",
+                  f"replay 0 600 {RUNNING} 32768 ", f"replay 0 600 {RUNNING} 32768 32768", f"replay 0 {RUNNING} 32768",
+                  f"replay 0 600 {RUNNING} 8 32768", f"tick 0 600 {RUNNING} 32768", f"step 0 600 - {RUNNING}",
+                  f"reconnect {RUNNING}", f"reconnect {RUNNING} 32768", "reconnect 47 4d 1 1 9 30 0 2",
+                  *(f"replay 0 600 {RUNNING} {store}" for store in (
+                      "-", "x", "0", "1", "32767", "32769", "1048576", "1048577", "032768", "32768,", "32768,0", "32768,0=",
+                      "32768,=41", "32768,0=4", "32768,0=4G", "32768,0=4A", ",0=41", "32768,00=41", "32768,-1=41", "32768,63=41",
+                      "32768,64=41", "32768,64=-", f"32768,0={'41' * 512}", f"32768,0={'41' * 513}", "32768,0=41,0=42",
+                      "32768,0=-,0=-", "32768,0=-", "32768,0=00", "32768,1=41,0=42", "32768,0=41,", "32768,,0=41", "32768;0=41",
+                      "32768,0=41=42", "32768,18446744073709551616=41", "32768,0=41,1=4", f"32767,63={'41' * 511}",
+                      f"32767,63={'41' * 512}", "0,0=-", "1,0=-", "1,0=41", "1,0=4142", "1048576,2047=41", "1048576,2048=41")))
+    CHANGED += (replay_some, report_stored)
 
 
 def error_listed(r):

@@ -1,7 +1,7 @@
 """Records to ask about, in their ranges and out of them, and the requests `new`, `reconnect` and `tick` on them."""
-from model import ACTIVE, CLOSED, WAITING
+from model import ACTIVE, CLOSED, LANDED, LEAST_REPLY_ROOM, RECORD_WORDS, STORE, WAITING
 
-from .basics import BAR, CALL_TIME, END, MAX, OURS, PEER, chance, hexed
+from .basics import BAR, CALL_TIME, END, LENT, MAX, OURS, PEER, chance, hexed, noise
 
 NUMBERS = (1, 2, 3, 5, 10, 99, 100, 255, 256, 32767, 32768, 65535, 65536, 16777216, 99999999, 100000000, 999999988,
            999999989, 999999990)
@@ -16,8 +16,9 @@ TIMES = (0, 1, 999999, 1000000, 86399999999, 86400000000, 951782399999999, 95178
          951868800000000, 1709164800000000, 1709251199999999, 1709251200000000, 4107456000000000, 4107542400000000,
          68169600000000, 253402214400000000, END - 1)
 LATE = (END, END + 1, 2 ** 63, MAX)
-ROOMS = (512, 513, 600, 1024)
-SHORT_ROOMS = (0, 1, 72, 73, 255, 256, 510, 511)
+ROOMS = (LEAST_REPLY_ROOM, LEAST_REPLY_ROOM + 1, 600, 1024)
+SHORT_ROOMS = (0, 1, 72, 73, 255, 256, LEAST_REPLY_ROOM - 2, LEAST_REPLY_ROOM - 1, *([512] if 4 in LANDED else ()))
+BAD_STORES = (0, 1, 511, 512, STORE // 2, STORE - 512, STORE - 1, STORE + 1, STORE + 512, 2 * STORE, 1_048_576)
 
 
 class Session:
@@ -31,22 +32,64 @@ class Session:
             setattr(self, r.choice(("expected", "next_out")), r.choice(USED_UP))
         self.heartbeat = r.choice((1, 2, 30, 59, 60))
         self.last = r.choice((0, 1, CALL_TIME, CALL_TIME - 30000000, END, MAX))
+        self.at = self.to = 0
+
+    def replaying(self, r, share=1.0):
+        """By chance a replay is running, where one can."""
+        if 4 in LANDED and self.status == ACTIVE and self.next_out > 1 and chance(r, share):
+            last = self.next_out - 1
+            self.to = r.choice((last, last, r.randint(1, last), max(1, last - r.randrange(70))))
+            self.at = r.choice((1, self.to, r.randint(1, self.to), max(1, self.to - r.randrange(70))))
+        return self
 
     def spoil(self, r):
-        """One of the seven out of its range."""
+        """One of the seven out of its range, or the place of a replay."""
         name, values = r.choice((("ours", BAD_COMP_IDS), ("peer", BAD_COMP_IDS), ("status", BAD_STATUSES),
-                                 ("expected", BAD_NUMBERS), ("next_out", BAD_NUMBERS), ("heartbeat", BAD_HEARTBEATS)))
+                                 ("expected", BAD_NUMBERS), ("next_out", BAD_NUMBERS), ("heartbeat", BAD_HEARTBEATS),
+                                 *([("place", self.bad_places())] * 3 if 4 in LANDED else ())))
         setattr(self, name, r.choice(values))
         return self
 
+    def bad_places(self):
+        out = self.next_out
+        return ((0, 1), (1, 0), (2, 1), (0, out - 1 or 1), (1, out), (out, out), (out - 1 or 1, out), (1, MAX), (MAX, MAX),
+                (MAX, 1), (1, 2 ** 32 + 1), (2 ** 32 + 1, 2 ** 32 + 1), (2 ** 63, 2 ** 63))
+
+    @property
+    def place(self):
+        return self.at, self.to
+
+    @place.setter
+    def place(self, value):
+        self.at, self.to = value
+
     def words(self):
-        return (f"{hexed(self.ours)} {hexed(self.peer)} {self.status} {self.expected} {self.next_out} {self.heartbeat}"
-                f" {self.last}")
+        words = (f"{hexed(self.ours)} {hexed(self.peer)} {self.status} {self.expected} {self.next_out} {self.heartbeat}"
+                 f" {self.last}")
+        return f"{words} {self.at} {self.to}" if 4 in LANDED else words
 
 
 def any_session(r, spoilt=0.03):
     session = Session(r)
     return session.spoil(r) if chance(r, spoilt) else session
+
+
+def any_store(r):
+    """A store behind a record, as a word with its space: most often empty, seldom with any bytes or of another length."""
+    if 4 not in LANDED or chance(r, 0.9):
+        return LENT
+    if chance(r, 0.2):
+        return f" {r.choice(BAD_STORES)}"
+    places = r.sample(range(64), r.choice((1, 1, 2, 5)))
+    return LENT + "".join(f",{place}={hexed(noise(r, r.choice((0, 1, 20, 511, 512))))}" for place in places)
+
+
+def left_by(request, answer, store):
+    """The record and the store, as words, that an answer leaves."""
+    words = answer.split(" ")
+    if 4 in LANDED and words[0] == "ok" and request.startswith(("step", "report")):
+        store = " " + words.pop()
+    return " ".join(words[-RECORD_WORDS:]), store
 
 
 def call_time(r):
@@ -67,11 +110,13 @@ def new_session(r):
 
 
 def reconnect(r):
-    yield "reconnect " + any_session(r, spoilt=0.5).words()
+    session = any_session(r, spoilt=0.5)
+    yield "reconnect " + session.replaying(r, 0.2 if session.place == (0, 0) else 0).words()
 
 
 def tick(r):
     session, time = any_session(r), call_time(r)
+    session.replaying(r, 0.2 if session.place == (0, 0) else 0)
     due = session.heartbeat * 1000000
     last = r.choice((0, time - due - 1, time - due, time - due + 1, time - 1, time, time + 1, END, MAX))
     session.last = min(max(0, last), MAX)
@@ -80,7 +125,7 @@ def tick(r):
 
 def tick_status(r):
     """Every status with used up numbers, a short room and a late time by turns."""
-    session = Session(r, r.choice((WAITING, ACTIVE, CLOSED)))
+    session = Session(r, r.choice((WAITING, ACTIVE, CLOSED))).replaying(r, 0.2)
     if chance(r, 0.5):
         session.expected = r.choice(USED_UP + (999999990,))
     else:

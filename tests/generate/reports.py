@@ -1,10 +1,10 @@
 """The request `report` (Q-1): values clean, at an edge, absent, of no report, as long as may be; every refusal."""
 import model
-from model import ACTIVE, CLOSED, WAITING
+from model import ACTIVE, CLOSED, LEAST_REPLY_ROOM, WAITING
 
-from .basics import BAR, CALL_TIME, END, MAX, OURS, PEER, chance, filler, framed, hexed, joined
+from .basics import BAR, CALL_TIME, END, LENT, MAX, NONE_RUNNING, OURS, PEER, chance, filler, framed, hexed, joined
 from .incoming import incoming
-from .records import USED_UP, Session, any_session, call_time
+from .records import USED_UP, Session, any_session, any_store, call_time, left_by
 from .values import edge_value, good_decimal, good_value
 
 LISTED = model.ENTRIES.get(b"AE", {})       # there is no report before Q-1 lands
@@ -41,8 +41,9 @@ def good_party(r):
     return tuple(good_value(r, tag, LISTED[tag]) for tag in model.PARTY_TAGS)
 
 
-def asked(r, session, report, time, lent):
-    return " ".join(filter(None, ["report", str(time), str(lent), session.words(), report.words(r)]))
+def asked(r, session, report, time, lent, store=None):
+    store = any_store(r) if store is None else store
+    return " ".join(filter(None, ["report", str(time), str(lent), session.words() + store, report.words(r)]))
 
 
 def answered(session, report, time, lent=4096):
@@ -187,19 +188,21 @@ def report_several_refusals(r):
 
 def report_along(r):
     """A session as it goes, with reports among its steps and ticks: each takes the record that the one before gave."""
-    words, time = "4757 4d4d 1 1 1 30 0", r.choice((0, CALL_TIME))
+    words, store, time = "4757 4d4d 1 1 1 30 0" + NONE_RUNNING, LENT, r.choice((0, CALL_TIME))
     for _ in range(r.randint(3, 12)):
         time += r.choice((0, 1, 999999, 1000000, 30000000))
         session, report = Session(r, ACTIVE), Report(r)
         session.ours, session.peer = OURS, PEER
         status, session.expected, session.next_out = map(int, words.split(" ")[2:5])
         frame = framed(joined(incoming(r, session, b"A" if status == WAITING else None)))
-        request = r.choice((f"report {time} 512 {words} {report.words(r)}", f"report {time} 512 {words} {report.words(r)}",
-                            f"step {time} 512 {hexed(frame)} {words}", f"tick {time} 512 {words}"))
+        request = r.choice((f"report {time} 512 {words}{store} {report.words(r)}",
+                            f"report {time} 512 {words}{store} {report.words(r)}",
+                            f"step {time} {LEAST_REPLY_ROOM} {hexed(frame)} {words}{store}",
+                            f"tick {time} {LEAST_REPLY_ROOM} {words}"))
         if status == CLOSED and chance(r, 0.7):
             request = f"reconnect {words}"
         yield request
-        words = " ".join(model.answer(request).split(" ")[-7:])
+        words, store = left_by(request, model.answer(request), store)
 
 
 def written_body(r):

@@ -1,14 +1,15 @@
 """The request `step`: each rule, each refusal, and sessions as they go."""
 import model
-from model import ACTIVE, CLOSED, MARK, WAITING
+from model import ACTIVE, CLOSED, LEAST_REPLY_ROOM, MARK, WAITING
 
-from .basics import BAR, CALL_TIME, END, MAX, OURS, PEER, TYPES, byte_mutated, chance, framed, hexed, joined
+from .basics import (BAR, CALL_TIME, END, LENT, MAX, NONE_RUNNING, OURS, PEER, TYPES, byte_mutated, chance, framed, hexed,
+                     joined)
 from .bodies import any_type, message, part, tag_of
 from .faults import double, drop, faulty, put_in, replace_by_edge
 from .frames import long_frame, soup
 from .groups import GROUP_FAULTS, with_group
 from .incoming import asked_step, duplicate_marks, incoming, near, number_in, resend_range, text
-from .records import USED_UP, Session, any_session
+from .records import BAD_STORES, USED_UP, Session, any_session, left_by
 from .values import edge_value, good_time
 
 
@@ -91,7 +92,7 @@ def step_active_clean(r):
     given = {49: session.peer, 56: session.ours, 34: n}
     given.update(resend_range(r, session) if msg_type == b"2" else {})
     given.update({36: near(r, session.expected), 123: r.choice((None, b"Y", b"N"))} if msg_type == b"4" else {})
-    yield asked_step(r, session, framed(joined(message(r, msg_type, given))), lent=512)
+    yield asked_step(r, session, framed(joined(message(r, msg_type, given))), lent=LEAST_REPLY_ROOM)
 
 
 def step_duplicate(r):
@@ -144,7 +145,8 @@ def step_several_refusals(r):
         session.next_out = r.choice(USED_UP)
     frame = byte_mutated(r, frame) if chance(r, 0.3) else frame
     time = r.choice((CALL_TIME, CALL_TIME, END - 1, END, MAX))
-    yield asked_step(r, session, frame, time, r.choice((512, 512, 512, 511, 0)))
+    store = f" {r.choice(BAD_STORES)}" if LENT and chance(r, 0.3) else LENT
+    yield asked_step(r, session, frame, time, r.choice((LEAST_REPLY_ROOM,) * 3 + (LEAST_REPLY_ROOM - 1, 0)), store)
 
 
 def step_longest_reply(r):
@@ -153,13 +155,13 @@ def step_longest_reply(r):
     session.ours, session.peer = b"G" * 11, b"M" * 11
     session.expected, session.next_out = r.choice((999999989, 999999990)), r.choice((999999989, 999999990))
     parts = incoming(r, session)
-    yield asked_step(r, session, framed(joined(parts)), END - 1, 512)
+    yield asked_step(r, session, framed(joined(parts)), END - 1, LEAST_REPLY_ROOM)
 
 
 def step_along(r):
     """A session as it goes: each step, tick or reconnect takes the record that the one before gave."""
-    words = "4757 4d4d 0 1 1 30 0"
-    time = r.choice((0, CALL_TIME))
+    words, store = "4757 4d4d 0 1 1 30 0" + NONE_RUNNING, LENT
+    time, room = r.choice((0, CALL_TIME)), LEAST_REPLY_ROOM
     for _ in range(r.randint(3, 15)):
         time += r.choice((0, 1, 999999, 1000000, 29999999, 30000000, 60000000))
         session = Session(r, ACTIVE)
@@ -167,12 +169,11 @@ def step_along(r):
         status, session.expected, session.next_out = map(int, words.split(" ")[2:5])
         msg_type = b"A" if status == WAITING and chance(r, 0.9) else any_type(r)
         frame = framed(joined(incoming(r, session, msg_type)))
-        request = r.choice((f"step {time} 512 {hexed(frame)} {words}", f"step {time} 512 {hexed(frame)} {words}",
-                            f"step {time} 512 {hexed(frame)} {words}", f"tick {time} 512 {words}"))
+        request = f"tick {time} {room} {words}" if chance(r, 0.25) else f"step {time} {room} {hexed(frame)} {words}{store}"
         if status == CLOSED and chance(r, 0.8):
             request = f"reconnect {words}"
         yield request
-        words = " ".join(model.answer(request).split(" ")[-7:])
+        words, store = left_by(request, model.answer(request), store)
 
 
 # How often each comes, beside the others of mixture.py.
