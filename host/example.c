@@ -21,9 +21,10 @@ enum {
 
 struct line;
 
-/* What the venue keeps of each peer. A real one keeps the record on disk. */
+/* What the venue keeps of each peer. A real one keeps the record and the store on disk, together. */
 struct desk {
     struct fixgw_session record;
+    uint8_t store[FIXGW_STORE];             /* the last reports to this peer, for those that it asks for again */
     struct line *line;                      /* NULL while none is up */
 };
 
@@ -46,6 +47,7 @@ static struct desk *desks;
 static size_t desk_count;
 static uint64_t cancels, trade_requests, reports;
 static struct desk *late[TRADES];           /* to whom a trade is still to be told; NULL: to nobody */
+static bool answers_requests;               /* whether a Trade Capture Report Request is answered with the trades */
 
 /* How long ago; nothing for a clock that went back. */
 static uint64_t since(uint64_t then, uint64_t time)
@@ -71,12 +73,24 @@ static bool send_out(const struct line *line, const uint8_t *bytes, size_t len)
     return true;
 }
 
-/* A real venue writes the record to disk here, with the frame if one is delivered, and answers false if it cannot. */
-static bool keep(struct desk *desk, const struct fixgw_session *record, const struct message *delivered)
+/* A real venue writes the record to disk here, with the store unless that is NULL, since only a step and a report can
+   change it, and with the frame if one is delivered; all in one go. It answers false if it cannot. */
+static bool keep(struct desk *desk, const struct fixgw_session *record, const uint8_t *store,
+                 const struct message *delivered)
 {
     (void)delivered;
     desk->record = *record;
+    if (store)
+        memcpy(desk->store, store, FIXGW_STORE);
     return true;
+}
+
+/* A copy of the store for a call that may change it. */
+static uint8_t *copy_of_store(const struct desk *desk)
+{
+    static uint8_t copy[FIXGW_STORE];
+    memcpy(copy, desk->store, FIXGW_STORE);
+    return copy;
 }
 
 /* A real venue hands the message to its order book or its trade desk here. */
@@ -166,7 +180,7 @@ static const char *why_not_admitted(struct line *line, const struct message *mes
     if (desk->line)
         return "this peer has a line up already";
     struct fixgw_session record = desk->record;
-    if (fixgw_session_reconnect(&record) || !keep(desk, &record, NULL))
+    if (fixgw_session_reconnect(&record) || !keep(desk, &record, NULL, NULL))
         return "its record is damaged, or cannot be kept";
     desk->line = line;
     line->desk = desk;
@@ -187,9 +201,10 @@ static bool is_admitted(struct line *line, uint64_t time, const struct message *
 
 /* ---- Messages of the venue's own --------------------------------------------------------------------------------- */
 
-/* A message that answers none: what the call that wrote it left of the record, and the message itself. */
+/* A message that answers none: what the call that wrote it left of the record and of the store, and the message. */
 struct own {
     struct fixgw_session record;
+    uint8_t *store;                         /* NULL: as it was */
     uint8_t bytes[FIXGW_LEAST_REPLY_ROOM];
     uint64_t len[1];
 };
@@ -199,7 +214,7 @@ static void send_own(struct line *line, uint64_t time, const struct own *own, ui
 {
     if (!refusal && own->len[0] == 0)
         return;
-    if (!keep(line->desk, &own->record, NULL)) {
+    if (!keep(line->desk, &own->record, own->store, NULL)) {
         hang_up(line, time, "the host hangs up: the record cannot be kept, so nothing is sent");
         return;
     }
@@ -240,12 +255,12 @@ static void fill(struct fixgw_report_draft *draft, const struct trade *trade)
 }
 
 /* What the ledger says of a report that goes out, read back from it. */
-static void explain_report(const struct own *own, char *words, size_t room)
+static void explain_report(const struct own *own, const char *front, char *words, size_t room)
 {
     struct message message = message_of(own->bytes, own->len[0]);
     struct trade_report report = { { 0 }, message.body };
     uint64_t out[3];
-    size_t used = (size_t)snprintf(words, room, "the venue reports ");
+    size_t used = (size_t)snprintf(words, room, "%s", front);
     fixgw_report_values(message.body, message.body_len, report.values, out);
     trade_words(&report, words + used, room - used);
 }
@@ -254,17 +269,18 @@ static void explain_report(const struct own *own, char *words, size_t room)
 static void send_report(struct line *line, uint64_t time, const struct trade *trade)
 {
     char words[WORDS_ROOM];
-    struct own own = { .record = line->desk->record };
+    struct own own = { .record = line->desk->record, .store = copy_of_store(line->desk) };
     struct fixgw_report_draft draft;
     fill(&draft, trade);
-    uint32_t refusal = fixgw_session_report(&own.record, &draft, time, own.bytes, sizeof own.bytes, own.len);
+    uint32_t refusal = fixgw_session_report(&own.record, &draft, time, own.bytes, sizeof own.bytes, own.store,
+                                            FIXGW_STORE, own.len);
     if (refusal == FIXGW_REFUSED_VALUE || refusal == FIXGW_REFUSED_REPORT_LENGTH) {
         snprintf(words, sizeof words, "is not reported: refusal %u, %s", refusal, refusal_words(refusal));
         ledger_trade(time, trade->id, words);
         return;
     }
     if (!refusal) {
-        explain_report(&own, words, sizeof words);
+        explain_report(&own, "the venue reports ", words, sizeof words);
         reports++;
     }
     send_own(line, time, &own, refusal, words);
@@ -275,8 +291,7 @@ static bool is_logged_on(const struct desk *desk)
     return desk->line && desk->record.words[FIXGW_WORD_STATUS] == FIXGW_ACTIVE;
 }
 
-/* Tells the member of a trade. While it is away the trade waits: a report that is written then takes a number, and all
-   that the member would get for that is a gap fill. */
+/* Tells the member of a trade. While it is away the trade waits: it is told once it is sent, and nobody has to ask. */
 static void report_trade(const struct trade *trade, uint64_t time)
 {
     struct value member = { (const uint8_t *)trade->member, strlen(trade->member) };
@@ -291,6 +306,17 @@ static void report_trade(const struct trade *trade, uint64_t time)
     }
 }
 
+/* A member that asks for trades is told of those in the book, on a line that is served. */
+static void answer_request(struct line *line, uint64_t time, const struct message *in)
+{
+    const struct fixgw_session *record = &line->desk->record;
+    for (size_t i = 0; i < TRADES && answers_requests && line->state == UP; i++) {
+        struct value member = { (const uint8_t *)trades[i].member, strlen(trades[i].member) };
+        if (type_of(in) == FIXGW_TYPE_TRADE_CAPTURE_REPORT_REQUEST && is_comp_id(member, record->peer, record->peer_len))
+            send_report(line, time, &trades[i]);
+    }
+}
+
 /* The member is back: what waited goes out. */
 static void report_late(struct line *line, uint64_t time)
 {
@@ -301,9 +327,41 @@ static void report_late(struct line *line, uint64_t time)
         }
 }
 
+/* ---- What is sent again ------------------------------------------------------------------------------------------ */
+
+static void explain_replayed(const struct own *own, char *words, size_t room)
+{
+    struct message message = message_of(own->bytes, own->len[0]);
+    uint64_t from = number_in(first_field(&message, FIXGW_TAG_MSG_SEQ_NUM));
+    uint64_t behind = number_in(first_field(&message, FIXGW_TAG_NEW_SEQ_NO));
+    if (type_of(&message) == FIXGW_TYPE_TRADE_CAPTURE_REPORT)
+        explain_report(own, "replay: once more ", words, room);
+    else if (behind - from == 1)
+        snprintf(words, room, "replay: no report is kept under %lu: gap fill", (unsigned long)from);
+    else
+        snprintf(words, room, "replay: no report is kept under %lu to %lu: gap fill", (unsigned long)from,
+                 (unsigned long)(behind - 1));
+}
+
+/* A step has started a replay: it is worked off at once, message by message, each kept and sent before the next is
+   written. So it is over before the next frame is read, no report of a trade comes into it, and only a line that breaks
+   leaves it unfinished; the reconnect drops it then. */
+static void work_off_replay(struct line *line, uint64_t time)
+{
+    char words[WORDS_ROOM];
+    while (line->state == UP && line->desk->record.words[FIXGW_WORD_REPLAY_AT]) {
+        struct own own = { .record = line->desk->record };
+        uint32_t refusal = fixgw_session_replay(&own.record, time, own.bytes, sizeof own.bytes, line->desk->store,
+                                                FIXGW_STORE, own.len);
+        if (!refusal)
+            explain_replayed(&own, words, sizeof words);
+        send_own(line, time, &own, refusal, words);
+    }
+}
+
 /* ---- The loop ---------------------------------------------------------------------------------------------------- */
 
-/* The step is taken on a copy, so that what is in memory is what is on disk, also where keeping fails. */
+/* The step is taken on copies, so that what is in memory is what is on disk, also where keeping fails. */
 static void take_frame(struct line *line, uint64_t time, const uint8_t *frame, size_t len)
 {
     uint8_t reply[FIXGW_LEAST_REPLY_ROOM];
@@ -312,10 +370,11 @@ static void take_frame(struct line *line, uint64_t time, const uint8_t *frame, s
     if (!line->desk && !is_admitted(line, time, &in))
         return;
     struct step step = { .before = line->desk->record, .after = line->desk->record, .in = in };
-    step.refusal = fixgw_session_step(&step.after, frame, len, time, reply, sizeof reply, out);
+    uint8_t *store = copy_of_store(line->desk);
+    step.refusal = fixgw_session_step(&step.after, frame, len, time, reply, sizeof reply, store, FIXGW_STORE, out);
     step.delivered = out[0];
     take_reply(&step, reply, out[1]);
-    if (!keep(line->desk, &step.after, step.delivered ? &in : NULL)) {
+    if (!keep(line->desk, &step.after, store, step.delivered ? &in : NULL)) {
         hang_up(line, time, "the host hangs up: the record cannot be kept, so nothing is sent");
         return;
     }
@@ -326,6 +385,10 @@ static void take_frame(struct line *line, uint64_t time, const uint8_t *frame, s
     line->asked = 0;
     if (step.delivered)
         deliver(&in);
+    if (is_sent)
+        work_off_replay(line, time);
+    if (is_sent && step.delivered)
+        answer_request(line, time, &in);
     if (is_sent && step.before.words[FIXGW_WORD_STATUS] != FIXGW_ACTIVE)
         report_late(line, time);
     if (line->state != UP)
@@ -447,6 +510,7 @@ static void end_ledger(void)
 static uint32_t new_desk(struct desk *desk, const char *ours, const char *peer)
 {
     desk->line = NULL;
+    memset(desk->store, 0, sizeof desk->store);
     return fixgw_session_new(&desk->record, (const uint8_t *)ours, strlen(ours), (const uint8_t *)peer, strlen(peer));
 }
 
@@ -658,6 +722,7 @@ static int serve_all(uint16_t port, const char *ours, const char *peer)
     struct desk desk;
     desks = &desk;
     desk_count = 1;
+    answers_requests = true;
     if (new_desk(&desk, ours, peer))
         return complain("a CompID has 1 to 11 bytes");
     int listener = listen_on(port);

@@ -6,7 +6,7 @@ enum {
     INDENT = 24,                            /* of what stands below a row */
     MOST_SHOWN = 380,                       /* of bytes that are no message */
     WORDS = 200,
-    CHANGES = 240                           /* of four changes of any numbers */
+    CHANGES = 360                           /* of six changes of any numbers */
 };
 
 #define SECOND 1000000u
@@ -126,6 +126,8 @@ static void list_changes(const struct fixgw_session *before, const struct fixgw_
     add_change(changes, &used, "E", old[FIXGW_WORD_EXPECTED], new[FIXGW_WORD_EXPECTED]);
     add_change(changes, &used, "next out", old[FIXGW_WORD_NEXT_OUT], new[FIXGW_WORD_NEXT_OUT]);
     add_change(changes, &used, "heartbeat", old[FIXGW_WORD_HEARTBEAT], new[FIXGW_WORD_HEARTBEAT]);
+    add_change(changes, &used, "replay at", old[FIXGW_WORD_REPLAY_AT], new[FIXGW_WORD_REPLAY_AT]);
+    add_change(changes, &used, "replay to", old[FIXGW_WORD_REPLAY_TO], new[FIXGW_WORD_REPLAY_TO]);
     snprintf(changes + used, CHANGES - used, "%s]", used > 1 ? "" : "no change");
 }
 

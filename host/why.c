@@ -29,9 +29,10 @@ const char *refusal_words(uint32_t refusal)
     static const char *const words[] = {
         "taken", "no whole frame yet", "the session is Closed", "Waiting, and this is no Logon",
         "Waiting, and this Logon has an unreadable 34, wrong CompIDs or a verdict", "the numbers are used up",
-        "the reply buffer is under 512 bytes", "the time is past the year 9999",
+        "the reply buffer is under 600 bytes", "the time is past the year 9999",
         "a value that the dictionary would reject", "the buffer is shorter than the message",
         "not exactly one good frame", "the record breaks its ranges", "the report is longer than 512 bytes",
+        "a replay is running", "the store has not 32,768 bytes",
     };
     return refusal < sizeof words / sizeof words[0] ? words[refusal] : "a refusal that the documents do not have";
 }
@@ -74,7 +75,7 @@ static void explain_waiting(struct words *words, const struct step *step)
 {
     bool is_reset = holds(step, FIXGW_TAG_RESET_SEQ_NUM_FLAG, "Y"), is_taken = replies_with(step, 0, FIXGW_TYPE_LOGON);
     if (is_reset)
-        say(words, is_taken ? "Waiting, 141=Y and N = 1: Logon with 141=Y as number 1" :
+        say(words, is_taken ? "Waiting, 141=Y and N = 1: Logon with 141=Y as number 1, the store is zeroed" :
                               "Waiting, 141=Y and N is not 1: Logout");
     else if (!is_taken)
         say(words, "Waiting, N < E: Logout");
@@ -94,12 +95,33 @@ static void explain_reset(struct words *words, const struct step *step)
     say_reject(words, step);
 }
 
+/* Whether it is a Resend Request that can be served: its numbers were sent, and its end is not before its begin. */
+static bool is_served(const struct step *step)
+{
+    uint64_t begin = number_in(first_field(&step->in, FIXGW_TAG_BEGIN_SEQ_NO));
+    uint64_t end = number_in(first_field(&step->in, FIXGW_TAG_END_SEQ_NO));
+    return type_of(&step->in) == FIXGW_TYPE_RESEND_REQUEST && is_clean(&step->in)
+        && begin < step->before.words[FIXGW_WORD_NEXT_OUT] && (end == 0 || end >= begin);
+}
+
+/* The replay that was started, by the record. */
+static void say_replay(struct words *words, const struct step *step)
+{
+    say(words, "a replay of ");
+    say_number(words, step->after.words[FIXGW_WORD_REPLAY_AT]);
+    say(words, " to ");
+    say_number(words, step->after.words[FIXGW_WORD_REPLAY_TO]);
+    say(words, step->before.words[FIXGW_WORD_REPLAY_AT] ? " starts in place of another" : " starts");
+}
+
 static void explain_high(struct words *words, const struct step *step)
 {
-    if (replies_with(step, 0, FIXGW_TYPE_SEQUENCE_RESET))
-        say(words, "rule 4, N > E: gap fill, as asked for, then Resend Request 7=E, 16=0");
-    else
-        say(words, "rule 4, N > E: Resend Request 7=E, 16=0");
+    say(words, "rule 4, N > E: ");
+    if (is_served(step)) {
+        say_replay(words, step);
+        say(words, ", as asked for, and ");
+    }
+    say(words, "Resend Request 7=E, 16=0");
 }
 
 static void explain_low(struct words *words, const struct step *step)
@@ -136,9 +158,10 @@ static void explain_in_turn(struct words *words, const struct step *step)
         say_reject(words, step);
     } else if (replies_with(step, 0, FIXGW_TYPE_HEARTBEAT))
         say(words, "rule 6, N = E, a test: Heartbeat with its 112");
-    else if (replies_with(step, 0, FIXGW_TYPE_SEQUENCE_RESET))
-        say(words, "rule 6, N = E, asked to resend: gap fill, which uses no new number");
-    else if (replies_with(step, 0, FIXGW_TYPE_LOGOUT))
+    else if (is_served(step)) {
+        say(words, "rule 6, N = E, asked to resend: ");
+        say_replay(words, step);
+    } else if (replies_with(step, 0, FIXGW_TYPE_LOGOUT))
         say(words, "rule 6, N = E, the peer ends the session: Logout with 1409=4");
     else if (type_of(&step->in) == FIXGW_TYPE_SEQUENCE_RESET)
         say(words, "rule 6, N = E, 36 above N: taken");

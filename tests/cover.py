@@ -57,12 +57,30 @@ def class_of_verdict(words, answer):
     return f"verdict {of_report}{class_of_finding(body, *map(int, answer.split(' ')[1:]))}"
 
 
-def class_of_report(words, answer):
-    """A report that went out by its parties, a refused one by its number; at the limits of length and room by these."""
+def classes_of_report(words, answer):
+    """A report that went out by its parties, a refused one by its number; at the limits of length and room by these. With a
+    store also by the place that it took."""
     told = "report " + (" ".join(answer.split(" ")[:2]) if answer.startswith("refusal") else "ok")
-    values = model.report_values_of(words[9:])
+    record, behind = model.record_of(words[2:2 + model.RECORD_WORDS]), words[2 + model.RECORD_WORDS:]
+    if 4 in model.LANDED and told == "report ok":
+        yield f"report ok, {place_taken(record, model.store_of(behind[0]))}"
+    yield class_of_report(words, told, record, model.report_values_of(behind[1 if 4 in model.LANDED else 0:]))
+
+
+def place_taken(record, store):
+    held = model.kept(record, store)
+    if None not in held:
+        return "in the lowest number's place"
+    place = held.index(None)
+    data = store[model.PLACE * place:model.PLACE * (place + 1)]
+    if not any(data):
+        return "in a place of zeros"
+    return "in the second's place" if model.kept_in(record.ours, record.peer, data) else "in a damaged place"
+
+
+def class_of_report(words, told, record, values):
     if told in ("report ok", "report refusal 9", "report refusal 12"):
-        length = len(model.written(model.record_of(words[2:9]), values, int(words[0])))
+        length = len(model.written(record, values, int(words[0])))
         if length in (511, 512, 513) and told != "report refusal 9":
             return f"{told}, {length} bytes"
         if length - int(words[1]) in (0, 1) and told != "report refusal 12":
@@ -92,37 +110,76 @@ def described_reply(words):
     return " + ".join(described(frame) for _, frame in frames) or "nothing"
 
 
-def class_of_step(line, words, answer):
+def left_by(word, answer):
+    """The record that an answer leaves."""
+    words = answer.split(" ")
+    if 4 in model.LANDED and words[0] == "ok" and word in ("step", "report"):
+        words.pop()
+    return model.record_of(words[-model.RECORD_WORDS:])
+
+
+def of_the_replay(before, after):
+    """What became of a replay, as words behind a class; none where nothing did."""
+    if (before.at, before.to) == (after.at, after.to):
+        return ""
+    if not after.at:
+        return ", a replay is dropped"
+    return ", a replay is replaced" if before.at else ", a replay starts"
+
+
+def class_of_replay(words, answer):
+    """A message by its type, and whether it is the first of several, the last of them, or in their midst."""
     if not answer.startswith("ok"):
-        return "step " + " ".join(answer.split(" ")[:2])
+        return "replay " + " ".join(answer.split(" ")[:2])
+    before, after = model.record_of(words[2:-1]), left_by("replay", answer)
+    if not before.at:
+        return f"replay {('Waiting', 'Active', 'Closed')[before.status]}: nothing"
+    return f"replay: {described_reply(answer.split(' ')[1])}{', the last' if not after.at else ''}"
+
+
+def class_of_step(line, words, answer):
+    before = model.record_of(words[3:3 + model.RECORD_WORDS])
+    replay = of_the_replay(before, left_by("step", answer))
+    if not answer.startswith("ok"):
+        return "step " + " ".join(answer.split(" ")[:2]) + replay
     rule = model.rule_of(line)
     frame = model.bytes_of(words[2])
     msg_type = model.first_field(frame[model.good_frame(frame)[0]:], 35)
     _, delivered, reply = answer.split(" ")[:3]
     what = "delivered" if delivered == "1" else described_reply(reply)
     by_type = f", type {msg_type.decode()}" if rule in (3, 6) and msg_type in model.MESSAGES or msg_type == b"AE" else ""
-    return f"step {'Waiting' if rule == 'Waiting' else f'rule {rule}'}{by_type}: {what}"
+    is_zeroed = 4 in model.LANDED and answer.endswith(" 32768") and any(model.store_of(words[-1]))
+    zeroed = ", the store is zeroed" if is_zeroed else ""
+    return f"step {'Waiting' if rule == 'Waiting' else f'rule {rule}'}{by_type}: {what}{zeroed}{replay}"
 
 
 def class_of_tick(words, answer):
+    replay = of_the_replay(model.record_of(words[2:]), left_by("tick", answer))
     if not answer.startswith("ok"):
-        return "tick " + " ".join(answer.split(" ")[:2])
+        return "tick " + " ".join(answer.split(" ")[:2]) + replay
     status = ("Waiting", "Active", "Closed")[int(words[4])]
     return f"tick {status}: {described_reply(answer.split(' ')[1])}"
 
 
-def class_of(line, answer):
-    if answer == "error":
+def classes_of(line, answer):
+    word, words = model.words_of(line) if answer != "error" else ("error", [])
+    return classes_of_report(words, answer) if word == "report" else [class_of(line, word, words, answer)]
+
+
+def class_of(line, word, words, answer):
+    if word == "error":
         return "error"
-    word, words = model.words_of(line)
     if word == "verdict":
         return class_of_verdict(words, answer)
     if word == "step":
         return class_of_step(line, words, answer)
     if word == "tick":
         return class_of_tick(words, answer)
-    if word == "report":
-        return class_of_report(words, answer)
+    if word == "replay":
+        return class_of_replay(words, answer)
+    if word == "reconnect":
+        replay = of_the_replay(model.record_of(words), left_by("reconnect", answer))
+        return " ".join([word, *answer.split(" ")[:2 if answer.startswith("refusal") else 1]]) + replay
     if word == "report-values":
         return class_of_report_values(words, answer)
     if word == "write" and answer.startswith("written"):
@@ -150,10 +207,10 @@ WANTED = (
     *(f"step Waiting: {what}" for what in ("Logon", "Logon + Resend Request", "Logout 101")),
     "step rule 1: Logout 101", "step rule 2: Reject 9 + Logout 101",
     "step rule 3, type 4: nothing", *(f"step rule 3, type 4: Reject {reason}" for reason in (1, 4, 5, 6, 13)),
-    "step rule 4: Resend Request", "step rule 4: Sequence Reset + Resend Request",
+    "step rule 4: Resend Request",
     "step rule 5: Logout 101", "step rule 5: Reject 1", "step rule 5: nothing",
     "step rule 6: Reject 11", "step rule 6, type 0: nothing", "step rule 6, type 1: Heartbeat",
-    "step rule 6, type 2: Reject 5", "step rule 6, type 2: Sequence Reset", "step rule 6, type 3: nothing",
+    "step rule 6, type 2: Reject 5", "step rule 6, type 3: nothing",
     "step rule 6, type 4: nothing", "step rule 6, type 4: Reject 5", "step rule 6, type 5: Logout 4",
     "step rule 6, type A: Reject 99",
     "step rule 6, type AD: delivered", "step rule 6, type F: delivered",
@@ -181,7 +238,23 @@ OF_REPORTS = (
     "step rule 5, type AE: Logout 101", "step rule 5, type AE: Reject 1", "step rule 5, type AE: nothing",
     "step rule 6, type AE: Reject 11",
 )
+OF_GAP_FILLS = ("step rule 4: Sequence Reset + Resend Request", "step rule 6, type 2: Sequence Reset")
+OF_REPLAYS = (
+    "step refusal 14", "step refusal 5, a replay is dropped", "tick refusal 5, a replay is dropped",
+    "reconnect ok, a replay is dropped", "report refusal 13", "report refusal 14",
+    *(f"step rule {rule}, a replay {becomes}" for becomes in ("starts", "is replaced")
+      for rule in ("4: Resend Request", "6, type 2: nothing")),
+    *(f"step rule {rule}, a replay is dropped" for rule in (
+        "1: Logout 101", "2: Reject 9 + Logout 101", "5: Logout 101", "6, type 5: Logout 4")),
+    "step Waiting: Logon, the store is zeroed",
+    *(f"report ok, in {place}" for place in ("a place of zeros", "a damaged place", "the second's place",
+                                             "the lowest number's place")),
+    *(f"replay refusal {refusal}" for refusal in (6, 7, 11, 14)),
+    *(f"replay {status}: nothing" for status in ("Waiting", "Active", "Closed")),
+    *(f"replay: {what}{last}" for what in ("AE", "Sequence Reset") for last in ("", ", the last")),
+)
 WANTED += OF_REPORTS if 1 in model.LANDED else ()
+WANTED += OF_REPLAYS if 4 in model.LANDED else OF_GAP_FILLS
 
 
 def report(counts):
@@ -192,4 +265,4 @@ def report(counts):
 
 
 def count(counter: Counter, line, answer):
-    counter[class_of(line, answer)] += 1
+    counter.update(classes_of(line, answer))

@@ -220,9 +220,8 @@ def full(r, session):
         numbers = list(range(first, first + PLACES))
         r.shuffle(numbers)
     places = {place: kept_report(r, session.ours, session.peer, number, like) for place, number in enumerate(numbers)}
-    for _ in range(r.choice((0, 0, 0, 1, 2))):
-        place = r.randrange(PLACES)
-        places[place] = r.choice((b"", r.choice(DAMAGES)(r, places[place]) if places[place] else b""))
+    for place in r.sample(range(PLACES), r.choice((0, 0, 0, 1, 2))):
+        places[place] = b"" if chance(r, 0.5) else r.choice(DAMAGES)(r, places[place])
     if chance(r, 0.2):
         places[r.randrange(PLACES)] = places[r.randrange(PLACES)]
     return Lent(places)
