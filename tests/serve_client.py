@@ -28,14 +28,17 @@ def message(msg_type, number, rest="", sender="MM"):
 
 
 LOGON = "98=0|108=2|1137=9|"
+REQUEST = "568=R1|569=0|22=8|48=133215|580=1|75=20240102|"
+BOOK = ("T-0001", "T-0002", "T-0004")       # of the example's trades those that can be reported
 
 
 class Client:
-    """One connection, with the bytes that came and are not taken yet."""
+    """One connection, with the bytes that came and are not taken yet, and the first messages by their numbers."""
 
     def __init__(self, port):
         self.line = socket.create_connection(("127.0.0.1", port), timeout=PATIENCE)
         self.came = b""
+        self.firsts = {}
 
     def send(self, data, piece=None):
         for at in range(0, len(data), piece or len(data)):
@@ -55,7 +58,10 @@ class Client:
         end = whole.end() + int(whole[1])
         frame, self.came = self.came[:end + 7], self.came[end + 7:]
         assert frame[end:] == b"10=%03d\x01" % (sum(frame[:end]) % 256), frame
-        return dict(field.split("=", 1) for field in frame.decode().split("\x01")[:-1])
+        fields = dict(field.split("=", 1) for field in frame.decode().split("\x01")[:-1])
+        if fields.get("43") != "Y":
+            self.firsts[int(fields["34"])] = fields
+        return fields
 
     def expect(self, **wanted):
         self.hold(self.receive(), wanted)
@@ -97,13 +103,47 @@ def talk(client, port):
     client.send(torn[:40] + message("F", 3, f"11=C1|41=O1|54=1|48=133215|22=8|60={now()}|"), piece=50)
     client.send(message("0", 9))
     client.expect_answer(t35="2", t7="4", t16="0")
-    client.send(message("5", 4) + message("0", 5) * 400)    # what lies unread must not take the answer away
+    ask_for_trades(client)
+    client.send(message("5", 6) + message("0", 7) * 400)    # what lies unread must not take the answer away
     client.expect_answer(t35="5", t1409="4")
+
+
+def ask_for_trades(client):
+    """Reports as they are asked for, and then everything again: the reports as possible duplicates, gap fills between."""
+    client.send(message("AD", 4, REQUEST))
+    for trade in BOOK:
+        client.expect_answer(t35="AE", t571=trade, t43=None)
+    client.send(message("2", 5, "7=1|16=0|"))
+    number = 1
+    while number <= max(client.firsts):
+        number = taken_again(client, number)
+
+
+def taken_again(client, number):
+    """The next message of a replay, which goes on with this number; the number that it goes on with then."""
+    got = client.receive()
+    if got["35"] in OF_THE_CLOCK:
+        return number                       # it went out before the host read what we ask for
+    assert got["43"] == "Y" and int(got["34"]) == number, f"wanted {number} again, got {got}"
+    if got["35"] == "4":
+        assert got["123"] == "Y" and got["122"] == got["52"], got
+        filled = [one for one in range(number, int(got["36"])) if client.firsts[one]["35"] == "AE"]
+        assert not filled, f"the reports {filled} are lost: {got}"
+        return int(got["36"])
+    first = client.firsts[number]
+    assert got["35"] == "AE" and got["122"] == first["52"] and got["52"] > first["52"], got
+    assert lasting(got) == lasting(first), f"first {first}, again {got}"
+    return number + 1
+
+
+def lasting(fields):
+    """What a report has the second time as it had it the first time."""
+    return {tag: value for tag, value in fields.items() if tag not in ("9", "10", "43", "52", "122")}
 
 
 def fall_silent(client):
     """A peer that logs on again and says nothing more is asked, and then logged out."""
-    client.send(message("A", 5, LOGON))
+    client.send(message("A", 7, LOGON))
     client.expect(t35="A", t108="2")
     got = client.receive()
     while got["35"] == "0":
@@ -126,7 +166,7 @@ def main():
     finally:
         host.kill()
     assert host.returncode == 0, f"the host ended with {host.returncode}"
-    assert ", 1 delivered, " in ledger, ledger
+    assert ", 2 delivered, " in ledger and "Reported: 3 trades." in ledger, ledger
     print("serve: ok")
 
 
