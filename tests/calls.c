@@ -5,9 +5,12 @@
      first TAG BODY              REFUSAL OUT OUT OUT
      step TIME FRAME RECORD, tick TIME RECORD, logout TIME RECORD, test TIME ID RECORD, reconnect RECORD,
      new OURS PEER RECORD        REFUSAL OUT OUT REPLY RECORD, OUT the call's words (0 where it has none)
-     room ROOM                   room ROOM: the calls behind it lend so many bytes, which are 512 otherwise
+     step TIME FRAME RECORD STORE, replay TIME RECORD STORE, report TIME RECORD STORE
+                                 the same with the STORE behind it; the report is of one trade, always the same
+     room ROOM                   room ROOM: the calls behind it lend so many bytes, which are 600 otherwise
    RECORD is its bytes in hex: 24 for the CompIDs and 8 for each word, of which there may be any number. REPLY are the
-   buffer's bytes up to the last that changed. */
+   buffer's bytes up to the last that changed. STORE is as the driver's: its length, then ,PLACE=BYTES for each place that
+   is not all zero. Where none is given, one of zeros is lent. */
 #include "fixgw.h"
 #include "lines.h"
 
@@ -22,11 +25,62 @@ struct call {
     uint8_t reply[MOST_ROOM];
 };
 
+static uint8_t store[2 * FIXGW_STORE];
+static size_t store_len;
+static bool is_store_given;
+
+static void print_digits(const void *bytes, size_t len)
+{
+    for (size_t i = 0; i < len; i++)
+        printf("%02x", ((const uint8_t *)bytes)[i]);
+}
+
 static void print_hex(const void *bytes, size_t len)
 {
     printf(len ? " " : " -");
-    for (size_t i = 0; i < len; i++)
-        printf("%02x", ((const uint8_t *)bytes)[i]);
+    print_digits(bytes, len);
+}
+
+/* The number up to this character or the end, which `at` stands behind then. */
+static uint64_t number_before(char **at, char end)
+{
+    char *front = *at;
+    while (**at && **at != end)
+        ++*at;
+    if (**at)
+        *(*at)++ = 0;
+    return number_of(front);
+}
+
+static void take_store(char *word)
+{
+    is_store_given = *word != 0;
+    memset(store, 0, sizeof store);
+    store_len = is_store_given ? number_before(&word, ',') : FIXGW_STORE;
+    while (*word) {
+        uint8_t *place = store + FIXGW_STORE_PLACE * number_before(&word, '=');
+        char *bytes = word;
+        while (*word && *word != ',')
+            word++;
+        if (*word)
+            *word++ = 0;
+        memcpy(place, bytes, decode(bytes));
+    }
+}
+
+static void print_store(void)
+{
+    if (!is_store_given)
+        return;
+    printf(" %lu", (unsigned long)store_len);
+    for (size_t at = 0; at < store_len; at += FIXGW_STORE_PLACE) {
+        size_t used = FIXGW_STORE_PLACE;
+        while (used > 0 && store[at + used - 1] == 0)
+            used--;
+        if (used > 0)
+            printf(",%lu=", (unsigned long)(at / FIXGW_STORE_PLACE));
+        print_digits(store + at, used);
+    }
 }
 
 /* The answering words that the call does not have are 0; the others hold something until it writes them. */
@@ -58,8 +112,8 @@ static void print_answer(uint32_t refusal, const struct call *call)
     printf("%u %lu %lu", refusal, (unsigned long)call->out[0], (unsigned long)call->out[1]);
     print_hex(call->reply, used);
     print_hex(call->ids, FIXGW_COMP_IDS);
-    for (size_t i = 0; i < 8 * call->count; i++)
-        printf("%02x", ((const uint8_t *)call->words)[i]);
+    print_digits(call->words, 8 * call->count);
+    print_store();
     printf(is_guarded(call) ? "\n" : " and behind it\n");
 }
 
@@ -76,6 +130,28 @@ static struct bytes next_bytes(char **at)
     return bytes;
 }
 
+static void give(struct fixgw_report_draft *draft, uint32_t tag, const char *text)
+{
+    fixgw_report_give(draft, tag, (const uint8_t *)text, strlen(text));
+}
+
+static uint32_t report_trade(struct call *call, uint64_t time)
+{
+    struct fixgw_report_draft draft;
+    fixgw_report_empty(&draft);
+    give(&draft, FIXGW_TAG_TRADE_REPORT_ID, "T1");
+    give(&draft, FIXGW_TAG_TRD_TYPE, "0");
+    give(&draft, FIXGW_TAG_TRANSACT_TIME, "20240102-09:29:59");
+    fixgw_report_give_decimal(&draft, FIXGW_TAG_LAST_QTY, 100, 0);
+    fixgw_report_give_decimal(&draft, FIXGW_TAG_LAST_PX, 1250, 2);
+    give(&draft, FIXGW_TAG_MATCH_TYPE, "4");
+    give(&draft, FIXGW_TAG_SECURITY_ID, "133215");
+    give(&draft, FIXGW_TAG_SECURITY_ID_SOURCE, "8");
+    give(&draft, FIXGW_TAG_SIDE, "1");
+    return fixgw_report(call->ids, call->words, call->count, draft.values, draft.text, draft.text_len, time, call->reply,
+                        room, store, store_len, call->out);
+}
+
 static void answer_record(const char *name, char *at)
 {
     static struct call call;
@@ -88,6 +164,7 @@ static void answer_record(const char *name, char *at)
     if (is_new)
         second = next_bytes(&at);
     take_record(&call, next_word(&at), is_step ? 2 : is_new || is_reconnect ? 0 : 1);
+    take_store(next_word(&at));
     uint64_t *words = call.words, *out = call.out;
     size_t count = call.count;
     if (is_new)
@@ -95,10 +172,15 @@ static void answer_record(const char *name, char *at)
     else if (is_reconnect)
         print_answer(fixgw_reconnect(call.ids, words, count), &call);
     else if (is_step)
-        print_answer(fixgw_step(call.ids, words, count, first.at, first.len, time, call.reply, room, out), &call);
+        print_answer(fixgw_step(call.ids, words, count, first.at, first.len, time, call.reply, room, store, store_len,
+                                out), &call);
     else if (is_test)
         print_answer(fixgw_test_request(call.ids, words, count, first.at, first.len, time, call.reply, room, out),
                      &call);
+    else if (strcmp(name, "replay") == 0)
+        print_answer(fixgw_replay(call.ids, words, count, time, call.reply, room, store, store_len, out), &call);
+    else if (strcmp(name, "report") == 0)
+        print_answer(report_trade(&call, time), &call);
     else if (strcmp(name, "tick") == 0)
         print_answer(fixgw_tick(call.ids, words, count, time, call.reply, room, out), &call);
     else
