@@ -73,8 +73,8 @@ static bool send_out(const struct line *line, const uint8_t *bytes, size_t len)
     return true;
 }
 
-/* A real venue writes the record to disk here, with the store unless that is NULL, since only a step and a report can
-   change it, and with the frame if one is delivered; all in one go. It answers false if it cannot. */
+/* A real venue writes the record to disk here, with the store unless that is NULL, which is as it was, and with the frame
+   if one is delivered; all in one go. It answers false if it cannot. */
 static bool keep(struct desk *desk, const struct fixgw_session *record, const uint8_t *store,
                  const struct message *delivered)
 {
@@ -361,20 +361,23 @@ static void work_off_replay(struct line *line, uint64_t time)
 
 /* ---- The loop ---------------------------------------------------------------------------------------------------- */
 
-/* The step is taken on copies, so that what is in memory is what is on disk, also where keeping fails. */
+/* The step is taken on a copy, so that what is in memory is what is on disk, also where keeping fails; of the store too,
+   where a Logon may zero it: while Active no step writes to it. */
 static void take_frame(struct line *line, uint64_t time, const uint8_t *frame, size_t len)
 {
-    uint8_t reply[FIXGW_LEAST_REPLY_ROOM];
+    uint8_t reply[FIXGW_LEAST_REPLY_ROOM], *changed = NULL;
     uint64_t out[2];
     struct message in = message_of(frame, len);
     if (!line->desk && !is_admitted(line, time, &in))
         return;
     struct step step = { .before = line->desk->record, .after = line->desk->record, .in = in };
-    uint8_t *store = copy_of_store(line->desk);
-    step.refusal = fixgw_session_step(&step.after, frame, len, time, reply, sizeof reply, store, FIXGW_STORE, out);
+    if (step.before.words[FIXGW_WORD_STATUS] != FIXGW_ACTIVE)
+        changed = copy_of_store(line->desk);
+    step.refusal = fixgw_session_step(&step.after, frame, len, time, reply, sizeof reply,
+                                      changed ? changed : line->desk->store, FIXGW_STORE, out);
     step.delivered = out[0];
     take_reply(&step, reply, out[1]);
-    if (!keep(line->desk, &step.after, store, step.delivered ? &in : NULL)) {
+    if (!keep(line->desk, &step.after, changed, step.delivered ? &in : NULL)) {
         hang_up(line, time, "the host hangs up: the record cannot be kept, so nothing is sent");
         return;
     }

@@ -13,12 +13,14 @@ struct peer *find(const uint8_t *sender, size_t sender_len, const uint8_t *targe
     return is_known ? &peer : NULL;
 }
 
-int keep(struct peer *of, const struct fixgw_session *session, const uint8_t *frame, size_t len)
+int keep(struct peer *of, const struct fixgw_session *session, const uint8_t *store, const uint8_t *frame, size_t len)
 {
     (void)len;
     if (disk_fails)
         return 1;
     of->session = *session;
+    if (store)
+        memcpy(of->store, store, FIXGW_STORE);
     if (frame)
         printf("kept with a frame\n");
     return 0;
@@ -125,6 +127,7 @@ static void play_trades(void)
     play_trade("a trade with too long a name", "A-TRADE-WITH-A-NAME-OF-33-LETTERS");
     disk_fails = 1;
     play_trade("a trade while the disk fails", "T-2");
+    disk_fails = 0;
 }
 
 #define HEADER(type, sender, number) "35=" type "|49=" sender "|56=GW|34=" number "|52=20240102-09:30:00|"
@@ -139,6 +142,8 @@ int main(void)
     static const char *const again[] = { LOGON("MM", "4"), NULL }, *const other[] = { LOGON("XX", "1"), NULL };
     static const char *const no_logon[] = { HEADER("0", "MM", "4"), NULL };
     static const char *const silent[] = { LOGON("MM", "5"), NULL };
+    static const char *const asking[] = { LOGON("MM", "1"), HEADER("2", "MM", "2") "7=1|16=0|", NULL };
+    static const char *const anew[] = { LOGON("MM", "1") "141=Y|", HEADER("2", "MM", "2") "7=1|16=0|", NULL };
     printf("version %s\n", fixgw_version() == FIXGW_VERSION ? "as compiled" : "another");
     fixgw_session_new(&peer.session, (const uint8_t *)"GW", 2, (const uint8_t *)"MM", 2);
     play("talk, behind noise", NOISE, talk, 0);
@@ -156,5 +161,8 @@ int main(void)
     step_of_clock = 0;
     now = 1704187800000000;
     play_trades();
+    now += 60000000;
+    play("asked for again", 0, asking, 0);
+    play("begun anew", 0, anew, 0);
     return 0;
 }
