@@ -4,7 +4,7 @@ use Prim.Native.Nat.{ℕ}
 use mathlib.Core.Path.{_≡_, sym, _∙_}
 use Rattle.bytes.specs.Bytes.{Bytes}
 use Rattle.session.specs.Refusals.{No}
-use Rattle.session.specs.Calls.{Outcome, step, tick, logout, test-request, new, reconnect}
+use Rattle.session.specs.Calls.{Outcome, step, storeAfter, tick, logout, test-request, new, reconnect}
 use Rattle.moves.specs.Held.{sessionOf}
 use Rattle.session.specs.Held.{answeredBy, Leaves, answeredNew}
 use Rattle.moves.specs.declared.record.Record.{Record}
@@ -16,8 +16,10 @@ pub leaves-one : (r : Record) (o : Outcome) {a b : Answered} {c d : Bytes} → L
 leaves-one r o v w = (v .answered ∙ sym (w .answered), v .buffer ∙ sym (w .buffer))
 
 module _ (r : Record) (t : ℕ) (buf : Bytes) {a b : Answered} {c d : Bytes} where
-  pub step-one : (f : Bytes) → Leaves r (step (sessionOf r) f t buf) a c → Leaves r (step (sessionOf r) f t buf) b d → (a ≡ b) × (c ≡ d)
-  step-one f v w = leaves-one r (step (sessionOf r) f t buf) v w
+  -- a step, which is lent a store too
+  pub step-one : (f store : Bytes) {x y : Bytes} → Leaves r (step (sessionOf r) f t buf store) a c × (x ≡ storeAfter (sessionOf r) f t buf store)
+      → Leaves r (step (sessionOf r) f t buf store) b d × (y ≡ storeAfter (sessionOf r) f t buf store) → (a ≡ b) × (c ≡ d) × (x ≡ y)
+  step-one f store v w = let k = leaves-one r (step (sessionOf r) f t buf store) (v .0) (w .0) in (k .0, k .1, v .1 ∙ sym (w .1))
 
   pub tick-one : Leaves r (tick (sessionOf r) t buf) a c → Leaves r (tick (sessionOf r) t buf) b d → (a ≡ b) × (c ≡ d)
   tick-one v w = leaves-one r (tick (sessionOf r) t buf) v w

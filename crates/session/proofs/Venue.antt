@@ -55,23 +55,23 @@ module _ (s : Session) (t room : ℕ) {a : Bool} (ra : a ≡ inRange s) where
     own-7 h = rw (← ra, not-false a ha, le-leb limit t h)
 
     module _ (h₇ : t < limit) where
-      pub own-6 : room < 512 → shut (Shut BufferShort) ≡ first (unsendable s t room)
+      pub own-6 : room < 600 → shut (Shut BufferShort) ≡ first (unsendable s t room)
       unfolding unsendable
-      own-6 h = rw (← ra, not-false a ha, lt-leb limit t h₇, lt-ltb room 512 h)
+      own-6 h = rw (← ra, not-false a ha, lt-leb limit t h₇, lt-ltb room 600 h)
 
-      module _ (h₆ : 512 ≤ room) {c : Bool} (rc : c ≡ (s .status == Active)) where
+      module _ (h₆ : 600 ≤ room) {c : Bool} (rc : c ≡ (s .status == Active)) where
         pub own-2 : not c ≡ true → shut (Shut SessionClosed) ≡ first (unsendable s t room)
         unfolding unsendable
-        own-2 h = rw (← ra, not-false a ha, lt-leb limit t h₇, le-ltb room 512 h₆, ← rc, not-true c h)
+        own-2 h = rw (← ra, not-false a ha, lt-leb limit t h₇, le-ltb room 600 h₆, ← rc, not-true c h)
 
         module _ (h₂ : not c ≡ false) {d : Bool} (rd : d ≡ spent s) where
           pub own-5 : d ≡ true → shut (Shut NumbersSpent) ≡ first (unsendable s t room)
           unfolding unsendable
-          own-5 h = rw (← ra, not-false a ha, lt-leb limit t h₇, le-ltb room 512 h₆, ← rc, not-false c h₂, ← rd, h)
+          own-5 h = rw (← ra, not-false a ha, lt-leb limit t h₇, le-ltb room 600 h₆, ← rc, not-false c h₂, ← rd, h)
 
           pub own-none : d ≡ false → shut Open ≡ first (unsendable s t room)
           unfolding unsendable
-          own-none h = rw (← ra, not-false a ha, lt-leb limit t h₇, le-ltb room 512 h₆, ← rc, not-false c h₂, ← rd, h)
+          own-none h = rw (← ra, not-false a ha, lt-leb limit t h₇, le-ltb room 600 h₆, ← rc, not-false c h₂, ← rd, h)
 
 pub ruleset owning = (string-test, own-11, own-7, own-6, own-2, own-5, own-none)
 
@@ -79,7 +79,7 @@ pub ruleset owning = (string-test, own-11, own-7, own-6, own-2, own-5, own-none)
 pub record OwnPassed (s : Session) (t room : ℕ) : Type 0 where
   pub ranged : inRange s ≡ true
   pub timed : t < limit
-  pub roomy : 512 ≤ room
+  pub roomy : 600 ≤ room
   pub unspent : spent s ≡ false
 
 pub own-passed : (s : Session) (t room : ℕ) → Silent (unsendable s t room) → OwnPassed s t room
@@ -88,7 +88,7 @@ own-passed s t room k =
     record {
       ranged = not-false (inRange s) (not-said (Refused BadRecord) _ (k .0));
       timed = leb-false limit t (not-said (Refused TimePast) _ (k .1 .0));
-      roomy = ltb-false room 512 (not-said (Refused BufferShort) _ (k .1 .1 .0));
+      roomy = ltb-false room 600 (not-said (Refused BufferShort) _ (k .1 .1 .0));
       unspent = not-said (Refused NumbersSpent) _ (k .1 .1 .1 .1 .0);
     }
 

@@ -1,0 +1,72 @@
+-- The store behind a step: a logon with 141=Y that is accepted zeroes it, and nothing else touches it.
+-- Assumes nothing.
+use Prim.Native.Nat.{ℕ}
+use mathlib.Core.Path.{_≡_, refl, sym, ap, _∙_}
+use mathlib.Core.Bool.{Bool, true, false, not, _&&_}
+use borrow.Author.Tests.{not-true, not-false}
+use Rattle.bytes.specs.Bytes.{Bytes, fix}
+use Rattle.places.specs.Places.{zeroed}
+use Rattle.fields.specs.Field.{firstField}
+use Rattle.message.specs.Whole.{bodyIn}
+use Rattle.moves.specs.Session.{_==_, Session}
+use Rattle.moves.specs.Seen.{isIt}
+use Rattle.session.specs.Calls.{Outcome, refusing, step, storeBy, storeAfter}
+use Rattle.moves.specs.Held.{sessionOf}
+use Rattle.session.specs.Held.{Leaves}
+use Rattle.session.specs.Promise.{Stored}
+use Rattle.moves.specs.declared.record.Record.{Record}
+use Rattle.moves.specs.declared.record.Status.{Status}
+use Rattle.moves.specs.declared.record.Status.the-variants.{Waiting, Active, Closed}
+use Rattle.session.specs.declared.Answered.{Answered}
+use Rattle.session.specs.declared.Refusal.{Refusal}
+use Rattle.session.proofs.EachCall.{each-refusal}
+use Rattle.session.proofs.Whole.{step-keeps}
+
+module _ (s : Session) (body : Bytes) (o : Outcome) (store : Bytes) where
+  not-accepted : ((s .status == Waiting) && (o .session .status == Active)) ≡ false → store ≡ storeBy s body o store
+  unfolding storeBy
+  not-accepted e = rw e
+
+  -- a session that is not Waiting
+  pub awake-stays : (x : Status) → (x == Waiting) ≡ false → s .status ≡ x → store ≡ storeBy s body o store
+  awake-stays x n st = not-accepted (ap (λ (y : Status). (y == Waiting) && (o .session .status == Active)) st ∙ ap (λ (b : Bool). b && (o .session .status == Active)) n)
+
+-- a refusal
+pub refused-stays : (k : Refusal) (s : Session) (body buf store : Bytes) → store ≡ storeBy s body (refusing k s buf) store
+refused-stays k s body buf store =
+    not-accepted s body (refusing k s buf) store (each-refusal (λ (u : Session). ((s .status == Waiting) && (u .status == Active)) ≡ false) k s (same (s .status)) (closed (s .status)))
+  where
+    same : (x : Status) → ((x == Waiting) && (x == Active)) ≡ false
+    same Waiting = refl
+    same Active = refl
+    same Closed = refl
+
+    closed : (x : Status) → ((x == Waiting) && (Closed == Active)) ≡ false
+    closed Waiting = refl
+    closed Active = refl
+    closed Closed = refl
+
+-- A LOGON that was answered
+module _ (r : Record) (body store : Bytes) (st : r .status ≡ Waiting) {o : Outcome} {a : Answered} {d : Bytes} (l : Leaves r o a d) {b : Bool} (ra : b ≡ (a .after .status == Active)) where
+  accepted : b ≡ (o .session .status == Active)
+  accepted = ra ∙ ap (λ (z : Answered). z .after .status == Active) (l .answered)
+
+  pub unaccepted-stays : not b ≡ true → store ≡ storeBy (sessionOf r) body o store
+  unaccepted-stays h = not-accepted (sessionOf r) body o store (rw (st, ← accepted, not-true b h))
+
+  module _ (hb : not b ≡ false) {h : Bool} (rh : h ≡ isIt (fix "Y") (firstField 141 body)) where
+    pub unasked-stays : not h ≡ true → store ≡ storeBy (sessionOf r) body o store
+    unfolding storeBy
+    unasked-stays n = rw (st, ← accepted, not-false b hb, ← rh, not-true h n)
+
+    pub asked-zeroes : not h ≡ false → {z : Bytes} → z ≡ zeroed store → z ≡ storeBy (sessionOf r) body o store
+    unfolding storeBy
+    asked-zeroes n e = e ∙ rw (st, ← accepted, not-false b hb, ← rh, not-false h n)
+
+-- IN EVERY STEP
+pub after-as : (s : Session) (f : Bytes) (t : ℕ) (buf store : Bytes) {body : Bytes} {o : Outcome} {z : Bytes} → body ≡ bodyIn f → step s f t buf store ≡ o → z ≡ storeBy s body o store → z ≡ storeAfter s f t buf store
+unfolding storeAfter
+after-as s f t buf store {body = body} {o = o} b e w = w ∙ ap (λ (x : Bytes). storeBy s x o store) b ∙ ap (λ (x : Outcome). storeBy s (bodyIn f) x store) (sym e)
+
+pub stores : (s : Session) (f : Bytes) (t : ℕ) (buf store : Bytes) → Stored s f t buf store
+stores s f t buf store = record { refused = λ k e. sym (after-as s f t buf store refl (step-keeps s t buf f store .refused k e) (refused-stays k s (bodyIn f) buf store)) }
