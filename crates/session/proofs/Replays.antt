@@ -121,7 +121,7 @@ module _ (s : Session) where
 
   pub disturbs : Disturbs s
   disturbs = record {
-    by-step = λ r. by-step;
+    by-step = by-step;
     starts = λ f t buf store U p r l y c u. ap (λ (o : Outcome). o .session .replay) (active-step s f t buf store U) ∙ served-starts t s (bodyIn f) p r l y c u;
     by-tick = by-tick;
     by-logout = λ t buf. each-logout (λ (o : Outcome). Moved s (o .session) []) s t buf (λ k. refusal-moves k s [] buf) (λ S. dropped refl refl);

@@ -3,14 +3,17 @@
 use Prim.Native.Nat.{ℕ}
 use mathlib.Core.Path.{_≡_, refl, sym, ap, _∙_}
 use mathlib.Core.Bool.{Bool, true, false, not, _&&_}
+use mathlib.Core.List.{_++_}
+use lib.ListN.{length}
 use borrow.Author.Tests.{not-true, not-false}
 use Rattle.bytes.specs.Bytes.{Bytes, fix}
-use Rattle.places.specs.Places.{zeroed}
+use Rattle.places.specs.Places.{isStore, zeroed}
 use Rattle.fields.specs.Field.{firstField}
-use Rattle.message.specs.Whole.{bodyIn}
+use Rattle.message.specs.Whole.{good, bodyIn}
+use Rattle.moves.specs.Words.{first}
 use Rattle.moves.specs.Session.{_==_, Session}
 use Rattle.moves.specs.Seen.{isIt}
-use Rattle.session.specs.Calls.{Outcome, refusing, step, storeBy, storeAfter}
+use Rattle.session.specs.Calls.{Outcome, refusing, outcome, refusals, turned-away, moves, step, storeBy, storeAfter}
 use Rattle.moves.specs.Held.{sessionOf}
 use Rattle.session.specs.Held.{Leaves}
 use Rattle.session.specs.Promise.{Stored}
@@ -19,6 +22,7 @@ use Rattle.moves.specs.declared.record.Status.{Status}
 use Rattle.moves.specs.declared.record.Status.the-variants.{Waiting, Active, Closed}
 use Rattle.session.specs.declared.Answered.{Answered}
 use Rattle.session.specs.declared.Refusal.{Refusal}
+use Rattle.session.proofs.Stepping.{step-lent}
 use Rattle.session.proofs.EachCall.{each-refusal}
 use Rattle.session.proofs.Whole.{step-keeps}
 
@@ -32,7 +36,7 @@ module _ (s : Session) (body : Bytes) (o : Outcome) (store : Bytes) where
   awake-stays x n st = not-accepted (ap (λ (y : Status). (y == Waiting) && (o .session .status == Active)) st ∙ ap (λ (b : Bool). b && (o .session .status == Active)) n)
 
 -- a refusal
-pub refused-stays : (k : Refusal) (s : Session) (body buf store : Bytes) → store ≡ storeBy s body (refusing k s buf) store
+refused-stays : (k : Refusal) (s : Session) (body buf store : Bytes) → store ≡ storeBy s body (refusing k s buf) store
 refused-stays k s body buf store =
     not-accepted s body (refusing k s buf) store (each-refusal (λ (u : Session). ((s .status == Waiting) && (u .status == Active)) ≡ false) k s (same (s .status)) (closed (s .status)))
   where
@@ -45,6 +49,9 @@ refused-stays k s body buf store =
     closed Waiting = refl
     closed Active = refl
     closed Closed = refl
+
+pub refusal-stays : (s : Session) (body buf store : Bytes) {o : Outcome} {k : Refusal} → o ≡ refusing k s buf → store ≡ storeBy s body o store
+refusal-stays s body buf store {k = k} e = refused-stays k s body buf store ∙ ap (λ (o : Outcome). storeBy s body o store) (sym e)
 
 -- A LOGON that was answered
 module _ (r : Record) (body store : Bytes) (st : r .status ≡ Waiting) {o : Outcome} {a : Answered} {d : Bytes} (l : Leaves r o a d) {b : Bool} (ra : b ≡ (a .after .status == Active)) where
@@ -68,5 +75,10 @@ pub after-as : (s : Session) (f : Bytes) (t : ℕ) (buf store : Bytes) {body : B
 unfolding storeAfter
 after-as s f t buf store {body = body} {o = o} b e w = w ∙ ap (λ (x : Bytes). storeBy s x o store) b ∙ ap (λ (x : Outcome). storeBy s (bodyIn f) x store) (sym e)
 
+pub after-lent : (s : Session) (f : Bytes) (t : ℕ) (buf store : Bytes) {b : Bool} → isStore store ≡ b
+    → storeAfter s f t buf store ≡ storeBy s (bodyIn f) (outcome (first (refusals s b (good f) t (length buf) ++ turned-away s (bodyIn f))) t (moves (s .status) s (bodyIn f)) s buf) store
+unfolding storeAfter
+after-lent s f t buf store e = ap (λ (o : Outcome). storeBy s (bodyIn f) o store) (step-lent s f t buf store e)
+
 pub stores : (s : Session) (f : Bytes) (t : ℕ) (buf store : Bytes) → Stored s f t buf store
-stores s f t buf store = record { refused = λ k e. sym (after-as s f t buf store refl (step-keeps s t buf f store .refused k e) (refused-stays k s (bodyIn f) buf store)) }
+stores s f t buf store = record { refused = λ k e. sym (after-as s f t buf store refl refl (refusal-stays s (bodyIn f) buf store (step-keeps s t buf f store .refused k e))) }

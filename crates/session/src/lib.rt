@@ -32,12 +32,13 @@ use rulebook::waiting;
 ghost use mathlib.Core.Path.{_≡_};
 ghost use mathlib.Core.List.{[]};
 ghost use mathlib.Core.Option.{none};
+ghost use mathlib.Core.Bool.{true};
 ghost use Prim.Native.Nat.{_≤_, _<_};
 ghost use lib.ListN.{length};
 ghost use Rattle.calendar.specs.Time.{limit};
 ghost use Rattle.session.specs.Refusals.{No};
 ghost use Rattle.moves.specs.Words.{first};
-ghost use Rattle.moves.specs.Session.{turned};
+ghost use Rattle.moves.specs.Session.{turned, inRange};
 ghost use Rattle.session.specs.declared.Answer.the-variants as Answer;
 ghost use Rattle.session.specs.Calls.{refusing, turned-away, movesOn, due, step, storeBy, storeAfter, tick, logout, test-request, new, reconnect};
 ghost use Rattle.moves.specs.Held.{sessionOf};
@@ -130,7 +131,7 @@ fn refused(r: Record, k: Refusal) -> Answered
 
 // A logon that was not refused; if it is accepted with 141=Y the store is zeroed.
 fn logging_on(r: Record, body: &[u8], time: u64, buf: &mut [u8], store: &mut [u8]) -> Answered
-    requires { ⌜ Ready r × (r .status ≡ Status.Waiting) × (first (turned-away (sessionOf r) (now body)) ≡ none) ⌝ }
+    requires { ⌜ Ready r × (inRange (sessionOf r) ≡ true) × (r .status ≡ Status.Waiting) × (first (turned-away (sessionOf r) (now body)) ≡ none) ⌝ }
     requires { ⌜ (600 ≤ length (now buf)) × (time < limit) ⌝ }
     ensures moved { λ a. ⌜ Leaves r (movesOn (sessionOf r) (now (body .entry)) time (now (buf .entry))) a (now (buf .exit)) ⌝ }
     ensures stored { λ _. ⌜ now (store .exit) ≡ storeBy (sessionOf r) (now (body .entry)) (movesOn (sessionOf r) (now (body .entry)) time (now (buf .entry))) (now (store .entry)) ⌝ }
@@ -142,15 +143,16 @@ fn logging_on(r: Record, body: &[u8], time: u64, buf: &mut [u8], store: &mut [u8
     if !is_active(st) {
         return left;
     }
-    if holds(body, 141, b"Y") {
-        zero_store(store);
+    if !holds(body, 141, b"Y") {
+        return left;
     }
+    zero_store(store);
     left
 }
 
 // A step that no refusal before the moves stopped.
 fn moving(r: Record, body: &[u8], time: u64, buf: &mut [u8], store: &mut [u8]) -> Answered
-    requires { ⌜ Ready r ⌝ }
+    requires { ⌜ Ready r × (inRange (sessionOf r) ≡ true) ⌝ }
     requires { ⌜ (600 ≤ length (now buf)) × (time < limit) ⌝ }
     ensures moved { λ a. ⌜ Leaves r (movesOn (sessionOf r) (now (body .entry)) time (now (buf .entry))) a (now (buf .exit)) ⌝ }
     ensures stored { λ _. ⌜ now (store .exit) ≡ storeBy (sessionOf r) (now (body .entry)) (movesOn (sessionOf r) (now (body .entry)) time (now (buf .entry))) (now (store .entry)) ⌝ }

@@ -16,7 +16,7 @@ play-requires c κs =
     let a = c .before .before .before .before .before .before .before .args in
     let S = sends-by (sessionOf (a .r)) _ _ (c .before .before .before .before .before .own-gate .ensures) (c .before .before .before .enum-told .given .1) in
     let R = ready-to (a .r) S in
-    (R, (S .roomy, S .timed, plan-fits (a .time) (sessionOf (a .r)) [] (c .before .before .closing .result) farewell (farewell-plan (sessionOf (a .r)) (c .before .before .closing .ensures)) (farewell-fit (a .time) _ (ample (a .r) R))))
+    (R, (omega (arith, S .roomy), S .timed, plan-fits (a .time) (sessionOf (a .r)) [] (c .before .before .closing .result) farewell (farewell-plan (sessionOf (a .r)) (c .before .before .closing .ensures)) (farewell-fit (a .time) _ (ample (a .r) R))))
 
 returns : tie.Need-returns
 unfolding logout

@@ -21,7 +21,7 @@ play-requires c κs =
     let S = sends-by (sessionOf (a .r)) _ _ (c .before .before .before .before .before .before .own-gate .ensures) (c .before .before .before .before .enum-told .given .1) in
     let R = ready-to (a .r) S in
     let F = asked-fit (a .time) _ (a .id .now) (ample (a .r) R) (sym (c .before .before .before .is-test-id .ensures) ∙ not-false _ (c .before .before .if1 .left)) (λ i. omega (arith, c .before .before .before .before .before .before .before .before .shared-slice-known .given i)) in
-    (R, (S .roomy, S .timed, plan-fits (a .time) (sessionOf (a .r)) (a .id .now) (c .before .saying .result) (asked (a .id .now)) (asked-plan (sessionOf (a .r)) (a .id .now) (c .before .saying .ensures)) F))
+    (R, (omega (arith, S .roomy), S .timed, plan-fits (a .time) (sessionOf (a .r)) (a .id .now) (c .before .saying .result) (asked (a .id .now)) (asked-plan (sessionOf (a .r)) (a .id .now) (c .before .saying .ensures)) F))
 
 returns-2 : tie.Need-returns-2
 returns-2 c =
