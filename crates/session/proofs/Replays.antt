@@ -1,27 +1,23 @@
 -- What starts, replaces and drops a replay, in every call.
 -- Assumes nothing.
-use Prim.Native.Nat.{ℕ, _-_, _≤_, _<_, min}
+use Prim.Native.Nat.{ℕ, _-_, _≤_, min}
 use native.Mathlib.Omega.{arith}
-use native.Mathlib.Decide.{decLt}
 use mathlib.Core.Path.{_≡_, refl, sym, ap, _∙_}
 use mathlib.Core.Bool.{Bool, true, false, cond, false≢true}
-use mathlib.Core.List.{[], _∷_, _++_}
+use mathlib.Core.List.{[], _++_}
 use mathlib.Core.Option.{none, some}
 use lib.Dec.{eqb}
 use Rattle.bytes.specs.Bytes.{Bytes}
 use Rattle.table.specs.declared.MsgType.the-variants.{ResendRequest}
 use Rattle.table.specs.Dictionary.{code35}
-use Rattle.dictionary.specs.declared.Verdict.the-variants.{Clean}
 use Rattle.dictionary.specs.Verdict.{verdict, msgType}
-use Rattle.message.specs.Message.{absent}
 use Rattle.message.specs.Whole.{bodyIn}
-use Rattle.moves.specs.Words.{_otherwise_, speaks}
+use Rattle.moves.specs.Words.{speaks}
 use Rattle.moves.specs.Session.{Session, Replay, no-replay, inRange}
 use Rattle.moves.specs.Seen.{isClean}
-use Rattle.moves.specs.Moves.{Deeds, Heartbeat, Write, Becomes, OurPeer, bare, #, N, readable, type, reject, reject-type, counted, logout, resend-request, unserved, served, logon, waiting, stranger, too-high, in-turn, active}
-use Rattle.session.specs.Calls.{Outcome, making, refusing, step, tick, reconnect, afterAll}
-use Rattle.session.specs.Promise.{Unrefused, Moved, kept, dropped, none-yet, replaced, Disturbs}
-use Rattle.moves.specs.declared.record.Status.the-variants.{Waiting, Active, Closed}
+use Rattle.moves.specs.Moves.{Deeds, OurPeer, #, N, readable, type, reject, reject-type, counted, logout, resend-request, unserved, served, logon, waiting, stranger, too-high, in-turn, active}
+use Rattle.session.specs.Calls.{Outcome, refusing, step, tick, reconnect, afterAll}
+use Rattle.session.specs.Promise.{Moved, kept, dropped, none-yet, replaced, Disturbs}
 use Rattle.session.specs.declared.Refusal.{Refusal}
 use Rattle.letters.proofs.Carried.{type-is}
 use Rattle.moves.proofs.Readings.{is-clean}
