@@ -6,7 +6,7 @@ use Rattle.bytes.specs.Bytes.{Bytes}
 use Rattle.session.specs.Refusals.{No}
 use Rattle.session.specs.Calls.{Outcome, step, storeAfter, tick, logout, test-request, new, reconnect}
 use Rattle.moves.specs.Held.{sessionOf}
-use Rattle.session.specs.Held.{answeredBy, Leaves, answeredNew}
+use Rattle.session.specs.Held.{answeredBy, Leaves, LeavesStore, answeredNew}
 use Rattle.moves.specs.declared.record.Record.{Record}
 use Rattle.session.specs.declared.Answered.{Answered}
 use Rattle.session.specs.declared.Refusal.{Refusal}
@@ -15,11 +15,14 @@ use Rattle.session.specs.declared.Refusal.{Refusal}
 pub leaves-one : (r : Record) (o : Outcome) {a b : Answered} {c d : Bytes} → Leaves r o a c → Leaves r o b d → (a ≡ b) × (c ≡ d)
 leaves-one r o v w = (v .answered ∙ sym (w .answered), v .buffer ∙ sym (w .buffer))
 
+-- and of the store
+pub leaves-store-one : (r : Record) (o : Outcome) (kept : Bytes) {a b : Answered} {c d x y : Bytes} → LeavesStore r o kept a c x → LeavesStore r o kept b d y → (a ≡ b) × ((c ≡ d) × (x ≡ y))
+leaves-store-one r o kept v w = let k = leaves-one r o (v .leaves) (w .leaves) in (k .0, (k .1, v .stored ∙ sym (w .stored)))
+
 module _ (r : Record) (t : ℕ) (buf : Bytes) {a b : Answered} {c d : Bytes} where
-  -- a step, which is lent a store too
-  pub step-one : (f store : Bytes) {x y : Bytes} → Leaves r (step (sessionOf r) f t buf store) a c × (x ≡ storeAfter (sessionOf r) f t buf store)
-      → Leaves r (step (sessionOf r) f t buf store) b d × (y ≡ storeAfter (sessionOf r) f t buf store) → (a ≡ b) × (c ≡ d) × (x ≡ y)
-  step-one f store v w = let k = leaves-one r (step (sessionOf r) f t buf store) (v .0) (w .0) in (k .0, k .1, v .1 ∙ sym (w .1))
+  pub step-one : (f store : Bytes) {x y : Bytes} → LeavesStore r (step (sessionOf r) f t buf store) (storeAfter (sessionOf r) f t buf store) a c x
+      → LeavesStore r (step (sessionOf r) f t buf store) (storeAfter (sessionOf r) f t buf store) b d y → (a ≡ b) × ((c ≡ d) × (x ≡ y))
+  step-one f store v w = leaves-store-one r (step (sessionOf r) f t buf store) (storeAfter (sessionOf r) f t buf store) v w
 
   pub tick-one : Leaves r (tick (sessionOf r) t buf) a c → Leaves r (tick (sessionOf r) t buf) b d → (a ≡ b) × (c ≡ d)
   tick-one v w = leaves-one r (tick (sessionOf r) t buf) v w

@@ -42,7 +42,7 @@ ghost use Rattle.moves.specs.Session.{turned, inRange};
 ghost use Rattle.session.specs.declared.Answer.the-variants as Answer;
 ghost use Rattle.session.specs.Calls.{refusing, turned-away, movesOn, due, step, storeBy, storeAfter, tick, logout, test-request, new, reconnect};
 ghost use Rattle.moves.specs.Held.{sessionOf};
-ghost use Rattle.session.specs.Held.{Leaves, answeredBy, answeredNew};
+ghost use Rattle.session.specs.Held.{Leaves, LeavesStore, answeredBy, answeredNew};
 ghost use Rattle.moves.specs.code.Plan.{Ready};
 
 // Why a call changed nothing, or closed the session.
@@ -176,8 +176,7 @@ fn moving(r: Record, body: &[u8], time: u64, buf: &mut [u8], store: &mut [u8]) -
 
 // A step: what the session does with a frame at a time. The reply stands at the front of the buffer; the store is zeroed by a logon with 141=Y.
 pub fn step(r: Record, frame: &[u8], time: u64, buf: &mut [u8], store: &mut [u8]) -> Answered
-    ensures moved { λ a. ⌜ Leaves r (step (sessionOf r) (now (frame .entry)) time (now (buf .entry)) (now (store .entry))) a (now (buf .exit)) ⌝ }
-    ensures stored { λ _. ⌜ now (store .exit) ≡ storeAfter (sessionOf r) (now (frame .entry)) time (now (buf .entry)) (now (store .entry)) ⌝ }
+    ensures { λ a. ⌜ LeavesStore r (step (sessionOf r) (now (frame .entry)) time (now (buf .entry)) (now (store .entry))) (storeAfter (sessionOf r) (now (frame .entry)) time (now (buf .entry)) (now (store .entry))) a (now (buf .exit)) (now (store .exit)) ⌝ }
 {
     let body = body_of(frame);
     let gate = step_gate(r, is_store(store), 0 < body.len(), time, buf.len());
