@@ -111,7 +111,7 @@ fn send(
 
 // A report that went out is kept: in the first empty place, else in the lowest number's.
 fn keep_report(r: Record, store: &mut [u8], m: &[u8])
-    requires { ⌜ (inRange (sessionOf r) ≡ true) × (isStore (now store) ≡ true) × (length (now m) ≤ 512) ⌝ }
+    requires { ⌜ Ready r × (inRange (sessionOf r) ≡ true) × (isStore (now store) ≡ true) × (length (now m) ≤ 512) ⌝ }
     ensures { λ _. ⌜ now (store .exit) ≡ putAt (takes (kept (sessionOf r .ours) (sessionOf r .peers) (now (store .entry)))) (now (m .entry)) (now (store .entry)) ⌝ }
 {
     let ours = r.ours;
