@@ -1,80 +1,91 @@
--- The promise of the report call: each way that it can go, a refusal or the report, and what follows for a run.
+-- The promise of the report call: each way that it can go, a refusal or the report, what it leaves, and what the store keeps behind any number of them.
+-- Assumes nothing.
 use Prim.Native.Nat.{ℕ, _+_, _≤_, _<_}
 use native.Mathlib.Omega.{arith}
-use mathlib.Core.Path.{_≡_, refl, ap}
+use mathlib.Core.Path.{_≡_, refl, sym, ap, ap₂, _∙_, subst}
 use mathlib.Core.Bool.{Bool, true, false, not, _&&_}
 use mathlib.Core.List.{List, [], _∷_}
 use mathlib.Core.Option.{Option, none, some}
 use lib.Dec.{leb, ltb}
 use lib.ListN.{length}
-use borrow.Author.Tests.{lt-ltb, le-leb, leb-false, ltb-false, not-false}
+use borrow.Author.Tests.{lt-ltb, le-leb, eqb-true, leb-false, ltb-false, not-false}
 use Rattle.bytes.specs.Bytes.{Bytes, within}
 use Rattle.bytes.proofs.Tests.{both-true}
 use Rattle.bytes.proofs.Numerals.{is-within}
 use Rattle.calendar.specs.Time.{limit}
 use Rattle.message.specs.Unfit.{compID}
+use Rattle.places.specs.Places.{isStore, zeroed}
 use Rattle.report.specs.Values.{Values, takes}
-use Rattle.report.specs.Report.{sent, sendable}
+use Rattle.report.specs.Report.{Report, sent, sendable}
 use Rattle.report.proofs.Promise as Report
+use Rattle.store.specs.Store as Store
+use Rattle.store.specs.Store.{find, keep}
+use Rattle.store.specs.Promise.{keepAll, AllSendable, Above, last64}
+use Rattle.store.proofs.Promise as Promised
 use Rattle.moves.specs.Words.{_when_, first}
-use Rattle.moves.specs.Session.{_==_, Session, numbering, sent-at, inRange}
+use Rattle.moves.specs.Session.{_==_, Session, Replay, no-replay, running, numbering, sent-at, placed, inRange}
 use Rattle.moves.specs.declared.record.Status.the-variants.{Active}
 use Rattle.moves.proofs.Words.{Said, Each, then-by, said-when, not-said}
-use Rattle.session.specs.Calls.{Outcome, refusing, answering, spent}
-use Rattle.session.specs.Promise.{AllInRange, Kept}
+use Rattle.session.specs.Refusals.{after}
+use Rattle.session.specs.Calls.{Outcome, spent}
+use Rattle.session.specs.Promise.{Kept}
 use Rattle.session.specs.declared.Answer.{Answer}
 use Rattle.session.specs.declared.Answer.the-variants.{Done, Refused}
 use Rattle.session.specs.declared.Refusal.{Refusal}
-use Rattle.session.specs.declared.Refusal.the-variants.{SessionClosed, NumbersSpent, TimePast, BadValue, NoRoom, BadRecord, ReportTooLong}
+use Rattle.session.specs.declared.Refusal.the-variants.{SessionClosed, NumbersSpent, TimePast, BadValue, NoRoom, BadRecord, ReportTooLong, Replaying, BadStore}
+use Rattle.session.proofs.EachCall.{each-refusal}
 use Rattle.session.proofs.Stepping.{Ranged, ranged-is, unspent-is}
 use Rattle.session.proofs.Ranged.{is-ranged}
 use Rattle.session.proofs.Whole.{kept-refusal}
 use Rattle.session.proofs.Promise.{refused-ranged, never-past}
-use Rattle.session.proofs.Promise as Session
-use Rattle.reporting.specs.Call.{message, refusals, sending, unless, report}
-use Rattle.reporting.specs.Promise.{theReport, Reported, Turn, Ours, ReportOut, turn, run, Lent, Promise}
+use Rattle.reporting.specs.Call.{theReport, message, refusals, sending, unless, report, keptUnless, storeAfter}
+use Rattle.reporting.specs.Promise.{Reported, Stored, Told, wentOut, sentReports, storeBehind, Promise}
 
 -- what a report is like that no refusal stopped
-pub record Passed (s : Session) (v : Values) (t : ℕ) : Type 0 where
+pub record Passed (s : Session) (v : Values) (t : ℕ) (stored : Bool) : Type 0 where
   pub ranged : inRange s ≡ true
+  pub still : running (s .replay) ≡ false
+  pub lent : stored ≡ true
   pub timed : t < limit
   pub unspent : spent s ≡ false
   pub taken : takes v ≡ true
   pub short : length (message s v t) ≤ 512
 
-module _ (Q : Outcome → Type 0) (s : Session) (v : Values) (t : ℕ) (buf : Bytes) where
-  abbrev Told : Answer → Type 0
-  Told a = Q (answering a s buf)
+-- EACH WAY that it can go: what holds of each refusal, and of what passed them, holds of the call
+each-answer : (P : Option Answer → Type 0) (l : List (Option Answer)) → Each (λ a. P (some a)) l (P none) → P (first l)
+each-answer P [] h = h
+each-answer P (none ∷ l) h = each-answer P l (h .1 refl)
+each-answer P (some a ∷ l) h = h .0
 
-  each-answer : (l : List (Option Answer)) → Each Told l (Q (sending s v t buf)) → Q (unless s v t (first l) buf)
-  each-answer [] h = h
-  each-answer (none ∷ l) h = each-answer l (h .1 refl)
-  each-answer (some a ∷ l) h = h .0
-
-  pub each-report : ((k : Refusal) → Q (refusing k s buf)) → (Passed s v t → Q (sending s v t buf)) → Q (report s v t buf)
-  unfolding report refusals
-  each-report shuts h =
-      each-answer (refusals s v t (length buf))
-      (then-by (shut BadRecord (not (inRange s))) (λ n₁₁.
-      then-by (shut TimePast (leb limit t)) (λ n₇.
-      then-by (shut SessionClosed (not (s .status == Active))) (λ n₂.
-      then-by (shut NumbersSpent (spent s)) (λ n₅.
-      then-by (shut BadValue (not (takes v))) (λ n₈.
-      then-by (shut ReportTooLong (ltb 512 (length (message s v t)))) (λ n₁₂.
-      then-by (shut NoRoom (ltb (length buf) (length (message s v t)))) (λ n₉.
-      h (record {
-        ranged = not-false (inRange s) (not-said (Refused BadRecord) _ n₁₁);
-        timed = leb-false limit t (not-said (Refused TimePast) _ n₇);
-        unspent = not-said (Refused NumbersSpent) _ n₅;
-        taken = not-false (takes v) (not-said (Refused BadValue) _ n₈);
-        short = ltb-false 512 (length (message s v t)) (not-said (Refused ReportTooLong) _ n₁₂);
-      })))))))))
-    where
-      shut : (k : Refusal) (b : Bool) → Said Told (Refused k when b)
-      shut k b = said-when Told (Refused k) b (λ e. shuts k)
+pub each-report : (P : Option Answer → Type 0) (s : Session) (v : Values) (t : ℕ) (stored : Bool) (room : ℕ)
+    → ((k : Refusal) → P (some (Refused k))) → (Passed s v t stored → P none) → P (first (refusals s v t stored room))
+unfolding refusals
+each-report P s v t stored room shuts h =
+    each-answer P (refusals s v t stored room)
+    (then-by (shut BadRecord (not (inRange s))) (λ n₁₁.
+    then-by (shut Replaying (running (s .replay))) (λ n₁₃.
+    then-by (shut BadStore (not stored)) (λ n₁₄.
+    then-by (shut TimePast (leb limit t)) (λ n₇.
+    then-by (shut SessionClosed (not (s .status == Active))) (λ n₂.
+    then-by (shut NumbersSpent (spent s)) (λ n₅.
+    then-by (shut BadValue (not (takes v))) (λ n₈.
+    then-by (shut ReportTooLong (ltb 512 (length (message s v t)))) (λ n₁₂.
+    then-by (shut NoRoom (ltb room (length (message s v t)))) (λ n₉.
+    h (record {
+      ranged = not-false (inRange s) (not-said (Refused BadRecord) _ n₁₁);
+      still = not-said (Refused Replaying) _ n₁₃;
+      lent = not-false stored (not-said (Refused BadStore) _ n₁₄);
+      timed = leb-false limit t (not-said (Refused TimePast) _ n₇);
+      unspent = not-said (Refused NumbersSpent) _ n₅;
+      taken = not-false (takes v) (not-said (Refused BadValue) _ n₈);
+      short = ltb-false 512 (length (message s v t)) (not-said (Refused ReportTooLong) _ n₁₂);
+    })))))))))))
+  where
+    shut : (k : Refusal) (b : Bool) → Said (λ a. P (some a)) (Refused k when b)
+    shut k b = said-when (λ a. P (some a)) (Refused k) b (λ e. shuts k)
 
 -- it is a report that the call can write
-pub passed-sendable : (s : Session) (v : Values) (t : ℕ) → Passed s v t → sendable (s .ours) (s .peers) (theReport s v t) ≡ true
+pub passed-sendable : (s : Session) (v : Values) (t : ℕ) {stored : Bool} → Passed s v t stored → sendable (s .ours) (s .peers) (theReport s v t) ≡ true
 unfolding sendable message
 passed-sendable s v t P =
     let R = ranged-is s (P .ranged) in
@@ -87,47 +98,137 @@ passed-sendable s v t P =
     (P .taken))
     (le-leb (length (sent (s .ours) (s .peers) (theReport s v t))) 512 (P .short))
 
--- what went out
-pub went-out : (s : Session) (v : Values) (t : ℕ) (buf : Bytes) → report s v t buf .answer ≡ Done → Passed s v t × (report s v t buf ≡ sending s v t buf)
-went-out s v t buf = each-report (λ (o : Outcome). o .answer ≡ Done → Passed s v t × (o ≡ sending s v t buf)) s v t buf
-    (λ k e. let z : _≡_ {A = ℕ} 0 1 = cc in absurd (omega arith))
-    (λ P e. (P, refl))
+-- no replay is running
+no-place : (s : Session) → placed s (s .replay) ≡ true → running (s .replay) ≡ false → s .replay ≡ no-replay
+no-place s p e =
+    let k = rw e at p in
+    ap₂ (λ (a z : ℕ). record { at = a; to = z }) (eqb-true (s .replay .at) 0 (not-false _ e)) (eqb-true (s .replay .to) 0 k)
 
-reported : (s : Session) (v : Values) (t : ℕ) (buf : Bytes) → report s v t buf .answer ≡ Done → Reported s v t (report s v t buf)
-reported s v t buf e =
-    let w = went-out s v t buf e in
-    record {
-      one = ap (λ (o : Outcome). o .reply) (w .1);
-      whole = Report.promise .written (s .ours) (s .peers) (theReport s v t) (passed-sendable s v t (w .0));
-      used = ap (λ (o : Outcome). o .session) (w .1);
-    }
+pub passed-still : (s : Session) (v : Values) (t : ℕ) {stored : Bool} → Passed s v t stored → s .replay ≡ no-replay
+passed-still s v t P = no-place s (ranged-is s (P .ranged) .place) (P .still)
 
-kept-sent : (s : Session) (v : Values) (t : ℕ) (buf : Bytes) → Kept (sending s v t buf) s buf
-kept-sent s v t buf = record { behind = refl; refused = λ k e. let z : _≡_ {A = ℕ} 0 1 = cc in absurd (omega arith); ours = refl; peers = refl }
+-- ONE CALL
+module _ (s : Session) (v : Values) (t : ℕ) (buf store : Bytes) where
+  -- what went out
+  pub went-out : report s v t buf store .answer ≡ Done
+      → Passed s v t (isStore store) × ((report s v t buf store ≡ sending s v t buf) × (storeAfter s v t buf store ≡ keep (s .ours) (s .peers) (theReport s v t) store))
+  unfolding report storeAfter
+  went-out =
+      each-report
+      (λ (o : Option Answer). unless s v t o buf .answer ≡ Done
+      → Passed s v t (isStore store) × ((unless s v t o buf ≡ sending s v t buf) × (keptUnless s v t o store ≡ keep (s .ours) (s .peers) (theReport s v t) store)))
+      s v t (isStore store) (length buf)
+      (λ k e. let z : _≡_ {A = ℕ} 0 1 = cc in absurd (omega arith))
+      (λ P e. (P, (refl, refl)))
 
-kept : (s : Session) (v : Values) (t : ℕ) (buf : Bytes) → Kept (report s v t buf) s buf
-kept s v t buf = each-report (λ (o : Outcome). Kept o s buf) s v t buf (kept-refusal s t buf) (λ P. kept-sent s v t buf)
+  reported : report s v t buf store .answer ≡ Done → Reported s v t (report s v t buf store)
+  reported e =
+      let w = went-out e in
+      record {
+        one = ap (λ (o : Outcome). o .reply) (w .1 .0);
+        whole = Report.promise .written (s .ours) (s .peers) (theReport s v t) (passed-sendable s v t (w .0));
+        used = ap (λ (o : Outcome). o .session) (w .1 .0);
+      }
 
-told-apart : (s s′ : Session) (v v′ : Values) (t t′ : ℕ) (buf buf′ : Bytes) → report s v t buf .answer ≡ Done → report s′ v′ t′ buf′ .answer ≡ Done
+  kept : Kept (report s v t buf store) s buf
+  unfolding report
+  kept =
+      each-report (λ (o : Option Answer). Kept (unless s v t o buf) s buf) s v t (isStore store) (length buf)
+      (kept-refusal s t buf)
+      (λ P. record { behind = refl; refused = λ k e. let z : _≡_ {A = ℕ} 0 1 = cc in absurd (omega arith); ours = refl; peers = refl })
+
+  -- the ranges
+  pub report-ranged : inRange s ≡ true → inRange (report s v t buf store .session) ≡ true
+  unfolding report
+  report-ranged r =
+      let R = ranged-is s r in
+      is-ranged _
+      (each-report (λ (o : Option Answer). Ranged (unless s v t o buf .session)) s v t (isStore store) (length buf)
+      (λ k. refused-ranged k s R)
+      (λ P. record {
+        ours = R .ours;
+        peers = R .peers;
+        E = R .E;
+        next = (omega arith, omega (arith, unspent-is s (P .unspent) .1));
+        heartbeat = R .heartbeat;
+        place = subst (λ (p : Replay). placed (sent-at t (numbering (s .next + 1) s)) p ≡ true) (sym (passed-still s v t P)) refl;
+      }))
+
+  no-replay-moved : report s v t buf store .answer ≡ Done → (s .replay ≡ no-replay) × (report s v t buf store .session .replay ≡ no-replay)
+  no-replay-moved e =
+      let w = went-out e in
+      let n = passed-still s v t (w .0) in
+      (n, ap (λ (o : Outcome). o .session .replay) (w .1 .0) ∙ n)
+
+  -- the store
+  stored : Stored s v t buf store
+  unfolding report storeAfter
+  stored =
+      record {
+        kept = λ e. went-out e .1 .1;
+        found = λ e n.
+            let w = went-out e in
+            subst (λ (x : Bytes). find (s .next) (Store.kept (s .ours) (s .peers) x) ≡ some (theReport s v t)) (sym (w .1 .1))
+            (Promised.promise .keeps (s .ours) (s .peers) (theReport s v t) store (w .0 .lent) (passed-sendable s v t (w .0)) n .new);
+        refused = λ k.
+            each-report (λ (o : Option Answer). unless s v t o buf .answer ≡ Refused k → keptUnless s v t o store ≡ store) s v t (isStore store) (length buf)
+            (λ j e. refl)
+            (λ P e. let z : _≡_ {A = ℕ} 0 1 = cc in absurd (omega arith));
+      }
+
+told-apart : (s s′ : Session) (v v′ : Values) (t t′ : ℕ) (buf buf′ store store′ : Bytes) → report s v t buf store .answer ≡ Done → report s′ v′ t′ buf′ store′ .answer ≡ Done
     → message s v t ≡ message s′ v′ t′ → theReport s v t ≡ theReport s′ v′ t′
 unfolding message
-told-apart s s′ v v′ t t′ buf buf′ e f m =
-    Report.promise .one (s .ours) (s .peers) (s′ .ours) (s′ .peers) (theReport s v t) (theReport s′ v′ t′) (passed-sendable s v t (went-out s v t buf e .0)) (passed-sendable s′ v′ t′ (went-out s′ v′ t′ buf′ f .0)) m
+told-apart s s′ v v′ t t′ buf buf′ store store′ e f m =
+    Report.promise .one (s .ours) (s .peers) (s′ .ours) (s′ .peers) (theReport s v t) (theReport s′ v′ t′) (passed-sendable s v t (went-out s v t buf store e .0)) (passed-sendable s′ v′ t′ (went-out s′ v′ t′ buf′ store′ f .0)) m
 
--- THE RANGES
-sent-ranged : (s : Session) (v : Values) (t : ℕ) → Passed s v t → Ranged s → Ranged (sent-at t (numbering (s .next + 1) s))
-sent-ranged s v t P R =
-    let U = unspent-is s (P .unspent) in
-    record { ours = R .ours; peers = R .peers; E = R .E; next = (omega arith, omega (arith, U .1)); heartbeat = R .heartbeat }
+-- ANY NUMBER OF CALLS: the reports rs that went out of s, and the store behind them
+record Behind (s : Session) (store end : Bytes) (rs : List Report) : Type 0 where
+  all-kept : end ≡ keepAll (s .ours) (s .peers) rs store
+  all-sendable : AllSendable (s .ours) (s .peers) rs
+  -- a session in its ranges has used no number from its next on
+  rising : (low : ℕ) → (1 ≤ s .next → low < s .next) → Above low rs
 
-pub report-ranged : (s : Session) (v : Values) (t : ℕ) (buf : Bytes) → inRange s ≡ true → inRange (report s v t buf .session) ≡ true
-report-ranged s v t buf r =
-    is-ranged _ (each-report (λ (o : Outcome). Ranged (o .session)) s v t buf (λ k. refused-ranged k s (ranged-is s r)) (λ P. sent-ranged s v t P (ranged-is s r)))
+behind-refused : (k : Refusal) (s : Session) (store end : Bytes) (rs : List Report) → Behind (after k s) store end rs → Behind s store end rs
+behind-refused k s store end rs =
+    each-refusal (λ (z : Session). Behind z store end rs → Behind s store end rs) k s (λ B. B)
+    (λ B. record { all-kept = B .all-kept; all-sendable = B .all-sendable; rising = B .rising })
 
-ranges : (s : Session) (cs : List Turn) → Lent cs → inRange s ≡ true → AllInRange (run s cs)
-ranges s [] B r = tt
-ranges s (Ours c ∷ cs) B r = let k = Session.promise .ranges s (c ∷ []) (B .0) r .0 in (k, ranges (turn s (Ours c) .session) cs (B .1) (k .ranged))
-ranges s (ReportOut v t buf ∷ cs) B r = let k = report-ranged s v t buf r in (never-past _ k, ranges (report s v t buf .session) cs B k)
+behind-sent : (s : Session) (v : Values) (t : ℕ) (store end : Bytes) (rs : List Report) {stored : Bool} → Passed s v t stored
+    → Behind (sent-at t (numbering (s .next + 1) s)) (keep (s .ours) (s .peers) (theReport s v t) store) end rs → Behind s store end (theReport s v t ∷ rs)
+behind-sent s v t store end rs P B =
+    record {
+      all-kept = B .all-kept;
+      all-sendable = (passed-sendable s v t P, B .all-sendable);
+      rising = λ low h. (h (ranged-is s (P .ranged) .next .0), B .rising (s .next) (λ l. omega arith));
+    }
+
+behind : (s : Session) (store : Bytes) (cs : List Told) → Behind s store (storeBehind s store cs) (sentReports s store cs)
+unfolding report storeAfter
+behind s store [] = record { all-kept = refl; all-sendable = tt; rising = λ low h. tt }
+behind s store (c ∷ cs) =
+    each-report
+    (λ (o : Option Answer). Behind s store (storeBehind (unless s (c .values) (c .time) o (c .buffer) .session) (keptUnless s (c .values) (c .time) o store) cs)
+    (wentOut (unless s (c .values) (c .time) o (c .buffer) .answer) (theReport s (c .values) (c .time)) (sentReports (unless s (c .values) (c .time) o (c .buffer) .session) (keptUnless s (c .values) (c .time) o store) cs)))
+    s (c .values) (c .time) (isStore store) (length (c .buffer))
+    (λ k. behind-refused k s store _ _ (behind (after k s) store cs))
+    (λ P. behind-sent s (c .values) (c .time) store _ _ P (behind (sent-at (c .time) (numbering (s .next + 1) s)) (keep (s .ours) (s .peers) (theReport s (c .values) (c .time)) store) cs))
+
+last : (s : Session) (store : Bytes) (cs : List Told) → isStore store ≡ true → (n : ℕ)
+    → find n (Store.kept (s .ours) (s .peers) (storeBehind s (zeroed store) cs)) ≡ find n (last64 (sentReports s (zeroed store) cs))
+last s store cs l n =
+    let B = behind s (zeroed store) cs in
+    ap (λ (x : Bytes). find n (Store.kept (s .ours) (s .peers) x)) (B .all-kept)
+    ∙ Promised.promise .last (s .ours) (s .peers) store (sentReports s (zeroed store) cs) l (B .all-sendable) (B .rising 0 (λ h. h)) n
 
 pub promise : Promise
-promise = record { reported = reported; kept = kept; told-apart = told-apart; ranges = ranges }
+promise =
+    record {
+      reported = reported;
+      kept = kept;
+      told-apart = told-apart;
+      ranged = λ s v t buf store r. never-past _ (report-ranged s v t buf store r);
+      no-replay-moved = no-replay-moved;
+      stored = stored;
+      last = last;
+    }

@@ -2,6 +2,7 @@
 use Prim.Native.Nat.{ℕ, _+_}
 use mathlib.Core.Path.{_≡_}
 use mathlib.Core.List.{List, [], _∷_}
+use mathlib.Core.Option.{none, some}
 use mathlib.Core.Bool.{true}
 use Rattle.bytes.specs.Bytes.{Bytes}
 use Rattle.report.specs.Values.{Values}
@@ -30,8 +31,11 @@ pub record Reported (s : Session) (v : Values) (t : ℕ) (o : Outcome) : Type 0 
 
 -- THE STORE behind a report
 pub record Stored (s : Session) (v : Values) (t : ℕ) (buf store : Bytes) : Type 0 where
-  -- a report that went out is found again under its number, whole; ..
+  -- a report that went out is kept, ..
   pub kept : report s v t buf store .answer ≡ Done → storeAfter s v t buf store ≡ keep (s .ours) (s .peers) (theReport s v t) store
+  -- .. and found again under its number, whole, if the store that was lent had none of that number; ..
+  pub found : report s v t buf store .answer ≡ Done → find (s .next) (Store.kept (s .ours) (s .peers) store) ≡ none
+      → find (s .next) (Store.kept (s .ours) (s .peers) (storeAfter s v t buf store)) ≡ some (theReport s v t)
   -- .. "no refusal changes the store"
   pub refused : (k : Refusal) → report s v t buf store .answer ≡ Refused k → storeAfter s v t buf store ≡ store
 
