@@ -20,7 +20,7 @@ use Rattle.moves.specs.declared.record.Status.the-variants.{Active, Closed}
 use Rattle.moves.proofs.Words.{first-some, first-rest}
 use Rattle.session.specs.Refusals.{after}
 use Rattle.session.specs.Calls.{refusing, spent}
-use Rattle.session.specs.Held.{answeredBy, Leaves}
+use Rattle.session.specs.Held.{answeredBy, Leaves, LeavesStore}
 use Rattle.session.specs.declared.Answered.{Answered}
 use Rattle.session.specs.declared.Answer.the-variants.{Refused}
 use Rattle.session.specs.declared.Refusal.{Refusal}
@@ -34,7 +34,7 @@ use Rattle.reporting.specs.code.Sending.{ofSession, ofValues}
 module _ (r : Record) (v : Values) (t : ℕ) (d store : Bytes) where
   -- what the call leaves: its answer, the buffer and the store
   abbrev Left : Answered → Bytes → Bytes → Type 0
-  Left a d′ store′ = Leaves r (report (sessionOf r) v t d store) a d′ × (store′ ≡ storeAfter (sessionOf r) v t d store)
+  Left a d′ store′ = LeavesStore r (report (sessionOf r) v t d store) (storeAfter (sessionOf r) v t d store) a d′ store′
 
   -- both lists are the call's refusals
   in-order : refusals (sessionOf r) v t (isStore store) (length d) ≡ ofSession (sessionOf r) (isStore store) t ++ ofValues (sessionOf r) v t (length d)
@@ -45,7 +45,7 @@ module _ (r : Record) (v : Values) (t : ℕ) (d store : Bytes) where
   unfolding report storeAfter
   shut {k = k} e w =
       let x = ap first in-order ∙ first-some (ofSession (sessionOf r) (isStore store) t) (ofValues (sessionOf r) v t (length d)) (Refused k) e in
-      rw x (record { answered = w; buffer = refl }, refl)
+      rw x (record { leaves = record { answered = w; buffer = refl }; stored = refl })
 
   -- the answer of one that changes nothing
   same : {k : Refusal} {a : Answered} → after k (sessionOf r) ≡ sessionOf r → first (ofSession (sessionOf r) (isStore store) t) ≡ some (Refused k) → a ≡ record { answer = Refused k; after = r; len = 0 } → Left a d store
@@ -89,7 +89,7 @@ module _ (r : Record) (v : Values) (t : ℕ) (d store : Bytes) where
               report-sent h w k =
                   let n : first (ofSession (sessionOf r) (isStore store) t) ≡ none = rw (← ra, not-false a ha, eq-eqb (r .at) 0 h₁₃, ← rb, not-false b hb, lt-leb limit t h₇, ← rc, not-false c h₂, ← rs, h) in
                   let y = ap first in-order ∙ first-rest (ofSession (sessionOf r) (isStore store) t) (ofValues (sessionOf r) v t (length d)) n in
-                  rw y (w, k)
+                  rw y (record { leaves = w; stored = k })
 
 -- the record of a report that may go out
 pub ready : (r : Record) {a s : Bool} → a ≡ inRange (sessionOf r) → not a ≡ false → s ≡ spent (sessionOf r) → s ≡ false → Ready r

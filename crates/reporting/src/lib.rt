@@ -32,7 +32,7 @@ ghost use Rattle.moves.specs.Held.{sessionOf, with};
 ghost use Rattle.moves.specs.Session.{sent-at, numbering, inRange};
 ghost use Rattle.session.specs.declared.Answer.the-variants as Answer;
 ghost use Rattle.moves.specs.code.Plan.{Ready};
-ghost use Rattle.session.specs.Held.{Leaves};
+ghost use Rattle.session.specs.Held.{Leaves, LeavesStore};
 ghost use Rattle.places.specs.Places.{isStore, putAt};
 ghost use Rattle.store.specs.Store.{takes, kept};
 ghost use Rattle.reporting.specs.Call.{unless, report, keptUnless, storeAfter};
@@ -132,8 +132,7 @@ pub fn report(
     buf: &mut [u8],
     store: &mut [u8],
 ) -> Answered
-    ensures sent { λ a. ⌜ Leaves r (report (sessionOf r) (valuesGiven (now (values .entry)) (now (text .entry))) time (now (buf .entry)) (now (store .entry))) a (now (buf .exit)) ⌝ }
-    ensures kept { λ _. ⌜ now (store .exit) ≡ storeAfter (sessionOf r) (valuesGiven (now (values .entry)) (now (text .entry))) time (now (buf .entry)) (now (store .entry)) ⌝ }
+    ensures { λ a. ⌜ LeavesStore r (report (sessionOf r) (valuesGiven (now (values .entry)) (now (text .entry))) time (now (buf .entry)) (now (store .entry))) (storeAfter (sessionOf r) (valuesGiven (now (values .entry)) (now (text .entry))) time (now (buf .entry)) (now (store .entry))) a (now (buf .exit)) (now (store .exit)) ⌝ }
 {
     if !in_range(r) {
         return unchanged(r, Answer::Refused(Refusal::BadRecord));
