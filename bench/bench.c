@@ -1,4 +1,4 @@
-/* The cost of reading, verdict, step, tick and report, each beside plain C that does the same.
+/* The cost of reading, verdict, step, tick, report and replay, each beside plain C that does the same.
    One line a section: NUMBER|WHAT|BYTES|MESSAGES|SIDE|REPEATS|NANOSECONDS. */
 #include "bench.h"
 
@@ -89,7 +89,7 @@ static void make_all(void)
 
 /* ---- What is measured -------------------------------------------------------------------------------------------- */
 
-enum kind { NOTHING, READ, VERDICT, STEP, TICK, STREAM, REPORT, REPORT_VALUES };
+enum kind { NOTHING, READ, VERDICT, STEP, TICK, STREAM, REPORT, REPORT_VALUES, REPORT_FULL, REPLAY_REPORT, REPLAY_FILL };
 enum side { OURS, PLAIN };
 
 struct row {
@@ -124,6 +124,9 @@ static const struct row rows[] = {
     { "verdict, AE with two parties", VERDICT, &report, 0, 2000 },
     { "report, AE with two parties", REPORT, &report, 0, 2000 },
     { "report-values, AE with two parties", REPORT_VALUES, &report, 0, 2000 },
+    { "report, the same into a full store", REPORT_FULL, &report, 0, 50 },
+    { "replay, that report, full store", REPLAY_REPORT, &report, 0, 500 },
+    { "replay, gap fill, full store", REPLAY_FILL, &report, 0, 500 },
 };
 
 enum { ROWS = sizeof rows / sizeof rows[0] };
@@ -163,9 +166,6 @@ static void verdict_plain(const uint8_t *body, size_t len)
     sink += plain_verdict(body, len);
 }
 
-#define RECORD(ours_len, peer_len, ...) \
-    { ours_len, "GW", peer_len, "MM", { FIXGW_RECORD_VERSION, __VA_ARGS__ } }
-
 const struct fixgw_session active = RECORD(2, 2, FIXGW_ACTIVE, 2, 2, 30, 0);
 
 struct plain_session plain_of(const struct fixgw_session *session)
@@ -174,6 +174,7 @@ struct plain_session plain_of(const struct fixgw_session *session)
         .ours_size = session->ours_len, .peer_size = session->peer_len, .status = session->words[FIXGW_WORD_STATUS],
         .expected = session->words[FIXGW_WORD_EXPECTED], .next_out = session->words[FIXGW_WORD_NEXT_OUT],
         .heartbeat = session->words[FIXGW_WORD_HEARTBEAT], .last_sent = session->words[FIXGW_WORD_LAST_SENT],
+        .at = session->words[FIXGW_WORD_REPLAY_AT], .to = session->words[FIXGW_WORD_REPLAY_TO],
     };
     memcpy(plain.ours, session->ours, FIXGW_COMP_ID);
     memcpy(plain.peer, session->peer, FIXGW_COMP_ID);
@@ -182,7 +183,8 @@ struct plain_session plain_of(const struct fixgw_session *session)
 
 /* The records of the calls that are measured; before each, what a call may change is set back. */
 static struct fixgw_session our_record;
-static struct plain_session plain_record, plain_active;
+static struct plain_session plain_record;
+struct plain_session plain_active;
 
 static void make_records(void)
 {
@@ -190,48 +192,67 @@ static void make_records(void)
     plain_record = plain_active = plain_of(&active);
 }
 
-struct fixgw_session *set_back(void)
+struct fixgw_session *set_back(const struct fixgw_session *to)
 {
-    memcpy(our_record.words, active.words, FIXGW_WORDS_USED * sizeof active.words[0]);
+    memcpy(our_record.words, to->words, FIXGW_WORDS_USED * sizeof to->words[0]);
     return &our_record;
 }
 
-struct plain_session *set_back_plain(void)
+struct plain_session *set_back_plain(const struct plain_session *to)
 {
-    plain_record.status = plain_active.status;
-    plain_record.expected = plain_active.expected;
-    plain_record.next_out = plain_active.next_out;
-    plain_record.heartbeat = plain_active.heartbeat;
-    plain_record.last_sent = plain_active.last_sent;
+    plain_record.status = to->status;
+    plain_record.expected = to->expected;
+    plain_record.next_out = to->next_out;
+    plain_record.heartbeat = to->heartbeat;
+    plain_record.last_sent = to->last_sent;
+    plain_record.at = to->at;
+    plain_record.to = to->to;
     return &plain_record;
+}
+
+uint8_t our_store[FIXGW_STORE], plain_store[FIXGW_STORE];
+const uint8_t no_reports[FIXGW_STORE];
+static const uint8_t *lent = no_reports;
+static bool is_changed;                     /* whether a call may have changed the stores since */
+
+void lend(const uint8_t store[FIXGW_STORE])
+{
+    lent = store;
+    is_changed = false;
+    memcpy(our_store, store, FIXGW_STORE);
+    memcpy(plain_store, store, FIXGW_STORE);
 }
 
 static void step_ours(const uint8_t *frame, size_t len)
 {
     static uint8_t reply[FIXGW_LEAST_REPLY_ROOM];
     uint64_t out[2];
-    sink += fixgw_session_step(set_back(), frame, len, CALL_TIME, reply, sizeof reply, out) + out[0] + out[1];
+    uint32_t refusal = fixgw_session_step(set_back(&active), frame, len, CALL_TIME, reply, sizeof reply, our_store,
+                                          sizeof our_store, out);
+    sink += refusal + out[0] + out[1];
 }
 
 static void step_plain(const uint8_t *frame, size_t len)
 {
     static uint8_t reply[FIXGW_LEAST_REPLY_ROOM];
     uint64_t out[2];
-    sink += plain_step(set_back_plain(), frame, len, CALL_TIME, reply, sizeof reply, out) + out[0] + out[1];
+    uint32_t refusal = plain_step(set_back_plain(&plain_active), frame, len, CALL_TIME, reply, sizeof reply, plain_store,
+                                  sizeof plain_store, out);
+    sink += refusal + out[0] + out[1];
 }
 
 static void tick_ours(void)
 {
     static uint8_t reply[FIXGW_LEAST_REPLY_ROOM];
     uint64_t out[1];
-    sink += fixgw_session_tick(set_back(), CALL_TIME, reply, sizeof reply, out) + out[0];
+    sink += fixgw_session_tick(set_back(&active), CALL_TIME, reply, sizeof reply, out) + out[0];
 }
 
 static void tick_plain(void)
 {
     static uint8_t reply[FIXGW_LEAST_REPLY_ROOM];
     uint64_t out[1];
-    sink += plain_tick(set_back_plain(), CALL_TIME, reply, sizeof reply, out) + out[0];
+    sink += plain_tick(set_back_plain(&plain_active), CALL_TIME, reply, sizeof reply, out) + out[0];
 }
 
 static void stream_ours(const uint8_t *bytes, size_t len)
@@ -280,6 +301,9 @@ static void run_once(const struct row *row, enum side side)
     case STREAM: (side == OURS ? stream_ours : stream_plain)(bytes, len); break;
     case TICK: (side == OURS ? tick_ours : tick_plain)(); break;
     case REPORT: (side == OURS ? report_ours : report_plain)(); break;
+    case REPORT_FULL: (side == OURS ? report_full_ours : report_full_plain)(); break;
+    case REPLAY_REPORT: (side == OURS ? replay_report_ours : replay_report_plain)(); break;
+    case REPLAY_FILL: (side == OURS ? replay_fill_ours : replay_fill_plain)(); break;
     case REPORT_VALUES:
         (side == OURS ? values_ours : values_plain)(bytes + row->bytes->body, row->bytes->body_len);
         break;
@@ -319,12 +343,14 @@ static void check_verdict(const struct row *row)
 struct pair pair_on(const struct fixgw_session *session, const char *what)
 {
     struct pair pair = { .what = what, .ours = *session, .plain = plain_of(session) };
+    if (is_changed)
+        lend(lent);
     for (size_t i = 0; i < FIXGW_LEAST_REPLY_ROOM; i++)
         pair.our_reply[i] = pair.plain_reply[i] = (uint8_t)i;
     return pair;
 }
 
-static bool refusal_met[FIXGW_REFUSED_REPORT_LENGTH + 1], reply_met[256];   /* by the type of a first reply */
+static bool refusal_met[FIXGW_REFUSED_STORE + 1], reply_met[256];   /* by the type of a first reply */
 
 /* The type of the first message of a reply, which has one byte; 0 for no reply. */
 static uint8_t first_type(const uint8_t *reply, size_t len)
@@ -344,19 +370,30 @@ void check_pair(const struct pair *pair, uint32_t refusal, uint32_t plain_refusa
     for (size_t word = FIXGW_WORDS_USED; word < FIXGW_WORDS; word++)
         insist(pair->ours.words[word] == 0, pair->what);
     insist(memcmp(pair->our_reply, pair->plain_reply, FIXGW_LEAST_REPLY_ROOM) == 0, pair->what);
+    insist(memcmp(our_store, plain_store, FIXGW_STORE) == 0, pair->what);
+    is_changed = !refusal;
+    insist(!refusal || memcmp(our_store, lent, FIXGW_STORE) == 0, pair->what);
     refusal_met[refusal] = true;
     reply_met[first_type(pair->our_reply, reply_len)] = true;
+}
+
+static void check_step_on(const char *what, const struct fixgw_session *session, const struct bytes *frame, size_t len,
+                          uint64_t time, size_t room, size_t stored)
+{
+    uint64_t out[2], plain_out[2];
+    struct pair pair = pair_on(session, what);
+    uint32_t refusal = fixgw_session_step(&pair.ours, frame->at, len, time, pair.our_reply, room, our_store, stored,
+                                          out);
+    uint32_t plain_refusal = plain_step(&pair.plain, frame->at, len, time, pair.plain_reply, room, plain_store, stored,
+                                        plain_out);
+    insist(out[0] == plain_out[0] && out[1] == plain_out[1], what);
+    check_pair(&pair, refusal, plain_refusal, out[1]);
 }
 
 static void check_step(const char *what, const struct fixgw_session *session, const struct bytes *frame, size_t len,
                        uint64_t time, size_t room)
 {
-    uint64_t out[2], plain_out[2];
-    struct pair pair = pair_on(session, what);
-    uint32_t refusal = fixgw_session_step(&pair.ours, frame->at, len, time, pair.our_reply, room, out);
-    uint32_t plain_refusal = plain_step(&pair.plain, frame->at, len, time, pair.plain_reply, room, plain_out);
-    insist(out[0] == plain_out[0] && out[1] == plain_out[1], what);
-    check_pair(&pair, refusal, plain_refusal, out[1]);
+    check_step_on(what, session, frame, len, time, room, FIXGW_STORE);
 }
 
 static void check_tick(const char *what, const struct fixgw_session *session, uint64_t time, size_t room)
@@ -411,6 +448,10 @@ static const struct fixgw_session records[] = {
     RECORD(0, 2, FIXGW_ACTIVE, 2, 2, 30, 0), RECORD(2, 12, FIXGW_ACTIVE, 2, 2, 30, 0), RECORD(2, 2, 3, 2, 2, 30, 0),
     RECORD(2, 2, FIXGW_ACTIVE, 0, 2, 30, 0), RECORD(2, 2, FIXGW_ACTIVE, 2, 1000000000, 30, 0),
     RECORD(2, 2, FIXGW_ACTIVE, 2, 2, 0, 0), RECORD(2, 2, FIXGW_ACTIVE, 2, 2, 61, 0),
+    RECORD(2, 2, FIXGW_ACTIVE, 2, 10, 30, 0, 1, 9), RECORD(2, 2, FIXGW_ACTIVE, 1, 10, 30, 0, 4, 4),
+    RECORD(2, 2, FIXGW_ACTIVE, 999999991, 10, 30, 0, 1, 9), RECORD(2, 2, FIXGW_ACTIVE, 2, 10, 30, 0, 1, 10),
+    RECORD(2, 2, FIXGW_ACTIVE, 2, 10, 30, 0, 5, 4), RECORD(2, 2, FIXGW_ACTIVE, 2, 10, 30, 0, 0, 4),
+    RECORD(2, 2, FIXGW_WAITING, 2, 10, 30, 0, 4, 4), RECORD(2, 2, FIXGW_CLOSED, 2, 10, 30, 0, 4, 4),
     { 2, "GW", 2, "M\001", { FIXGW_RECORD_VERSION, FIXGW_ACTIVE, 2, 2, 30, 0 } },
 };
 
@@ -433,6 +474,8 @@ static void check_bodies(const struct fixgw_session *session)
 static void check_calls(const struct fixgw_session *session)
 {
     check_step("a step without bytes", session, &heartbeat, 0, CALL_TIME, ROOM);
+    check_step_on("a step with a short store", session, &heartbeat, 0, FIXGW_END_OF_TIME, 0, FIXGW_STORE - 1);
+    check_step_on("a step without a store", session, &heartbeat, heartbeat.len, CALL_TIME, ROOM, 0);
     check_step("a step on a torn frame", session, &heartbeat, heartbeat.len - 1, FIXGW_END_OF_TIME, ROOM - 1);
     check_step("a step on two frames", session, &stream, 2 * request.len, CALL_TIME, ROOM);
     check_step("a step past all time", session, &test_request, test_request.len, FIXGW_END_OF_TIME, ROOM - 1);
@@ -447,19 +490,26 @@ static void check_calls(const struct fixgw_session *session)
 /* Steps, ticks and reports of all kinds: every refusal that they can give is met, and every type that they can write. */
 static void check_sessions(void)
 {
-    static const uint8_t refusals[] = { 0, 2, 3, 4, 5, 6, 7, 8, 9, 10, 11, 12 };
+    static const uint8_t refusals[] = { 0, 2, 3, 4, 5, 6, 7, 8, 9, 10, 11, 12, 13, 14 };
     for (size_t i = 0; i < RECORDS; i++) {
+        lend(full_store);
         check_bodies(&records[i]);
         check_calls(&records[i]);
+        check_replays(&records[i]);
+        check_report_on("a report into a full store", &records[i]);
+        lend(no_reports);
+        check_replays(&records[i]);
         check_reports(&records[i]);
     }
     for (size_t i = 0; i < sizeof refusals; i++)
         insist(refusal_met[refusals[i]], "the refusals of a session");
-    for (const char *type = "02345A"; *type; type++)
+    for (const char *type = "02345A"; *type; type++)        /* of a replay's messages the gap fill alone */
         insist(reply_met[(uint8_t)*type], "the replies of a session");
     for (size_t i = 0; i < BODIES; i++)
         check_values(bodies[i]);
     check_report_bodies();
+    check_places();
+    check_stores();
 }
 
 static void check_all(void)
@@ -493,6 +543,7 @@ static uint64_t time_of(size_t section, uint64_t repeats)
 {
     const struct row *row = &rows[section / 2];
     enum side side = section % 2 ? PLAIN : OURS;
+    lend(row->kind == REPORT_FULL || row->kind == REPLAY_REPORT || row->kind == REPLAY_FILL ? full_store : no_reports);
     uint64_t began = nanoseconds();
     close(MARK_OF_COUNTER);
     for (uint64_t i = 0; i < repeats; i++)
@@ -529,6 +580,7 @@ int main(int count, char **words)
     make_all();
     make_records();
     make_draft();
+    make_stores();
     check_all();
     if (count == 3 && number_of(words[1]) < 2 * ROWS) {
         measure(number_of(words[1]), number_of(words[2]), 1);

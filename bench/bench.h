@@ -31,16 +31,27 @@ extern const struct fixgw_session active;   /* the record of the calls that are 
 /* A frame around a body in text. */
 void make_frame(struct bytes *frame, const char *body);
 
+/* A record's CompIDs by their lengths, and its words behind the version. */
+#define RECORD(ours_len, peer_len, ...) \
+    { ours_len, "GW", peer_len, "MM", { FIXGW_RECORD_VERSION, __VA_ARGS__ } }
+
 /* The same record for the plain side. */
 struct plain_session plain_of(const struct fixgw_session *session);
 
-/* The records of the calls that are measured, with all that a call may change set back. */
-struct fixgw_session *set_back(void);
-struct plain_session *set_back_plain(void);
+/* The records of the calls that are measured, with all that a call may change set back to this one. */
+struct fixgw_session *set_back(const struct fixgw_session *to);
+struct plain_session *set_back_plain(const struct plain_session *to);
+extern struct plain_session plain_active;
+
+/* The stores that both sides are lent, and all zeros. Both become these bytes. */
+extern uint8_t our_store[FIXGW_STORE], plain_store[FIXGW_STORE];
+extern const uint8_t no_reports[FIXGW_STORE];
+void lend(const uint8_t store[FIXGW_STORE]);
 
 void insist(int holds, const char *what);
 
-/* Both sides of one call on a session: the records and the buffers behind it must be the same, byte by byte. */
+/* Both sides of one call on a session: the records, the buffers and the stores behind it must be the same, byte by byte.
+   Each is made on the stores as they were lent last. */
 struct pair {
     const char *what;
     struct fixgw_session ours;
@@ -54,14 +65,39 @@ void check_pair(const struct pair *pair, uint32_t refusal, uint32_t plain_refusa
 /* ---- Reports (bench_report.c) ------------------------------------------------------------------------------------ */
 
 void make_draft(void);
+uint64_t report_on(struct fixgw_session *session, uint8_t store[FIXGW_STORE]);
+uint64_t plain_report_on(struct plain_session *session, uint8_t store[FIXGW_STORE]);
 void report_ours(void);
 void report_plain(void);
 void values_ours(const uint8_t *body, size_t len);
 void values_plain(const uint8_t *body, size_t len);
 
-/* Reports of all kinds on one record; one body in text, read back; bodies of reports of all kinds, read back. */
+/* Fills the store with reports under these numbers, one behind the other, at the time of the calls. */
+void fill_store(uint8_t store[FIXGW_STORE], uint64_t first, uint64_t last);
+
+/* Reports of all kinds on one record; one body in text, read back; bodies of reports of all kinds, read back; each of
+   these by a function of its own. */
+void check_report_on(const char *what, const struct fixgw_session *session);
 void check_reports(const struct fixgw_session *session);
 void check_values(const char *text);
 void check_report_bodies(void);
+void each_report_body(void (*check)(const char *text));
+
+/* ---- Stores (bench_store.c) -------------------------------------------------------------------------------------- */
+
+extern uint8_t full_store[FIXGW_STORE];
+
+void make_stores(void);
+void report_full_ours(void);
+void report_full_plain(void);
+void replay_report_ours(void);
+void replay_report_plain(void);
+void replay_fill_ours(void);
+void replay_fill_plain(void);
+
+/* Replay calls on one record; on places of all kinds; the calls that are measured. */
+void check_replays(const struct fixgw_session *session);
+void check_places(void);
+void check_stores(void);
 
 #endif

@@ -40,20 +40,34 @@ void make_draft(void)
 
 /* ---- What is measured -------------------------------------------------------------------------------------------- */
 
-void report_ours(void)
+uint64_t report_on(struct fixgw_session *session, uint8_t store[FIXGW_STORE])
 {
     static uint8_t reply[FIXGW_REPORT_MOST];
     uint64_t out[1];
-    sink += fixgw_session_report(set_back(), &draft, CALL_TIME, reply, sizeof reply, out) + out[0];
+    uint32_t refusal = fixgw_session_report(session, &draft, CALL_TIME, reply, sizeof reply, store, FIXGW_STORE, out);
+    return refusal + out[0];
+}
+
+uint64_t plain_report_on(struct plain_session *session, uint8_t store[FIXGW_STORE])
+{
+    static uint8_t reply[FIXGW_REPORT_MOST];
+    uint64_t out[1];
+    uint32_t refusal = plain_report(session, draft.values, draft.text, draft.text_len, CALL_TIME, reply, sizeof reply,
+                                    store, FIXGW_STORE, out);
+    return refusal + out[0];
+}
+
+/* The report of the time before counts as none. */
+void report_ours(void)
+{
+    our_store[0] = 0;
+    sink += report_on(set_back(&active), our_store);
 }
 
 void report_plain(void)
 {
-    static uint8_t reply[FIXGW_REPORT_MOST];
-    uint64_t out[1];
-    uint32_t refusal = plain_report(set_back_plain(), draft.values, draft.text, draft.text_len, CALL_TIME, reply,
-                                    sizeof reply, out);
-    sink += refusal + out[0];
+    plain_store[0] = 0;
+    sink += plain_report_on(set_back_plain(&plain_active), plain_store);
 }
 
 void values_ours(const uint8_t *body, size_t len)
@@ -73,17 +87,38 @@ void values_plain(const uint8_t *body, size_t len)
 /* ---- Both sides answer alike: reports ---------------------------------------------------------------------------- */
 
 /* Gives the length of the report. */
-static uint64_t check_report(const char *what, const struct fixgw_session *session,
-                             const struct fixgw_report_draft *given, uint64_t time, size_t room)
+static uint64_t check_stored(const char *what, const struct fixgw_session *session,
+                             const struct fixgw_report_draft *given, uint64_t time, size_t room, size_t stored)
 {
     uint64_t out[1], plain_out[1];
     struct pair pair = pair_on(session, what);
-    uint32_t refusal = fixgw_session_report(&pair.ours, given, time, pair.our_reply, room, out);
+    uint32_t refusal = fixgw_session_report(&pair.ours, given, time, pair.our_reply, room, our_store, stored, out);
     uint32_t plain_refusal = plain_report(&pair.plain, given->values, given->text, given->text_len, time,
-                                          pair.plain_reply, room, plain_out);
+                                          pair.plain_reply, room, plain_store, stored, plain_out);
     insist(out[0] == plain_out[0], what);
     check_pair(&pair, refusal, plain_refusal, out[0]);
     return out[0];
+}
+
+static uint64_t check_report(const char *what, const struct fixgw_session *session,
+                             const struct fixgw_report_draft *given, uint64_t time, size_t room)
+{
+    return check_stored(what, session, given, time, room, FIXGW_STORE);
+}
+
+void check_report_on(const char *what, const struct fixgw_session *session)
+{
+    check_report(what, session, &draft, CALL_TIME, FIXGW_REPORT_MOST);
+}
+
+void fill_store(uint8_t store[FIXGW_STORE], uint64_t first, uint64_t last)
+{
+    static uint8_t reply[FIXGW_REPORT_MOST];
+    uint64_t out[1];
+    struct fixgw_session session = active;
+    for (session.words[FIXGW_WORD_NEXT_OUT] = first; session.words[FIXGW_WORD_NEXT_OUT] <= last;)
+        insist(fixgw_session_report(&session, &draft, CALL_TIME, reply, sizeof reply, store, FIXGW_STORE, out) == 0,
+               "the reports of a store");
 }
 
 /* The good report, one of its words changed: what is not given, places outside the text, decimals and parties at their
@@ -159,6 +194,8 @@ void check_reports(const struct fixgw_session *session)
     struct fixgw_report_draft empty;
     fixgw_report_empty(&empty);
     check_report("a report", session, &draft, CALL_TIME, FIXGW_REPORT_MOST);
+    check_stored("a report with a short store", session, &draft, FIXGW_END_OF_TIME, 0, FIXGW_STORE - 1);
+    check_stored("a report without a store", session, &draft, CALL_TIME, FIXGW_REPORT_MOST, 0);
     check_report("a report at the first time", session, &draft, 0, FIXGW_REPORT_MOST);
     check_report("a report past all time", session, &draft, FIXGW_END_OF_TIME, 0);
     check_report("a report at the end of time", session, &draft, FIXGW_END_OF_TIME - 1, FIXGW_REPORT_MOST);
@@ -219,12 +256,18 @@ static const char *const report_bodies[] = {
     "35=AE", "35=AE|", "35=",
 };
 
-void check_report_bodies(void)
+void each_report_body(void (*check)(const char *text))
 {
     for (size_t i = 0; i < sizeof report_bodies / sizeof report_bodies[0]; i++)
-        check_values(report_bodies[i]);
+        check(report_bodies[i]);
+}
+
+void check_report_bodies(void)
+{
+    each_report_body(check_values);
+    lend(no_reports);
     struct pair pair = pair_on(&active, "the report that is measured");
     uint64_t out[1];
-    fixgw_session_report(&pair.ours, &draft, CALL_TIME, pair.our_reply, FIXGW_REPORT_MOST, out);
+    fixgw_session_report(&pair.ours, &draft, CALL_TIME, pair.our_reply, FIXGW_REPORT_MOST, our_store, FIXGW_STORE, out);
     insist(out[0] == report.len && memcmp(pair.our_reply, report.at, report.len) == 0, pair.what);
 }

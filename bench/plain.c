@@ -147,8 +147,6 @@ enum place {
 #define C1(a) (a)                           /* a listed value of one or two bytes as a number */
 #define C2(a, b) ((a) << 8 | (b))
 #define MOST 999999999
-#define DECIMAL_DIGITS 15                   /* of the whole number, the point left out */
-#define DECIMAL_PLACES 8
 
 struct entry {
     uint16_t messages;                      /* in which it may stand */
@@ -274,22 +272,6 @@ static uint32_t check_list(const struct entry *entry, uint16_t message, const ui
         if (entry->list[i] == value)
             return 0;
     return entry->in_report == value && message == TAE ? 0 : 5;
-}
-
-/* Digits without leading zero but a lone 0, then a point only if digits follow. */
-static uint32_t check_decimal(const uint8_t *s, size_t n)
-{
-    size_t front = 0, places = 0;
-    while (front < n && is_digit(s[front]))
-        front++;
-    if (front == 0 || (s[0] == '0' && front > 1))
-        return 6;
-    if (front < n) {
-        places = n - front - 1;
-        if (s[front] != '.' || places == 0 || !all_digits(s + front + 1, places))
-            return 6;
-    }
-    return places > DECIMAL_PLACES || front + places > DECIMAL_DIGITS ? 5 : 0;
 }
 
 static uint32_t check_value(const struct entry *entry, uint16_t message, const uint8_t *s, size_t n)

@@ -12,6 +12,7 @@ typedef __UINT64_TYPE__ uint64_t;
 void *memchr(const void *, int, size_t);
 int memcmp(const void *, const void *, size_t);
 void *memcpy(void *, const void *, size_t);
+void *memset(void *, int, size_t);
 
 /* One reading of s[0..n): the length of the leftmost good frame, with the number of bytes skipped before it; or 0,
    which is refusal 1, with the number of bytes to drop. */
@@ -23,19 +24,22 @@ uint32_t plain_verdict(const uint8_t *body, size_t n);
 /* The sum of bytes modulo 256. */
 uint8_t plain_sum(const uint8_t *s, size_t n);
 
-enum { PLAIN_COMP_ID = 11, PLAIN_RECORD = 7 * 8 + 2 * PLAIN_COMP_ID };     /* bytes, without padding */
+enum { PLAIN_COMP_ID = 11, PLAIN_RECORD = 9 * 8 + 2 * PLAIN_COMP_ID };     /* bytes, without padding */
 
 /* A session's record. The numbers are as wide as the library's, so that every one of its records can be put here. */
 struct plain_session {
     uint64_t ours_size, peer_size;
     uint64_t status;                        /* 0 Waiting, 1 Active, 2 Closed */
     uint64_t expected, next_out, heartbeat, last_sent;
+    uint64_t at, to;                        /* of a replay */
     uint8_t ours[PLAIN_COMP_ID], peer[PLAIN_COMP_ID];
 };
 
+enum { PLAIN_PLACES = 64, PLAIN_PLACE = 512, PLAIN_STORE = PLAIN_PLACES * PLAIN_PLACE };
+
 /* A step and a tick: 0 or a refusal; out is {delivered, reply length} and {reply length}. */
 uint32_t plain_step(struct plain_session *session, const uint8_t *frame, size_t len, uint64_t time, uint8_t *buf,
-                    size_t room, uint64_t out[2]);
+                    size_t room, uint8_t *store, size_t store_size, uint64_t out[2]);
 uint32_t plain_tick(struct plain_session *session, uint64_t time, uint8_t *buf, size_t room, uint64_t out[1]);
 
 enum { PLAIN_PARTIES = 8, PLAIN_WORDS = 82 };
@@ -43,7 +47,15 @@ enum { PLAIN_PARTIES = 8, PLAIN_WORDS = 82 };
 /* A report: 0 or a refusal; out is {report length}. The values lie as the library's: eleven of three words {given, a,
    b}, the number of parties, and six words for each of eight parties, places in the text. */
 uint32_t plain_report(struct plain_session *session, const uint64_t values[PLAIN_WORDS], const uint8_t *text,
-                      size_t text_size, uint64_t time, uint8_t *buf, size_t room, uint64_t out[1]);
+                      size_t text_size, uint64_t time, uint8_t *buf, size_t room, uint8_t *store, size_t store_size,
+                      uint64_t out[1]);
+
+/* A replay call: 0 or a refusal; out is {message length}. */
+uint32_t plain_replay(struct plain_session *session, uint64_t time, uint8_t *buf, size_t room, const uint8_t *store,
+                      size_t store_size, uint64_t out[1]);
+
+/* Keeps a report that goes out: in the first empty place, else in the lowest number's. */
+void plain_keep(const struct plain_session *session, uint8_t *store, const uint8_t *report, size_t size);
 
 /* The values of a report's body: 0 or refusal 10; out is {0, 0, 0} or {1, reason, tag}. */
 uint32_t plain_report_values(const uint8_t *body, size_t n, uint64_t values[PLAIN_WORDS], uint64_t out[3]);

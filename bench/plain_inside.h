@@ -1,5 +1,5 @@
-/* What plain_session.c and plain_report.c share, inline in both: the refusals, the record's ranges, and how a message is
-   put. */
+/* What plain_session.c, plain_report.c and plain_store.c share, inline in each: the refusals, the record's ranges, and how
+   a message is put. */
 #ifndef PLAIN_INSIDE_H
 #define PLAIN_INSIDE_H
 
@@ -10,7 +10,7 @@
 #define MARK_SIZE (sizeof MARK - 1)
 #define MOST_DIGITS 9
 #define LAST_USABLE 999999990
-#define LEAST_ROOM 512
+#define LEAST_ROOM 600
 #define TRAILER_SIZE 7
 #define END_OF_TIME 253402300800000000u
 
@@ -19,7 +19,7 @@ enum { WAITING, ACTIVE, CLOSED };
 /* The refusals. */
 enum {
     IS_CLOSED = 2, NOT_A_LOGON, BAD_LOGON, USED_UP, NO_ROOM, PAST_TIME, BAD_VALUES, SHORT_BUFFER, NOT_A_FRAME,
-    BAD_RECORD, LONG_REPORT
+    BAD_RECORD, LONG_REPORT, REPLAYING, BAD_STORE
 };
 
 /* ---- The record -------------------------------------------------------------------------------------------------- */
@@ -27,6 +27,7 @@ enum {
 static inline uint32_t closed(struct plain_session *session, uint32_t refusal)
 {
     session->status = CLOSED;
+    session->at = session->to = 0;
     return refusal;
 }
 
@@ -45,11 +46,18 @@ static inline int is_numbered(uint64_t number)
     return number >= 1 && number <= 999999999;
 }
 
+static inline int is_placed(const struct plain_session *session)
+{
+    if (session->at == 0)
+        return session->to == 0;
+    return session->status == ACTIVE && session->at <= session->to && session->to < session->next_out;
+}
+
 static inline int in_range(const struct plain_session *session)
 {
     return is_comp_id(session->ours, session->ours_size) && is_comp_id(session->peer, session->peer_size)
         && session->status <= CLOSED && is_numbered(session->expected) && is_numbered(session->next_out)
-        && session->heartbeat >= 1 && session->heartbeat <= 60;
+        && session->heartbeat >= 1 && session->heartbeat <= 60 && is_placed(session);
 }
 
 static inline int is_used_up(const struct plain_session *session)

@@ -1,10 +1,8 @@
 /* A plain C11 trade capture report of document 02, written and read back, over the verdict of plain.c. It shares nothing
    with the library. */
-#include "plain_inside.h"
-#include "plain_values.h"
+#include "plain_forms.h"
 
 #define BODY_ROOM 768                       /* the longest body whose values are taken has 732 bytes */
-#define MOST_REPORT 512
 #define MOST_WHOLE 999999999999999u
 #define MOST_PLACES 8
 
@@ -15,11 +13,6 @@ enum {
 };
 
 /* ---- Writing ----------------------------------------------------------------------------------------------------- */
-
-struct value {
-    const uint8_t *at;
-    size_t size;
-};
 
 /* What a report is made of. */
 struct given {
@@ -41,46 +34,6 @@ static struct value bytes_at(const struct given *given, size_t word)
 static struct value value_at(const struct given *given, size_t word)
 {
     return given->values[word] ? bytes_at(given, word + 1) : (struct value){ given->text, 0 };
-}
-
-static int is_text(struct value value)
-{
-    return value.size >= 1 && value.size <= 32 && !memchr(value.at, BAR, value.size);
-}
-
-static int is_one(struct value value, uint8_t byte)
-{
-    return value.size == 1 && value.at[0] == byte;
-}
-
-static int is_pair(struct value value, uint8_t first, uint8_t second)
-{
-    return value.size == 2 && value.at[0] == first && value.at[1] == second;
-}
-
-static int is_trade_type(struct value v)
-{
-    return is_one(v, '0') || is_pair(v, '5', '4') || is_pair(v, '9', '9');
-}
-
-static int is_match_type(struct value v)
-{
-    return is_one(v, '2') || is_one(v, '4') || is_one(v, '7') || is_pair(v, '2', '2');
-}
-
-static int is_role(struct value v)
-{
-    return is_one(v, '1') || is_one(v, '3') || is_pair(v, '1', '2') || is_pair(v, '1', '7') || is_pair(v, '7', '6');
-}
-
-static int is_time(struct value value)
-{
-    return check_time(value.at, value.size) == 0;
-}
-
-static int is_date(struct value value)
-{
-    return check_date(value.at, value.size) == 0;
 }
 
 static int is_decimal(const struct given *given, size_t word)
@@ -183,10 +136,14 @@ static uint8_t *put_trade(uint8_t *to, const struct given *given)
     return put_bytes(to, given, W22 + 1);
 }
 
-static uint32_t refusal_of_report(const struct plain_session *session, uint64_t time)
+static uint32_t refusal_of_report(const struct plain_session *session, uint64_t time, size_t store_size)
 {
     if (!in_range(session))
         return BAD_RECORD;
+    if (session->at)
+        return REPLAYING;
+    if (store_size != PLAIN_STORE)
+        return BAD_STORE;
     if (time >= END_OF_TIME)
         return PAST_TIME;
     if (session->status != ACTIVE)
@@ -201,9 +158,10 @@ static size_t frame_size(size_t body)
 }
 
 uint32_t plain_report(struct plain_session *session, const uint64_t values[PLAIN_WORDS], const uint8_t *text,
-                      size_t text_size, uint64_t time, uint8_t *buf, size_t room, uint64_t out[1])
+                      size_t text_size, uint64_t time, uint8_t *buf, size_t room, uint8_t *store, size_t store_size,
+                      uint64_t out[1])
 {
-    uint32_t refusal = refusal_of_report(session, time);
+    uint32_t refusal = refusal_of_report(session, time, store_size);
     struct given given = { values, text, text_size };
     uint8_t body[BODY_ROOM], *to;
     out[0] = 0;
@@ -219,11 +177,12 @@ uint32_t plain_report(struct plain_session *session, const uint64_t values[PLAIN
     to = put_side(to, &given);
     *to++ = BAR;
     size_t size = frame_size((size_t)(to - body));
-    if (size > MOST_REPORT)
+    if (size > PLAIN_PLACE)
         return LONG_REPORT;
     if (size > room)
         return SHORT_BUFFER;
     put_frame(buf, body, (size_t)(to - body));
+    plain_keep(session, store, buf, size);
     session->next_out++;
     session->last_sent = time;
     out[0] = size;

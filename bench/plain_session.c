@@ -17,6 +17,7 @@ struct call {
     struct plain_session *session;
     uint64_t time;
     uint8_t *reply;                         /* where the next message goes */
+    uint8_t *store;
     const uint8_t *body, *end;
     struct value number, sender, target;    /* 34, 49 and 56 */
     uint64_t n;                             /* N, or 0 if it is unreadable */
@@ -87,26 +88,13 @@ static void send_reject(struct call *call, uint32_t reason, uint32_t tag)
     send_body(call, body, to);
 }
 
-/* A gap fill has the number of the first message that it stands for, not the next one. */
-static void send_gap_fill(struct call *call, uint64_t begin, uint64_t next)
-{
-    uint8_t body[BODY_ROOM], *to = put_ids(body, call->session, '4', begin);
-    to = PUT(to, "\00143=Y\00152=");
-    to = put_time(to, call->time);
-    to = PUT(to, "\001122=");
-    to = put_time(to, call->time);
-    to = PUT(to, "\001123=Y\00136=");
-    to = put_number(to, next);
-    send_body(call, body, to);
-}
-
 static void send_logout(struct call *call, uint64_t status)
 {
     uint8_t body[BODY_ROOM], *to = put_header(body, call, '5');
     to = PUT(to, "\0011409=");
     to = put_number(to, status);
     send_body(call, body, to);
-    call->session->status = CLOSED;
+    closed(call->session, 0);
 }
 
 static void send_logon(struct call *call, int reset)
@@ -236,6 +224,7 @@ static void logon_with_reset(struct call *call)
     }
     call->session->next_out = 1;
     call->session->expected = 2;
+    memset(call->store, 0, PLAIN_STORE);
     accept_logon(call, 1);
 }
 
@@ -296,7 +285,7 @@ static void bare_reset(struct call *call)
         call->session->expected = next;
 }
 
-/* Serves a clean Resend Request: the tag for which it is rejected, or 0. */
+/* Starts the replay of a clean Resend Request: the tag for which it is rejected, or 0. */
 static uint32_t serve(struct call *call)
 {
     uint64_t last = call->session->next_out - 1, begin = number(FIRST(call, "7")), end = number(FIRST(call, "16"));
@@ -304,7 +293,8 @@ static uint32_t serve(struct call *call)
         return 7;
     if (0 < end && end < begin)
         return 16;
-    send_gap_fill(call, begin, (end == 0 || end > last ? last : end) + 1);
+    call->session->at = begin;
+    call->session->to = end == 0 || end > last ? last : end;
     return 0;
 }
 
@@ -399,10 +389,12 @@ static int is_one_frame(const uint8_t *frame, size_t len)
 }
 
 static uint32_t refusal_of_step(const struct plain_session *session, const uint8_t *frame, size_t len, uint64_t time,
-                                size_t room)
+                                size_t room, size_t store_size)
 {
     if (!in_range(session))
         return BAD_RECORD;
+    if (store_size != PLAIN_STORE)
+        return BAD_STORE;
     if (!is_one_frame(frame, len))
         return NOT_A_FRAME;
     if (time >= END_OF_TIME)
@@ -415,14 +407,14 @@ static uint32_t refusal_of_step(const struct plain_session *session, const uint8
 }
 
 uint32_t plain_step(struct plain_session *session, const uint8_t *frame, size_t len, uint64_t time, uint8_t *buf,
-                    size_t room, uint64_t out[2])
+                    size_t room, uint8_t *store, size_t store_size, uint64_t out[2])
 {
-    uint32_t refusal = refusal_of_step(session, frame, len, time, room);
+    uint32_t refusal = refusal_of_step(session, frame, len, time, room, store_size);
     out[0] = 0;
     out[1] = 0;
     if (refusal)
         return refusal == USED_UP ? closed(session, refusal) : refusal;
-    struct call call = { .session = session, .time = time, .reply = buf };
+    struct call call = { .session = session, .time = time, .reply = buf, .store = store };
     call.body = next_bar(frame + MARK_SIZE) + 1;
     call.end = frame + len - TRAILER_SIZE;
     call.type = type_at(call.body + 3);

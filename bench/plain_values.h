@@ -1,4 +1,4 @@
-/* Forms of values that plain.c and plain_report.c share, inline in both: 0, or the reason 6 or 5. */
+/* Forms of values that the plain side's files share, inline in each: 0, or the reason 6 or 5. */
 #ifndef PLAIN_VALUES_H
 #define PLAIN_VALUES_H
 
@@ -52,6 +52,25 @@ static inline uint32_t check_time(const uint8_t *s, size_t n)
     if (number(s + 9, 2) > 23 || number(s + 12, 2) > 59 || number(s + 15, 2) > 60)
         return 5;
     return calendar(s);
+}
+
+#define DECIMAL_DIGITS 15                   /* of the whole number, the point left out */
+#define DECIMAL_PLACES 8
+
+/* Digits without leading zero but a lone 0, then a point only if digits follow. */
+static inline uint32_t check_decimal(const uint8_t *s, size_t n)
+{
+    size_t front = 0, places = 0;
+    while (front < n && is_digit(s[front]))
+        front++;
+    if (front == 0 || (s[0] == '0' && front > 1))
+        return 6;
+    if (front < n) {
+        places = n - front - 1;
+        if (s[front] != '.' || places == 0 || !all_digits(s + front + 1, places))
+            return 6;
+    }
+    return places > DECIMAL_PLACES || front + places > DECIMAL_DIGITS ? 5 : 0;
 }
 
 #endif
