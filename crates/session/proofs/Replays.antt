@@ -17,7 +17,7 @@ use Rattle.moves.specs.Session.{Session, Replay, no-replay, inRange}
 use Rattle.moves.specs.Seen.{isClean}
 use Rattle.moves.specs.Moves.{Deeds, OurPeer, #, N, readable, type, reject, reject-type, counted, logout, resend-request, unserved, served, logon, waiting, stranger, too-high, in-turn, active}
 use Rattle.session.specs.Calls.{Outcome, refusing, step, tick, reconnect, afterAll}
-use Rattle.session.specs.Promise.{Moved, kept, dropped, none-yet, replaced, Disturbs}
+use Rattle.session.specs.Promise.{Moved, kept, dropped, replaced, Disturbs}
 use Rattle.session.specs.declared.Refusal.{Refusal}
 use Rattle.letters.proofs.Carried.{type-is}
 use Rattle.moves.proofs.Readings.{is-clean}
@@ -36,7 +36,7 @@ module _ (t : ℕ) (s : Session) (body : Bytes) where
 
   logon-moves : s .replay ≡ no-replay → Goes (waiting s body)
   unfolding logon
-  logon-moves idle = each-logon Goes s body (record { anew = λ e. none-yet refl idle; logged-out = dropped refl refl; in-turn = λ e. none-yet refl idle; high = λ l. none-yet refl idle })
+  logon-moves idle = each-logon Goes s body (record { anew = λ e. kept (sym idle); logged-out = dropped refl refl; in-turn = λ e. kept (sym idle); high = λ l. kept (sym idle) })
 
   stranger-moves : (tag : ℕ) → Goes (stranger s body tag)
   unfolding reject
