@@ -1,0 +1,12 @@
+pub mod Finding
+pub mod Plan
+pub mod Counting
+pub mod Standing
+pub mod Running
+pub mod Free
+pub mod Filled
+pub mod Tables
+pub mod Keeping
+pub mod Last
+pub mod FromZero
+pub mod Promise

@@ -1,3 +1,4 @@
 pub mod Store
 pub mod Plan
 pub mod Promise
+pub mod code

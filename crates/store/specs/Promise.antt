@@ -3,7 +3,7 @@
 use Prim.Native.Nat.{ℕ, _-_, _+_, _≤_, _<_}
 use mathlib.Core.Path.{_≡_}
 use mathlib.Core.List.{List, [], _∷_, map}
-use mathlib.Core.Option.{Option, none, some}
+use mathlib.Core.Option.{none, some}
 use mathlib.Core.Bool.{true, false}
 use lib.ListN.{length, drop}
 use Rattle.bytes.specs.Bytes.{Bytes}

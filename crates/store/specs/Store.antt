@@ -1,5 +1,5 @@
 -- The reports that a store keeps (document 02, Q-4): which place counts as empty, which report is found under a number, and where a new one goes.
-use Prim.Native.Nat.{ℕ, zero, suc}
+use Prim.Native.Nat.{ℕ, suc}
 use mathlib.Core.List.{List, [], _∷_, _++_}
 use mathlib.Core.Option.{Option, none, some}
 use mathlib.Core.Bool.{Bool, true, false, cond}

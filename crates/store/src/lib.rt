@@ -3,15 +3,22 @@ use kept::kept_number;
 use kept::peek_number;
 ghost use mathlib.Core.Path.{_≡_};
 ghost use mathlib.Core.Bool.{true};
+ghost use mathlib.Core.List.{[], _∷_};
 ghost use Prim.Native.Nat.{_≤_};
+ghost use lib.Dec.{eqb};
+ghost use lib.ListN.{length, take};
+ghost use Rattle.bytes.specs.Bytes.{has};
 ghost use Rattle.message.specs.Unfit.{compID};
 ghost use Rattle.places.specs.Places.{isStore};
+ghost use Rattle.kept.specs.Kept.{held, numberOf};
 ghost use Rattle.store.specs.Store.{numbers, placeOf, takes, kept};
 ghost use Rattle.store.specs.Plan.{runTo};
+ghost use Rattle.store.specs.code.Lowest.{LowestOf};
 
 // Whether one of the first n of these numbers is x.
 fn is_met(numbers: &[u64; 64], n: usize, x: u64) -> bool
-    requires { ⌜ n ≤ 64 ⌝ }
+    requires { ⌜ (length (now numbers) ≡ 64) × (n ≤ 64) ⌝ }
+    ensures { λ b. ⌜ b ≡ has (take n (now (numbers .entry))) x ⌝ }
 {
     let mut i = 0;
     while i < n {
@@ -24,7 +31,10 @@ fn is_met(numbers: &[u64; 64], n: usize, x: u64) -> bool
 }
 
 // The place of the lowest of 64 numbers.
-fn lowest_place(numbers: &[u64; 64]) -> usize {
+fn lowest_place(numbers: &[u64; 64]) -> usize
+    requires { ⌜ length (now numbers) ≡ 64 ⌝ }
+    ensures { λ i. ⌜ LowestOf (now (numbers .entry)) 64 i ⌝ }
+{
     let mut at = 0;
     let mut i = 1;
     while i < 64 {
@@ -57,44 +67,60 @@ pub fn free_place(store: &[u8], us: &[u8], them: &[u8]) -> usize
     lowest_place(&numbers)
 }
 
-// Where the report of a number stands; 64 for none. A place is looked at whole only if its number is that one.
+// Whether a place holds the report of a number. It is looked at whole only if its number is that one.
+fn is_numbered(place: &[u8], us: &[u8], them: &[u8], n: u64) -> bool
+    requires { ⌜ (length (now place) ≡ 512) × (compID (now us) ≡ true) × (compID (now them) ≡ true) × (1 ≤ n) ⌝ }
+    ensures { λ b. ⌜ b ≡ eqb (numberOf (held (now (us .entry)) (now (them .entry)) (now (place .entry)))) n ⌝ }
+{
+    if peek_number(place, us.len() + them.len()) != n {
+        return false;
+    }
+    kept_number(place, us, them) == n
+}
+
+// Where the report of a number stands; 64 for none.
 pub fn place_of(store: &[u8], us: &[u8], them: &[u8], n: u64) -> usize
     requires { ⌜ (isStore (now store) ≡ true) × (compID (now us) ≡ true) × (compID (now them) ≡ true) × (1 ≤ n) ⌝ }
     ensures { λ i. ⌜ i ≡ placeOf n (kept (now (us .entry)) (now (them .entry)) (now (store .entry))) ⌝ }
 {
-    let ids = us.len() + them.len();
     let mut i = 0;
     while i < 64 {
-        let place = &store[512 * i..512 * i + 512];
-        if peek_number(place, ids) == n {
-            if kept_number(place, us, them) == n {
-                return i;
-            }
+        if is_numbered(&store[512 * i..512 * i + 512], us, them, n) {
+            return i;
         }
         i += 1;
     }
     64
 }
 
-// How far a run of numbers goes that are not kept, from one to another at most. A place is looked at whole only if its number would end the run earlier.
+// How far a run from one number to another goes if the report of this place ends it. The place is looked at whole only if its number would.
+fn run_before(place: &[u8], us: &[u8], them: &[u8], at: u64, end: u64) -> u64
+    requires { ⌜ (length (now place) ≡ 512) × (compID (now us) ≡ true) × (compID (now them) ≡ true) ⌝ }
+    ensures { λ e. ⌜ e ≡ runTo at end (numberOf (held (now (us .entry)) (now (them .entry)) (now (place .entry))) ∷ []) ⌝ }
+{
+    let n = peek_number(place, us.len() + them.len());
+    if n <= at {
+        return end;
+    }
+    if end < n {
+        return end;
+    }
+    if kept_number(place, us, them) != n {
+        return end;
+    }
+    n - 1
+}
+
+// How far a run of numbers goes that are not kept, from one to another at most.
 pub fn run_to(store: &[u8], us: &[u8], them: &[u8], at: u64, end: u64) -> u64
     requires { ⌜ (isStore (now store) ≡ true) × (compID (now us) ≡ true) × (compID (now them) ≡ true) ⌝ }
     ensures { λ e. ⌜ e ≡ runTo at end (numbers (kept (now (us .entry)) (now (them .entry)) (now (store .entry)))) ⌝ }
 {
-    let ids = us.len() + them.len();
     let mut e = end;
-    let mut i = 0;
-    while i < 64 {
-        let place = &store[512 * i..512 * i + 512];
-        let n = peek_number(place, ids);
-        if at < n {
-            if n <= e {
-                if kept_number(place, us, them) == n {
-                    e = n - 1;
-                }
-            }
-        }
-        i += 1;
+    let mut i = 64;
+    while 0 < i {
+        i -= 1;
+        e = run_before(&store[512 * i..512 * i + 512], us, them, at, e);
     }
     e
 }
