@@ -3,22 +3,20 @@
 use Prim.Native.Nat.{ℕ, _+_, _≤_}
 use mathlib.Core.Path.{_≡_}
 use mathlib.Core.List.{List, [], _∷_, _++_}
-use mathlib.Core.Bool.{Bool, true}
+use mathlib.Core.Bool.{true}
 use mathlib.Core.Option.{some}
 use lib.ListN.{length}
 use Rattle.bytes.specs.Bytes.{Bytes, Byted}
 use Rattle.frame.specs.Frame.{fixt, Good}
-use Rattle.frame.specs.Stream.{Frames, joined}
 use Rattle.dictionary.specs.declared.Verdict.the-variants.{Clean}
 use Rattle.dictionary.specs.Verdict.{verdict}
-use Rattle.places.specs.Places.{isStore}
 use Rattle.report.specs.Values.{Values}
-use Rattle.report.specs.Report.{Report, sendable}
+use Rattle.report.specs.Report.{sendable}
 use Rattle.report.specs.Promise.{Repeated}
-use Rattle.store.specs.Store.{find, kept}
+use Rattle.store.specs.Store.{find}
 use Rattle.store.specs.Plan.{Item, Again, Fill, range, covered, plan}
 use Rattle.moves.specs.Words.{if_then_else_}
-use Rattle.moves.specs.Session.{Session, Replay, no-replay, running, sent-at, replaying, inRange}
+use Rattle.moves.specs.Session.{Session, no-replay, running, sent-at, replaying, inRange}
 use Rattle.session.specs.Calls.{Outcome, Call, call}
 use Rattle.session.specs.Promise.{OfBytes, Whole, AllInRange, Kept}
 use Rattle.session.specs.declared.Answer.{Answer}
@@ -115,13 +113,14 @@ AllUndisturbed s (c ∷ cs) = Undisturbed s c × AllUndisturbed (turn s c .sessi
 
 -- "a finished replay's numbers cover the requested range exactly, each once": they are its numbers, in order, whatever stores were lent
 abbrev pub Finished : Session → List Turn → Type 0
-Finished s cs = inRange s ≡ true → running (s .replay) ≡ true → Lent cs → AllUndisturbed s cs → final s cs .replay ≡ no-replay → resentBy s cs ≡ range (s .replay .at) (s .replay .to)
+Finished s cs = running (s .replay) ≡ true → AllUndisturbed s cs → final s cs .replay ≡ no-replay → resentBy s cs ≡ range (s .replay .at) (s .replay .to)
 
 pub record Promise : Type 0 where
   pub played : (s : Session) (t : ℕ) (buf store : Bytes) → Byted (s .ours) → Byted (s .peers) → Byted store → replay s t buf store .answer ≡ Done → Played s t store (replay s t buf store)
   -- "11, 14, 7, 6": a refusal changes nothing; the buffer keeps its old bytes behind the message and under a refusal. The store is only read.
   pub kept : (s : Session) (t : ℕ) (buf store : Bytes) → Kept (replay s t buf store) s buf
-  -- "With none running nothing is due.", in every status
+  -- "With none running nothing is due.", in every status: then no message goes out, and else something is due
+  pub none-sent : (s : Session) (t : ℕ) (buf store : Bytes) → s .replay ≡ no-replay → replay s t buf store .answer ≡ Done → ⊥
   pub nothing-due : (s : Session) (t : ℕ) (buf store : Bytes) → replay s t buf store .answer ≡ NothingDue → s .replay ≡ no-replay
   -- one message a call, in the order of the plan; the plan covers the range (store's `planned`)
   pub follows : (s : Session) (t : ℕ) (buf store : Bytes) → Follows s t buf store

@@ -14,20 +14,21 @@ use store::place_of;
 use store::run_to;
 ghost use mathlib.Core.Path.{_≡_};
 ghost use mathlib.Core.Bool.{true};
-ghost use Prim.Native.Nat.{_+_, _≤_, _<_};
+ghost use Prim.Native.Nat.{_≤_, _<_};
 ghost use lib.ListN.{length};
 ghost use Rattle.calendar.specs.Time.{limit};
 ghost use Rattle.places.specs.Places.{isStore};
-ghost use Rattle.store.specs.Store.{kept};
-ghost use Rattle.store.specs.Plan.{Fill, ends, item};
-ghost use Rattle.moves.specs.Session.{running, inRange};
+ghost use Rattle.store.specs.Plan.{Fill};
+ghost use Rattle.moves.specs.Session.{running, replaying, sent-at, inRange};
 ghost use Rattle.moves.specs.Held.{sessionOf, with};
 ghost use Rattle.session.specs.Held.{Leaves};
-ghost use Rattle.replaying.specs.Call.{its-item, playing, replay};
+ghost use Rattle.session.specs.declared.Answer.the-variants as Answer;
+ghost use Rattle.replaying.specs.Call.{its-item, behind, playing, replay};
 
 // A message of so many bytes went out that covers the numbers up to e: the place behind it.
 fn moved_on(r: Record, e: u64, len: usize, time: u64) -> Answered
     requires { ⌜ e < 1_000_000_000 ⌝ }
+    ensures { λ a. ⌜ a ≡ record { answer = Answer.Done; after = with r (replaying (behind (sessionOf r) time (Fill (r .at) e)) (sent-at time (sessionOf r))); len = len } ⌝ }
 {
     let st = r.status;
     if e < r.to {
