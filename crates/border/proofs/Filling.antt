@@ -19,7 +19,7 @@ module _ {A : Type 0} (f : ℕ → A) where
   abbrev pub filled : A → ℕ → ℕ → List A
   filled d n k = map f (upTo k) ++ replicate (n - k) d
 
-  fill-more : (d : A) (n k : ℕ) → k < n → set (filled d n k) k (f k) ≡ filled d n (k + 1)
+  pub fill-more : (d : A) (n k : ℕ) → k < n → set (filled d n k) k (f k) ≡ filled d n (k + 1)
   fill-more d n k h =
       let rest = replicate (n - (k + 1)) d in
       let one : n - k ≡ suc (n - (k + 1)) = omega arith in

@@ -2,7 +2,7 @@
 -- Assumes nothing.
 use Prim.Native.Nat.{ℕ, zero, suc, _+_, _≤_, _<_}
 use mathlib.Core.Path.{_≡_, refl, sym, ap, _∙_}
-use mathlib.Core.List.{List, [], _∷_, _++_, map, append-nil}
+use mathlib.Core.List.{List, [], _∷_, _++_, append-nil}
 use mathlib.Core.Bool.{Bool, true, false, _&&_}
 use native.Mathlib.Numerals.{add-one}
 use native.Mathlib.Omega.{arith}
@@ -10,10 +10,10 @@ use borrow.Author.Tests.{eq-eqb, ne-eqb}
 use lib.Dec.{eqb}
 use lib.ListN.{length, getD, set, drop, replicate, length-replicate, drop-of-length-le}
 use lib.Seq.{drop-cons, set-at}
-use Rattle.bytes.specs.Bytes.{Bytes, all}
+use Rattle.bytes.specs.Bytes.{all}
 use Rattle.moves.specs.declared.record.Record.{Record}
 use Rattle.moves.specs.declared.record.Status.the-variants.{Closed}
-use Rattle.border.specs.Record.{eleven, wordsOf, saved, spare, statusOf, statusIf, statusIn}
+use Rattle.border.specs.Record.{wordsOf, saved, spare, statusOf, statusIf, statusIn}
 use Rattle.border.specs.code.Held.{found, statusHeld}
 
 -- A STATUS has a number up to 2
@@ -65,12 +65,6 @@ module _ (words : List ℕ) where
 
   pub status-read : length words ≡ 24 → getD words 0 0 ≡ 1 → spare words ≡ true → statusOf (getD words 1 0) ≡ statusIn words
   status-read e f h = sym (ap (statusIf words) h) ∙ status-is e f
-
--- eleven bytes as the code reads them
-pub eleven-is : (l : Bytes) (k : ℕ) → getD l k 0 ∷ getD l (k + 1) 0 ∷ getD l (k + 2) 0 ∷ getD l (k + 3) 0 ∷ getD l (k + 4) 0 ∷ getD l (k + 5) 0 ∷ getD l (k + 6) 0 ∷ getD l (k + 7) 0 ∷ getD l (k + 8) 0 ∷ getD l (k + 9) 0 ∷ getD l (k + 10) 0 ∷ [] ≡ eleven k l
-eleven-is l k =
-    let e : k ≡ k + 0 = omega arith in
-    ap (λ (j : ℕ). getD l j 0 ∷ map (λ i. getD l (k + i) 0) (1 ∷ 2 ∷ 3 ∷ 4 ∷ 5 ∷ 6 ∷ 7 ∷ 8 ∷ 9 ∷ 10 ∷ [])) e
 
 -- THE CODE'S LOOPS over the words: those kept for later are zero, and a new record's are made so
 abbrev pub zeroWord : ℕ → Bool

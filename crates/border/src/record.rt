@@ -76,19 +76,13 @@ fn eleven_from(ids: &[u8; 24], at: usize) -> [u8; 11]
     requires { ⌜ at ≤ 13 ⌝ }
     ensures { λ r. ⌜ r ≡ eleven at (now (ids .entry)) ⌝ }
 {
-    [
-        ids[at],
-        ids[at + 1],
-        ids[at + 2],
-        ids[at + 3],
-        ids[at + 4],
-        ids[at + 5],
-        ids[at + 6],
-        ids[at + 7],
-        ids[at + 8],
-        ids[at + 9],
-        ids[at + 10],
-    ]
+    let mut c = [0u8; 11];
+    let mut i = 0;
+    while i < 11 {
+        c[i] = ids[at + i];
+        i += 1;
+    }
+    c
 }
 
 // The record that lies in the bytes and words.

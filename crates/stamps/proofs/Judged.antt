@@ -14,22 +14,28 @@ use Rattle.bytes.proofs.Numerals.{digit-is}
 use Rattle.dates.specs.Date.{like, isTime, found, timeFound, goodDay, goodClock, number-at}
 use Rattle.dates.proofs.Shapes.{like-long, bytes-are}
 use Rattle.kinds.specs.Kind.{time, formed, allowed}
+use Rattle.kinds.specs.Judged.{judged}
 use Rattle.calendar.specs.Time.{utc, limit, microseconds}
 use Rattle.calendar.proofs.Times.{utc-length, utc-formed, utc-allowed, utc-year, utc-second}
 use Rattle.calendar.proofs.Named.{Taken, utc-only, named-before}
 use Rattle.stamps.specs.Stamp.{isStamp}
 use Rattle.stamps.proofs.Stamps.{stamp-is, utc-stamp}
 
+-- the finding of the kind is that of the date
+pub time-judged : (v : Bytes) → judged time v ≡ timeFound v
+unfolding judged formed allowed timeFound
+time-judged v = refl
+
 -- EACH STAMP passes the tests
 record Tested (v : Bytes) : Type 0 where
   long : length v ≡ 24
-  judged : timeFound v ≡ 0
+  right : timeFound v ≡ 0
   year : 1970 ≤ number-at 0 4 v
   second : number-at 15 2 v ≤ 59
 
 utc-tested : (t : ℕ) → t < limit → Tested (utc t)
 unfolding timeFound formed allowed
-utc-tested t h = record { long = utc-length t; judged = ap₂ found (utc-formed t) (utc-allowed t h); year = utc-year t h; second = utc-second t h }
+utc-tested t h = record { long = utc-length t; right = ap₂ found (utc-formed t) (utc-allowed t h); year = utc-year t h; second = utc-second t h }
 
 tested : (v : Bytes) → isStamp v ≡ true → Tested v
 tested v h = let w = stamp-is v h in subst Tested (sym (w .0)) (utc-tested (microseconds v) (w .1))
@@ -45,7 +51,7 @@ pub not-long : (v : Bytes) → (length v ≡ 24 → ⊥) → false ≡ isStamp v
 not-long v n = no-stamp v (λ T. n (T .long))
 
 pub not-time : (v : Bytes) → (timeFound v ≡ 0 → ⊥) → false ≡ isStamp v
-not-time v n = no-stamp v (λ T. n (T .judged))
+not-time v n = no-stamp v (λ T. n (T .right))
 
 -- WHERE A SHAPE HAS A LETTER stands a digit
 digit-in : (s v : Bytes) → like s v ≡ true → (i : ℕ) → leb 65 (getD s i 0) ≡ true → Digit (getD v i 0)

@@ -1,5 +1,6 @@
 // Whether bytes are a time as our messages carry it: from 1970 on, six decimals, no second 60.
-use dates::judge_time;
+use kinds::Kind;
+use kinds::judge;
 ghost use mathlib.Core.Path.{_≡_};
 ghost use Rattle.stamps.specs.Stamp.{isStamp};
 
@@ -9,7 +10,7 @@ pub fn is_stamp(v: &[u8]) -> bool
     if v.len() != 24 {
         return false;
     }
-    if judge_time(v) != 0 {
+    if judge(Kind::Time, v) != 0 {
         return false;
     }
     // No second 60.

@@ -93,6 +93,35 @@ run-same n end ks ls same = go (leb n end) refl
         let h : end ≤ n = omega (arith, l) in
         run-short n end ks h ∙ sym (run-short n end ls h)
 
+-- ONE NUMBER FIRST, and then the others
+run-swap : (n e x m : ℕ) → runTo n (runTo n e (x ∷ [])) (m ∷ []) ≡ runTo n (runTo n e (m ∷ [])) (x ∷ [])
+run-swap n e x m = go (ltb n x) (ltb n m) (leb x e) (leb m e) (leb m (x - 1)) (leb x (m - 1)) refl refl refl refl refl refl
+  where
+    go : (a b c d p q : Bool) → ltb n x ≡ a → ltb n m ≡ b → leb x e ≡ c → leb m e ≡ d → leb m (x - 1) ≡ p → leb x (m - 1) ≡ q
+        → cond (b && leb m (cond (a && c) (x - 1) e)) (m - 1) (cond (a && c) (x - 1) e) ≡ cond (a && leb x (cond (b && d) (m - 1) e)) (x - 1) (cond (b && d) (m - 1) e)
+    go false false c d p q i j k l s t = refl
+    go false true c d p q i j k l s t = rw l
+    go true false c d p q i j k l s t = rw k
+    go true true true true true true i j k l s t =
+        let x0 = ltb-true n x i in let y = leb-true m (x - 1) s in let z = leb-true x (m - 1) t in absurd (omega (arith, x0, y, z))
+    go true true true true true false i j k l s t = rw (s, t)
+    go true true true true false true i j k l s t = rw (s, t)
+    go true true true true false false i j k l s t =
+        let x0 = ltb-true n x i in let m0 = ltb-true n m j in
+        let y = leb-false m (x - 1) s in let z = leb-false x (m - 1) t in
+        let h : x - 1 ≡ m - 1 = omega (arith, x0, m0, y, z) in rw (s, t, h)
+    go true true true false true q i j k l s t =
+        let y = leb-true x e k in let z = leb-false m e l in let w = leb-true m (x - 1) s in absurd (omega (arith, y, z, w))
+    go true true true false false q i j k l s t = rw (s, k)
+    go true true false true p true i j k l s t =
+        let y = leb-false x e k in let z = leb-true m e l in let w = leb-true x (m - 1) t in absurd (omega (arith, y, z, w))
+    go true true false true p false i j k l s t = rw (l, t)
+    go true true false false p q i j k l s t = rw (l, k)
+
+run-first : (n e m : ℕ) (ms : List ℕ) → runTo n e (m ∷ ms) ≡ runTo n (runTo n e (m ∷ [])) ms
+run-first n e m [] = refl
+run-first n e m (x ∷ ms) = run-swap n (runTo n e ms) x m ∙ ap (λ (k : ℕ). runTo n k (x ∷ [])) (run-first n e m ms)
+
 -- THE WALK over the places of a store
 pub slice-length : (store : Bytes) (i : ℕ) → isStore store ≡ true → i < 64 → length (take (512 * i + 512 - 512 * i) (drop (512 * i) store)) ≡ 512
 slice-length store i s l = ap length (sym (slice-at store i l)) ∙ place-length store i s l
@@ -116,17 +145,18 @@ module _ (us them store : Bytes) where
       let e = places-length store in
       place-is us them n [] (places store) i k refl (omega (arith, e, l)) before (λ h. at (omega (arith, e, h)))
 
-  pub run-none : (at end : ℕ) → end ≡ runTo at end (numbersOf us them (drop 64 (places store)))
-  run-none at end = let e = places-length store in sym (ap (λ (ps : List Bytes). runTo at end (numbersOf us them ps)) (drop-of-length-le (places store) {i = 64} (omega (arith, e))))
+  -- what is left of a run behind all places is the run; one place more, and then the others
+  pub run-all : (at e i : ℕ) → 64 ≤ i → runTo at e (numbersOf us them (drop i (places store))) ≡ e
+  run-all at e i l = let n = places-length store in ap (λ (ps : List Bytes). runTo at e (numbersOf us them ps)) (drop-of-length-le (places store) {i = i} (omega (arith, n, l)))
 
-  pub run-next : (at end e f i : ℕ) → i < 64 → e ≡ runTo at end (numbersOf us them (drop (suc i) (places store)))
-      → f ≡ runTo at e (numberOf (held us them (take (512 * i + 512 - 512 * i) (drop (512 * i) store))) ∷ [])
-      → f ≡ runTo at end (numbersOf us them (drop i (places store)))
-  run-next at end e f i l p q =
+  pub run-next : (at e f i : ℕ) → i < 64 → f ≡ runTo at e (numberOf (held us them (take (512 * i + 512 - 512 * i) (drop (512 * i) store))) ∷ [])
+      → runTo at f (numbersOf us them (drop (suc i) (places store))) ≡ runTo at e (numbersOf us them (drop i (places store)))
+  run-next at e f i l q =
       let n = places-length store in
-      q ∙ ap (λ (m : ℕ). runTo at e (m ∷ [])) (sym (number-at i l))
-      ∙ ap (λ (k : ℕ). runTo at k (numberAt us them (places store) i ∷ [])) p
-      ∙ sym (ap (λ (ps : List Bytes). runTo at end (numbersOf us them ps)) (drop-cons (places store) i [] (omega (arith, n, l))))
+      let rest = numbersOf us them (drop (suc i) (places store)) in
+      ap (λ (k : ℕ). runTo at k rest) (q ∙ ap (λ (m : ℕ). runTo at e (m ∷ [])) (sym (number-at i l)))
+      ∙ sym (run-first at e (numberAt us them (places store) i) rest)
+      ∙ sym (ap (λ (ps : List Bytes). runTo at e (numbersOf us them ps)) (drop-cons (places store) i [] (omega (arith, n, l))))
 
   pub run-kept : (at end : ℕ) → runTo at end (numbersOf us them (places store)) ≡ runTo at end (numbers (kept us them store))
   unfolding kept

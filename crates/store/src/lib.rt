@@ -111,16 +111,17 @@ fn run_before(place: &[u8], us: &[u8], them: &[u8], at: u64, end: u64) -> u64
     n - 1
 }
 
-// How far a run of numbers goes that are not kept, from one to another at most.
+// How far a run of numbers goes that are not kept, from one to another at most. Reports stand mostly in the order of their numbers, so the first places end
+// it soon, and few are looked at whole.
 pub fn run_to(store: &[u8], us: &[u8], them: &[u8], at: u64, end: u64) -> u64
     requires { ⌜ (isStore (now store) ≡ true) × (compID (now us) ≡ true) × (compID (now them) ≡ true) ⌝ }
     ensures { λ e. ⌜ e ≡ runTo at end (numbers (kept (now (us .entry)) (now (them .entry)) (now (store .entry)))) ⌝ }
 {
     let mut e = end;
-    let mut i = 64;
-    while 0 < i {
-        i -= 1;
+    let mut i = 0;
+    while i < 64 {
         e = run_before(&store[512 * i..512 * i + 512], us, them, at, e);
+        i += 1;
     }
     e
 }
