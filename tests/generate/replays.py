@@ -7,7 +7,7 @@ from .bodies import any_type, message
 from .incoming import asked_step, incoming, near, text
 from .records import BAD_STORES, ROOMS, SHORT_ROOMS, USED_UP, Session, any_session, any_store, call_time, left_by, room
 from .reports import VALUE_FAULTS, Report, asked
-from .stores import any_reports, full, some_reports
+from .stores import DAMAGES, Lent, any_reports, full, kept_report, some_reports
 
 
 def replaying(r):
@@ -62,6 +62,28 @@ def replay_whole(r):
         time += r.choice((0, 1, 1000))
         if words.split(" ")[-1] == "0":
             return
+
+
+def one_place(r, session, number, place):
+    """A store with one report, most often damaged, in this place."""
+    frame = kept_report(r, session.ours, session.peer, number)
+    return Lent({place: r.choice(DAMAGES)(r, frame) if chance(r, 0.9) else frame}).word()
+
+
+def place_by_report(r):
+    """What one place holds, as a report sees it: it goes there or into the next one."""
+    session = Session(r, ACTIVE)
+    store = one_place(r, session, r.choice((1, 7, session.next_out, 999999990)), 0)
+    yield asked(r, session, Report(r, 0), CALL_TIME, 512, store)
+
+
+def place_by_replay(r):
+    """What one place holds, as a replay sees it that begins at its number or before it; also at the last usable number."""
+    session = Session(r, ACTIVE)
+    number = r.choice((2, 9, 10, 99, 100, 999999989, 999999990))
+    session.next_out = min(999999999, number + r.choice((1, 2, 9)))
+    session.at, session.to = max(1, number - r.choice((0, 0, 0, 1, 5))), session.next_out - 1
+    yield asked_replay(session, call_time(r), LEAST_REPLY_ROOM, one_place(r, session, number, r.choice((0, 17, 63))))
 
 
 def report_stored(r):
@@ -182,7 +204,7 @@ def store_last_64(r):
 
 # How often each comes, beside the others of mixture.py.
 WEIGHTS = {
-    replay_some: 6, replay_empty: 1.5, replay_idle: 0.7, replay_several_refusals: 1, replay_whole: 0.15, report_stored: 3,
-    report_full: 0.3, report_refusals_and_store: 1, step_starting: 3, step_logon_stored: 0.7, step_while_replaying: 2,
-    store_along: 0.12, store_last_64: 0.004,
+    replay_some: 4, replay_empty: 1.5, replay_idle: 0.7, replay_several_refusals: 1, replay_whole: 0.15, place_by_report: 4,
+    place_by_replay: 4, report_stored: 2, report_full: 0.3, report_refusals_and_store: 1, step_starting: 3,
+    step_logon_stored: 0.7, step_while_replaying: 2, store_along: 0.12, store_last_64: 0.004,
 }

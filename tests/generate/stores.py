@@ -7,7 +7,7 @@ from .bodies import message, part
 from .faults import faulty
 from .records import TIMES
 from .reports import Report, stretch
-from .values import TIME_EDGES
+from .values import TIME_EDGES, edge_value
 
 HEAD = 5                        # the fields of a report's header: 35, 49, 56, 34, 52
 
@@ -97,6 +97,23 @@ def transact_time_changed(r, frame):
     return reframed(parts)
 
 
+def parties_changed(r, frame):
+    """Short ones, up to nine and none, or a count that is not theirs."""
+    parts = [piece for piece in parts_of(frame) if not piece.startswith((b"453=", b"448=", b"447=", b"452="))]
+    count = r.choice((0, 1, 7, 8, 8, 9, 9, 10))
+    said = count if chance(r, 0.7) else r.choice((0, count - 1, count + 1, 8, 9))
+    return reframed(parts + [b"453=%d" % max(0, said)] + [b"448=P", b"447=D", b"452=1"] * count)
+
+
+def value_changed(r, frame):
+    """One of the report's own at an edge of its kind."""
+    parts = parts_of(frame)
+    at = r.randrange(HEAD, len(parts))
+    tag = model.cut(parts[at])[0]
+    parts[at] = part(tag, edge_value(r, tag))
+    return reframed(parts)
+
+
 def marked(r, frame):
     """A header with more in it: as a duplicate, as our replay sends it, as another engine may."""
     time = parts_of(frame)[4].partition(b"=")[2]
@@ -158,8 +175,9 @@ def any_bytes(r, frame):
 
 
 DAMAGES = (byte_changed, bit_changed, bit_changed, body_changed, field_changed, fields_swapped, number_changed, number_changed,
-           time_changed, time_changed, transact_time_changed, marked, of_another_peer, comp_ids_swapped, not_at_the_start,
-           bytes_behind, cut, length_changed, sum_changed, another_message, any_bytes)
+           time_changed, time_changed, transact_time_changed, parties_changed, value_changed, value_changed, marked,
+           of_another_peer, comp_ids_swapped, not_at_the_start, bytes_behind, cut, length_changed, sum_changed, another_message,
+           any_bytes)
 
 
 # ---- Stores ----------------------------------------------------------------------------------------------------------
