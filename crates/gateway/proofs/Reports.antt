@@ -2,6 +2,8 @@
 use Prim.Native.Nat.{ℕ}
 use mathlib.Core.Path.{ap, _∙_}
 use mathlib.Core.List.{[], _∷_}
+use mathlib.Core.Option.{Option}
+use lib.ListN.{length}
 use Rattle.bytes.specs.Bytes.{Bytes, Byted}
 use Rattle.frame.specs.Frame.{fixt}
 use Rattle.frame.specs.Stream.{Frames, joined}
@@ -14,13 +16,15 @@ use Rattle.report.proofs.Promise as Report
 use Rattle.readback.specs.Back.{readBack, wordsIn}
 use Rattle.readback.proofs.Promise as Back
 use Rattle.moves.specs.Session.{Session}
+use Rattle.places.specs.Places.{isStore}
 use Rattle.session.specs.Calls.{Outcome}
-use Rattle.reporting.specs.Call.{theReport, message, report}
+use Rattle.session.specs.declared.Answer.{Answer}
+use Rattle.reporting.specs.Call.{theReport, message, unless, report}
 use Rattle.reporting.proofs.Promise.{Passed, each-report, passed-sendable}
 use Rattle.gateway.specs.Promise.{WholeReport, AllOf}
 
 module _ (s : Session) (v : Values) (t : ℕ) (buf store : Bytes) (ours : Byted (s .ours)) (peers : Byted (s .peers)) (b : OfBytes (own v)) where
-  good-report : Passed s v t → WholeReport v (message s v t)
+  good-report : Passed s v t (isStore store) → WholeReport v (message s v t)
   unfolding message
   good-report P =
       let h = passed-sendable s v t P in
@@ -40,4 +44,7 @@ module _ (s : Session) (v : Values) (t : ℕ) (buf store : Bytes) (ours : Byted 
   Stands o = AllOf (WholeReport v) (o .reply) × Frames fixt (joined (o .reply)) (o .reply)
 
   pub report-whole : Stands (report s v t buf store)
-  report-whole = each-report Stands s v t buf store (λ k. (tt, joined-frames [] tt)) (λ P. let W = good-report P in ((W, tt), joined-frames (message s v t ∷ []) (W .frame, tt)))
+  unfolding report
+  report-whole =
+      each-report (λ (a : Option Answer). Stands (unless s v t a buf)) s v t (isStore store) (length buf) (λ k. (tt, joined-frames [] tt))
+      (λ P. let W = good-report P in ((W, tt), joined-frames (message s v t ∷ []) (W .frame, tt)))
