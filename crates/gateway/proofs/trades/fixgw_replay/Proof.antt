@@ -1,4 +1,4 @@
--- `fixgw_tick`: no record in the words, or a tick on it.
+-- `fixgw_replay`: no record in the words, or a replay call on it.
 use borrow.Author.Tests.{not-true, not-false}
 use mathlib.Core.Path.{refl, sym, _∙_}
 use Rattle.border.proofs.Keeping.{no-record, record-length}
@@ -8,18 +8,18 @@ use Rattle.gateway.proofs.Calls.{replay-unread, replay-left}
 
 returns : tie.Need-returns
 returns c =
-    let a = c .before .before .before .before .before .before .args in
+    let a = c .before .before .before .before .before .before .before .args in
     replay-unread (a .ids .now) (a .words .now) (no-record (a .words .now) (a .ids .now) (sym (c .before .before .is-record .ensures) ∙ not-true _ (c .before .if1 .taken))) (a .time) (a .buf .now) (a .store .now)
 
 load-requires : tie.Need-load-requires
 load-requires c κs = sym (c .before .before .is-record .ensures) ∙ not-false _ (c .before .if1 .left)
 
 leave-requires : tie.Need-leave-requires
-leave-requires c κs = record-length (c .before .before .before .before .before .before .before .before .before .before .before .before .before .args .words .now) (sym (c .before .before .before .before .before .before .before .before .before .is-record .ensures) ∙ not-false _ (c .before .before .before .before .before .before .before .before .if1 .left))
+leave-requires c κs = record-length (c .before .before .before .before .before .before .before .before .before .before .before .before .before .before .args .words .now) (sym (c .before .before .before .before .before .before .before .before .before .is-record .ensures) ∙ not-false _ (c .before .before .before .before .before .before .before .before .if1 .left))
 
 returns-2 : tie.Need-returns-2
 returns-2 c =
-    let a = c .before .before .before .before .before .before .before .before .before .before .before .before .before .before .before .before .args in
+    let a = c .before .before .before .before .before .before .before .before .before .before .before .before .before .before .before .before .before .args in
     let left = c .before .before .leave .ensures in
     replay-left (a .ids .now) (a .words .now) (c .before .before .before .before .before .before .before .before .before .load .ensures) (left .0) (left .1) (a .time) (a .buf .now) (a .store .now) (c .before .before .before .before .before .before .before .replay .ensures)
 

@@ -8,16 +8,22 @@ use Rattle.gateway.proofs.trades.fixgw_report.Statement.{statement}
 use Rattle.gateway.proofs.trades.fixgw_report.Tie as tie
 
 returns : tie.Need-returns
-returns c = let a = c .before .before .before .before .before .before .before .args in report-unread (a .ids .now) (a .words .now) (no-record (a .words .now) (a .ids .now) (sym (c .before .before .is-record .ensures) ∙ not-true _ (c .before .if1 .taken))) (a .values .now) (a .text .now) (a .time) (a .buf .now) (a .store .now)
+returns c =
+    let a = c .before .before .before .before .before .before .before .before .args in
+    report-unread (a .ids .now) (a .words .now) (no-record (a .words .now) (a .ids .now) (sym (c .before .before .is-record .ensures) ∙ not-true _ (c .before .if1 .taken))) (a .values .now) (a .text .now) (a .time) (a .buf .now) (a .store .now)
 
 load-requires : tie.Need-load-requires
 load-requires c κs = sym (c .before .before .is-record .ensures) ∙ not-false _ (c .before .if1 .left)
 
 leave-requires : tie.Need-leave-requires
-leave-requires c κs = record-length (c .before .before .before .before .before .before .before .before .before .before .before .before .before .before .args .words .now) (sym (c .before .before .before .before .before .before .before .before .before .is-record .ensures) ∙ not-false _ (c .before .before .before .before .before .before .before .before .if1 .left))
+leave-requires c κs = record-length (c .before .before .before .before .before .before .before .before .before .before .before .before .before .before .before .before .before .before .args .words .now) (sym (c .before .before .before .before .before .before .before .before .before .before .before .before .is-record .ensures) ∙ not-false _ (c .before .before .before .before .before .before .before .before .before .before .before .if1 .left))
 
 returns-2 : tie.Need-returns-2
-returns-2 c = let a = c .before .before .before .before .before .before .before .before .before .before .before .before .before .before .before .before .before .args in let left = c .before .before .leave .ensures in report-left (a .ids .now) (a .words .now) (c .before .before .before .before .before .before .before .before .before .load .ensures) (left .0) (left .1) (a .values .now) (a .text .now) (a .time) (a .buf .now) (a .store .now) (c .before .before .before .before .before .before .before .report .ensures .leaves) (c .before .before .before .before .before .before .before .report .ensures .stored)
+returns-2 c =
+    let a = c .before .before .before .before .before .before .before .before .before .before .before .before .before .before .before .before .before .before .before .before .before .args in
+    let left = c .before .before .leave .ensures in
+    let reports = c .before .before .before .before .before .before .before .before .before .report .ensures in
+    report-left (a .ids .now) (a .words .now) (c .before .before .before .before .before .before .before .before .before .before .before .before .load .ensures) (left .0) (left .1) (a .values .now) (a .text .now) (a .time) (a .buf .now) (a .store .now) (reports .leaves) (reports .stored)
 
 pub fixgw-report-spec : {M : Type 1} → statement M
 fixgw-report-spec =
@@ -29,6 +35,7 @@ fixgw-report-spec =
     load-requires
     (λ c κs. search needs)
     leave-requires
+    (λ c. search needs)
     (λ c. search needs)
     (λ c. search needs)
     returns-2)
