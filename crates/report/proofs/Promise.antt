@@ -4,7 +4,7 @@ use Prim.Native.Nat.{ℕ, _≤_, _<_}
 use native.Mathlib.Omega.{arith}
 use mathlib.Core.Path.{_≡_, refl, ap, _∙_}
 use mathlib.Core.Bool.{true}
-use mathlib.Core.Option.{some}
+use mathlib.Core.Option.{none, some}
 use lib.ListN.{length}
 use Rattle.bytes.specs.Bytes.{Bytes, fix}
 use Rattle.calendar.specs.Time.{utc, limit}
@@ -28,6 +28,14 @@ module _ (us them : Bytes) (r : Report) where
   clean : sendable us them r ≡ true → verdict (bodyIn (sent us them r)) ≡ Clean
   unfolding sent
   clean h = ap verdict (body-back (row (fieldsOf us them r))) ∙ sent-clean us them r h
+
+  sent-first : (u : ℕ) → sendable us them r ≡ true → firstField u (bodyIn (sent us them r)) ≡ shownFor u (fieldsOf us them r)
+  unfolding sent
+  sent-first u h =
+      let S = sendable-is us them r h in
+      ap (firstField u) (body-back (row (fieldsOf us them r)))
+      ∙ first-free u (fieldsOf us them r)
+      (all-free us them (r .number) none (r .time) none (r .values) (comp-free us (S .ours)) (comp-free them (S .peers)) tt tt (S .taken))
 
   resent-body : (t : ℕ) → bodyIn (again us them r t) ≡ row (fieldsWith us them (r .number) (bytes (fix "Y")) t (bytes (utc (r .time))) (r .values))
   unfolding again
@@ -62,11 +70,17 @@ promise =
             bar = sent-bar us them r;
             short = sendable-is us them r h .short;
             clean = clean us them r h;
+            sender = sent-first us them r 49 h;
+            target = sent-first us them r 56 h;
+            numbered = sent-first us them r 34 h;
+            timed = sent-first us them r 52 h;
             reads = sent-read us them r h;
             back = sent-back us them r h;
           };
       repeated = λ us them r h t.
           record {
+            sender = resent-first us them r t 49 h;
+            target = resent-first us them r t 56 h;
             number = resent-first us them r t 34 h;
             duplicate = resent-first us them r t 43 h;
             new-52 = resent-first us them r t 52 h;

@@ -39,6 +39,11 @@ pub record Written (us them : Bytes) (r : Report) : Type 0 where
   pub short : length (sent us them r) ≤ 512
   -- .. with a clean verdict
   pub clean : verdict (bodyIn (sent us them r)) ≡ Clean
+  -- from us to the peer, under its number, at its time: "A report from the host takes the next number out"
+  pub sender : firstField 49 (bodyIn (sent us them r)) ≡ some us
+  pub target : firstField 56 (bodyIn (sent us them r)) ≡ some them
+  pub numbered : firstField 34 (bodyIn (sent us them r)) ≡ some (decimal (r .number))
+  pub timed : firstField 52 (bodyIn (sent us them r)) ≡ some (utc (r .time))
   -- "reading gives back both": all the values, each amount as its whole number and its places, and with them the number and the time, ..
   pub reads : reportIn (bodyIn (sent us them r)) ≡ r
   -- .. by the strict reader too
@@ -46,6 +51,8 @@ pub record Written (us them : Bytes) (r : Report) : Type 0 where
 
 -- Q-4: "each kept report goes out again under its old number with 43=Y, a new 52 and its first 52 as 122", and with its values
 pub record Repeated (us them : Bytes) (r : Report) (t : ℕ) : Type 0 where
+  pub sender : firstField 49 (bodyIn (again us them r t)) ≡ some us
+  pub target : firstField 56 (bodyIn (again us them r t)) ≡ some them
   pub number : firstField 34 (bodyIn (again us them r t)) ≡ some (decimal (r .number))
   pub duplicate : firstField 43 (bodyIn (again us them r t)) ≡ some (fix "Y")
   pub new-52 : firstField 52 (bodyIn (again us them r t)) ≡ some (utc t)
