@@ -35,10 +35,10 @@ not-held w o h e = false≢true (sym h ∙ is-held w o e)
 
 -- A LOGON that is answered
 pub record EachLogon (P : Deeds → Type 0) (s : Session) (body : Bytes) : Type 0 where
-  pub anew : N s body ≡ 1 → P (Anew ∷ logon s body (bytes (fix "Y")))
+  pub anew : isIt (fix "Y") (firstField 141 body) ≡ true → N s body ≡ 1 → P (Anew ∷ logon s body (bytes (fix "Y")))
   pub logged-out : P (logout s body 101)
-  pub in-turn : N s body ≡ s .E → P (counted s body (logon s body absent))
-  pub high : s .E < N s body → P (logon s body absent ++ resend-request s body)
+  pub in-turn : isIt (fix "Y") (firstField 141 body) ≡ false → N s body ≡ s .E → P (counted s body (logon s body absent))
+  pub high : isIt (fix "Y") (firstField 141 body) ≡ false → s .E < N s body → P (logon s body absent ++ resend-request s body)
 
 -- A MESSAGE IN TURN
 pub record EachTurn (P : Deeds → Type 0) (s : Session) (body : Bytes) : Type 0 where
@@ -64,18 +64,18 @@ pub record EachRule (P : Deeds → Type 0) (s : Session) (body : Bytes) : Type 0
 module _ (P : Deeds → Type 0) (s : Session) (body : Bytes) where
   pub each-logon : EachLogon P s body → P (waiting s body)
   unfolding waiting reset no-reset
-  each-logon R = go (isIt (fix "Y") (firstField 141 body)) (eqb (N s body) 1) (ltb (N s body) (s .E)) (eqb (N s body) (s .E)) (ltb (s .E) (N s body)) refl refl refl refl
+  each-logon R = go (isIt (fix "Y") (firstField 141 body)) (eqb (N s body) 1) (ltb (N s body) (s .E)) (eqb (N s body) (s .E)) (ltb (s .E) (N s body)) refl refl refl refl refl
     where
-      go : (p q l m h : Bool) → eqb (N s body) 1 ≡ q → ltb (N s body) (s .E) ≡ l → eqb (N s body) (s .E) ≡ m → ltb (s .E) (N s body) ≡ h → P (first
+      go : (p q l m h : Bool) → isIt (fix "Y") (firstField 141 body) ≡ p → eqb (N s body) 1 ≡ q → ltb (N s body) (s .E) ≡ l → eqb (N s body) (s .E) ≡ m → ltb (s .E) (N s body) ≡ h → P (first
           ((cond q (Anew ∷ logon s body (bytes (fix "Y"))) (logout s body 101) when p)
           ∷ first ((logout s body 101 when l) ∷ (counted s body (logon s body absent) when m) ∷ ((logon s body absent ++ resend-request s body) when h) ∷ [])
           ∷ []) otherwise [])
-      go true true l m h a b c d = R .anew (eqb-true _ _ a)
-      go true false l m h a b c d = R .logged-out
-      go false q true m h a b c d = R .logged-out
-      go false q false true h a b c d = R .in-turn (eqb-true _ _ c)
-      go false q false false true a b c d = R .high (ltb-true _ _ d)
-      go false q false false false a b c d =
+      go true true l m h y a b c d = R .anew y (eqb-true _ _ a)
+      go true false l m h y a b c d = R .logged-out
+      go false q true m h y a b c d = R .logged-out
+      go false q false true h y a b c d = R .in-turn y (eqb-true _ _ c)
+      go false q false false true y a b c d = R .high y (ltb-true _ _ d)
+      go false q false false false y a b c d =
           let x = ltb-false (N s body) (s .E) b in
           let y = ltb-false (s .E) (N s body) d in
           absurd (eqb-false (N s body) (s .E) c (omega arith))

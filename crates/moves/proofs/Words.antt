@@ -23,15 +23,17 @@ module _ {A : Type 0} (P : A → Type 0) where
   said-when a true h = h refl
   said-when a false h = tt
 
-  pub said-first : (os : List (Option A)) → Each os (Unit {0}) → Said (first os)
-  said-first [] h = tt
-  said-first (none ∷ os) h = said-first os (h .1 refl)
-  said-first (some a ∷ os) h = h .0
+-- THE FIRST: what holds of each that may be it, and of silence, holds of it
+pub each-first : {A : Type 0} (P : Option A → Type 0) (os : List (Option A)) → Each (λ a. P (some a)) os (P none) → P (first os)
+each-first P [] h = h
+each-first P (none ∷ os) h = each-first P os (h .1 refl)
+each-first P (some a ∷ os) h = h .0
 
-  pub said-otherwise : (os : List (Option A)) (a : A) → Each os (P a) → P (first os otherwise a)
-  said-otherwise [] a h = h
-  said-otherwise (none ∷ os) a h = said-otherwise os a (h .1 refl)
-  said-otherwise (some b ∷ os) a h = h .0
+pub said-first : {A : Type 0} (P : A → Type 0) (os : List (Option A)) → Each P os (Unit {0}) → Said P (first os)
+said-first P = each-first (Said P)
+
+pub said-otherwise : {A : Type 0} (P : A → Type 0) (os : List (Option A)) (a : A) → Each P os (P a) → P (first os otherwise a)
+said-otherwise P os a = each-first (λ o. P (o otherwise a)) os
 
 -- one of a list, then those behind it
 pub then-by : {A B : Type 0} → A → B → A × B

@@ -41,7 +41,7 @@ letter ours peers n time (TestRequest id) = Reply.testRequest ours peers n time 
 
 -- WHAT A MOVE DOES, one thing behind the other
 pub data Deed : Type 0 where
-  Write : Letter → Deed  -- with the next number, which it uses
+  Write : Letter → Deed  -- with the next number, which it uses: "other replies use the next"
   Start : Replay → Deed  -- this replay starts, in place of any other
   Count : Deed  -- E + 1
   Fill-to : ℕ → Deed  -- E becomes that, by a gap fill
@@ -148,10 +148,14 @@ module _ (s : Session) (body : Bytes) where
   unfoldable pub unserved : Option Deeds
   unserved = first (reject 5 7 when L <? b ∷ reject 5 16 when (0 <? e && e <? b) ∷ [])
 
-  -- Document 02: "A Resend Request is then served in number order .. The step, in rule 4 too, only starts this, with L from before the step.": from b to
-  -- the smaller of e and L (L if e = 0). "a new Resend Request that can be served replaces it."
+  -- "else .. 36 one above the smaller of e and L (L if e = 0)": the numbers that are asked for, b to the smaller of e and L
+  abbrev pub requested : Replay
+  requested = record { at = b; to = if e =? 0 then L else min e L }
+
+  -- Document 02: "A Resend Request is then served in number order .. The step, in rule 4 too, only starts this, with L from before the step. .. Demand 2's
+  -- serving rule now reads this way"; "a new Resend Request that can be served replaces it."
   unfoldable pub served : Deeds
-  served = Start (record { at = b; to = if e =? 0 then L else min e L }) ∷ []
+  served = Start requested ∷ []
 
   -- ACTIVE, first rule that fits
   -- "1. 34 unreadable: Logout."
@@ -195,9 +199,9 @@ module _ (s : Session) (body : Bytes) where
   unfoldable pub rule-5 : Option Deeds
   rule-5 = too-low when N <? E
 
-  -- "6. N = E: a verdict gives Reject, E + 1. Type 1: Heartbeat with its 112. Type 2: gap fill, below (served, above). Gap fill: 36 not above N, Reject 5,
-  -- tag 36, E + 1; else E becomes 36. Type 5: Logout, Closed. A: Reject 99, tag 35. AD, F: delivered. 0, 3: nothing.
-  -- Where not said here, E + 1; elsewhere E stays."
+  -- "6. N = E: a verdict gives Reject, E + 1. Type 1: Heartbeat with its 112. Type 2: gap fill, below. Gap fill: 36 not above N, Reject 5, tag 36, E + 1;
+  -- else E becomes 36. Type 5: Logout, Closed. A: Reject 99, tag 35. AD, F: delivered. 0, 3: nothing. Where not said here, E + 1; elsewhere E stays."
+  -- (By document 02 a Resend Request is served as said above.)
   unfoldable pub filled : Deeds
   filled = if # 36 ≤? N then counted (reject 5 36) else Fill-to (# 36) ∷ []
 

@@ -1,42 +1,52 @@
 -- What starts, replaces and drops a replay, in every call.
 -- Assumes nothing.
-use Prim.Native.Nat.{ℕ, _-_, _≤_, min}
+use Prim.Native.Nat.{ℕ, _+_, _≤_, _<_}
 use native.Mathlib.Omega.{arith}
 use mathlib.Core.Path.{_≡_, refl, sym, ap, _∙_}
 use mathlib.Core.Bool.{Bool, true, false, cond, false≢true}
-use mathlib.Core.List.{[], _++_}
+use mathlib.Core.List.{_∷_, _++_}
 use mathlib.Core.Option.{none, some}
 use lib.Dec.{eqb}
-use Rattle.bytes.specs.Bytes.{Bytes}
+use Rattle.bytes.specs.Bytes.{Bytes, Byted}
 use Rattle.table.specs.declared.MsgType.the-variants.{ResendRequest}
 use Rattle.table.specs.Dictionary.{code35}
+use Rattle.dictionary.specs.declared.Verdict.the-variants.{Clean}
 use Rattle.dictionary.specs.Verdict.{verdict, msgType}
 use Rattle.message.specs.Whole.{bodyIn}
 use Rattle.moves.specs.Words.{speaks}
-use Rattle.moves.specs.Session.{Session, Replay, no-replay, inRange}
+use Rattle.moves.specs.Session.{Session, Replay, no-replay, expecting, replaying, inRange}
 use Rattle.moves.specs.Seen.{isClean}
-use Rattle.moves.specs.Moves.{Deeds, OurPeer, #, N, readable, type, reject, reject-type, counted, logout, resend-request, unserved, served, logon, waiting, stranger, too-high, in-turn, active}
-use Rattle.session.specs.Calls.{Outcome, refusing, step, tick, reconnect, afterAll}
-use Rattle.session.specs.Promise.{Moved, kept, dropped, replaced, Disturbs}
+use Rattle.moves.specs.Moves.{Deeds, Start, OurPeer, N, readable, type, reject, reject-type, counted, logout, resend-request, unserved, requested, served, logon, waiting, stranger, too-high, in-turn, active}
+use Rattle.moves.specs.declared.record.Status.the-variants.{Active, Closed}
+use Rattle.session.specs.Calls.{Outcome, making, refusing, keeping, step, tick, reconnect, afterAll}
+use Rattle.session.specs.Promise.{Unrefused, Served, Moved, kept, dropped, replaced, Disturbs}
 use Rattle.session.specs.declared.Refusal.{Refusal}
+use Rattle.session.specs.declared.Answer.the-variants.{Done}
 use Rattle.letters.proofs.Carried.{type-is}
 use Rattle.moves.proofs.Readings.{is-clean}
 use Rattle.moves.proofs.EachRule.{each-logon, each-serving, each-reset, each-high, each-low, each-gap, each-turn, each-rule}
-use Rattle.session.proofs.Stepping.{ranged-is, none-waiting}
-use Rattle.session.proofs.EachCall.{each-refusal, each-step, each-tick, each-logout, each-test, active-step}
+use Rattle.session.proofs.Fitting.{fit-served}
+use Rattle.session.proofs.Stepping.{ranged-is, none-waiting, ample-by}
+use Rattle.session.proofs.EachCall.{each-refusal, each-step, each-tick, each-logout, each-test, active-step, body-bytes}
 
 -- A REFUSAL leaves it, or drops it by closing
-refusal-moves : (k : Refusal) (s : Session) (body buf : Bytes) → Moved s (refusing k s buf .session) body
-refusal-moves k s body buf = each-refusal (λ (u : Session). Moved s u body) k s (kept refl) (dropped refl refl)
+refusal-moves : (k : Refusal) (s : Session) (buf : Bytes) {Serves : Type 0} {asked-for : Replay} → Moved s (refusing k s buf .session) Serves asked-for
+refusal-moves k s buf {Serves} {asked-for} = each-refusal (λ (u : Session). Moved s u Serves asked-for) k s (kept refl (λ e. e)) (dropped refl refl)
 
 -- EVERY MOVE
-module _ (t : ℕ) (s : Session) (body : Bytes) where
+module _ (s : Session) (f : Bytes) (t : ℕ) (buf store : Bytes) where
+  abbrev body : Bytes
+  body = bodyIn f
+
   abbrev Goes : Deeds → Type 0
-  Goes ds = Moved s (afterAll t s ds) body
+  Goes ds = Moved s (afterAll t s ds) (Served s f t buf store) (requested s body)
 
   logon-moves : s .replay ≡ no-replay → Goes (waiting s body)
   unfolding logon
-  logon-moves idle = each-logon Goes s body (record { anew = λ e. kept (sym idle); logged-out = dropped refl refl; in-turn = λ e. kept (sym idle); high = λ l. kept (sym idle) })
+  logon-moves idle = each-logon Goes s body (record { anew = λ y e. kept (sym idle) unclosed; logged-out = dropped refl refl; in-turn = λ y e. kept (sym idle) unclosed; high = λ y l. kept (sym idle) unclosed })
+    where
+      unclosed : Active ≡ Closed → s .status ≡ Closed
+      unclosed e = let z : _≡_ {A = ℕ} 0 1 = cc in absurd (omega arith)
 
   stranger-moves : (tag : ℕ) → Goes (stranger s body tag)
   unfolding reject
@@ -46,70 +56,86 @@ module _ (t : ℕ) (s : Session) (body : Bytes) where
       go true = dropped refl refl
       go false = dropped refl refl
 
-  turn-moves : Goes (in-turn s body)
-  unfolding reject reject-type served
-  turn-moves = each-turn Goes s body (record {
-    report = λ y. kept refl;
-    finding = λ c. kept refl;
-    test = λ c y. kept refl;
-    resend = λ c y. each-serving (λ (ds : Deeds). Goes (counted s body ds)) s body (kept refl) (kept refl) (λ u. replaced y (ap isClean c) u refl);
-    gap = λ y. each-gap Goes s body (λ l. kept refl) (λ l. kept refl);
-    logout = λ y. dropped refl refl;
-    logon = λ y. kept refl;
-    application = λ c y. kept refl;
-    other = kept refl;
-  })
+  -- what is served, of a step that is not refused
+  module _ (U : Unrefused s f t buf store) where
+    serves : speaks (readable s body) ≡ true → OurPeer s body → s .E ≤ N s body → type s body "2" ≡ true → verdict body ≡ Clean → unserved s body ≡ none → Served s f t buf store
+    serves r p l y c u = record { unrefused = U; numbered = r; peer = p; not-low = l; request = y; no-verdict = ap isClean c; not-rejected = u }
 
-  active-moves : Goes (active s body)
-  unfolding reject served
-  active-moves = each-rule Goes s body (record {
-    one = λ r. dropped refl refl;
-    two = λ r h tag l. stranger-moves tag;
-    three = λ r p b. each-reset Goes s body (λ c. kept refl) (λ c l. kept refl) (λ c l. kept refl);
-    four = λ r p b h. each-high Goes s body (λ c y u. replaced y (ap isClean c) u refl) (kept refl);
-    five = λ r p b l. each-low Goes s body (dropped refl refl) (kept refl) (kept refl);
-    six = λ r p b e. turn-moves;
-  })
+    turn-moves : speaks (readable s body) ≡ true → OurPeer s body → N s body ≡ s .E → Goes (in-turn s body)
+    unfolding reject reject-type served
+    turn-moves r p e = each-turn Goes s body (record {
+      report = λ y. kept refl (λ e. e);
+      finding = λ c. kept refl (λ e. e);
+      test = λ c y. kept refl (λ e. e);
+      resend = λ c y. each-serving (λ (ds : Deeds). Goes (counted s body ds)) s body (kept refl (λ e. e)) (kept refl (λ e. e)) (λ u. replaced (serves r p (omega (arith, e)) y c u) refl);
+      gap = λ y. each-gap Goes s body (λ l. kept refl (λ e. e)) (λ l. kept refl (λ e. e));
+      logout = λ y. dropped refl refl;
+      logon = λ y. kept refl (λ e. e);
+      application = λ c y. kept refl (λ e. e);
+      other = kept refl (λ e. e);
+    })
 
-  -- A REQUEST THAT CAN BE SERVED
-  abbrev asked-for : Replay
-  asked-for = record { at = # s body 7; to = cond (eqb (# s body 16) 0) (s .next - 1) (min (# s body 16) (s .next - 1)) }
+    active-moves : Goes (active s body)
+    unfolding reject served
+    active-moves = each-rule Goes s body (record {
+      one = λ r. dropped refl refl;
+      two = λ r h tag l. stranger-moves tag;
+      three = λ r p b. each-reset Goes s body (λ c. kept refl (λ e. e)) (λ c l. kept refl (λ e. e)) (λ c l. kept refl (λ e. e));
+      four = λ r p b h. each-high Goes s body (λ c y u. replaced (serves r p (omega (arith, h)) y c u) refl) (kept refl (λ e. e));
+      five = λ r p b l. each-low Goes s body (dropped refl refl) (kept refl (λ e. e)) (kept refl (λ e. e));
+      six = λ r p b e. turn-moves r p e;
+    })
 
-  served-starts : OurPeer s body → speaks (readable s body) ≡ true → s .E ≤ N s body → type s body "2" ≡ true → isClean (verdict body) ≡ true → unserved s body ≡ none → afterAll t s (active s body) .replay ≡ asked-for
-  unfolding code35 too-high in-turn served
-  served-starts p r l y c u = each-rule (λ (ds : Deeds). afterAll t s ds .replay ≡ asked-for) s body (record {
-    one = λ k. absurd (false≢true (sym k ∙ r));
-    two = λ k h tag m. absurd (h p);
-    three = λ k h b. absurd (false≢true (sym (rw its-type) ∙ b));
-    four = λ k h b m. high;
-    five = λ k h b m. absurd (omega arith);
-    six = λ k h b m. turn;
-  })
-    where
-      its-type : msgType body ≡ some ResendRequest
-      its-type = type-is ResendRequest (msgType body) y
+  -- A REQUEST THAT IS SERVED: what the step does
+  module _ (S : Served s f t buf store) where
+    its-type : msgType body ≡ some ResendRequest
+    unfolding code35
+    its-type = type-is ResendRequest (msgType body) (S .request)
 
-      high : afterAll t s (too-high s body) .replay ≡ asked-for
-      high =
-          let k : too-high s body ≡ served s body ++ resend-request s body = rw (y, c, u) in
-          ap (λ (ds : Deeds). afterAll t s ds .replay) k
+    within-L : Byted f → (1 ≤ requested s body .at) × (requested s body .at ≤ requested s body .to) × (requested s body .to < s .next)
+    unfolding served
+    within-L B =
+        let U = S .unrefused in
+        let h = fit-served t s body (ample-by s (U .ranged) (U .unspent)) (body-bytes f B (U .one-frame)) (U .is-active) (is-clean (verdict body) (S .no-verdict)) (S .request) (S .not-rejected) .0 in
+        (h .1, h .2, h .3)
 
-      turn : afterAll t s (in-turn s body) .replay ≡ asked-for
-      turn =
-          let k : in-turn s body ≡ counted s body (served s body) = rw (is-clean (verdict body) c, its-type, u) in
-          ap (λ (ds : Deeds). afterAll t s ds .replay) k
+    -- of the six rules only those for E and above it can speak
+    served-by : (ds : Deeds) → (s .E < N s body → too-high s body ≡ ds) → (N s body ≡ s .E → in-turn s body ≡ ds) → active s body ≡ ds
+    unfolding code35
+    served-by ds high turn = each-rule (λ (x : Deeds). x ≡ ds) s body (record {
+      one = λ k. absurd (false≢true (sym k ∙ S .numbered));
+      two = λ k h tag m. absurd (h (S .peer));
+      three = λ k h b. absurd (false≢true (sym (rw its-type) ∙ b));
+      four = λ k h b m. high m;
+      five = λ k h b m. let l = S .not-low in absurd (omega (arith, l, m));
+      six = λ k h b m. turn m;
+    })
+
+    starts : N s body ≡ s .E → step s f t buf store ≡ keeping Done (replaying (requested s body) (expecting (s .E + 1) s)) buf
+    unfolding code35 in-turn served
+    starts e =
+        let k : in-turn s body ≡ counted s body (served s body) = rw (is-clean (verdict body) (S .no-verdict), its-type, S .not-rejected) in
+        active-step s f t buf store (S .unrefused)
+        ∙ ap (λ (ds : Deeds). making t s ds buf) (served-by (counted s body (served s body)) (λ m. absurd (omega (arith, m, e))) (λ m. k))
+
+    starts-too-high : s .E < N s body → step s f t buf store ≡ making t s (Start (requested s body) ∷ resend-request s body) buf
+    unfolding too-high served
+    starts-too-high l =
+        let k : too-high s body ≡ served s body ++ resend-request s body = rw (S .request, S .no-verdict, S .not-rejected) in
+        active-step s f t buf store (S .unrefused)
+        ∙ ap (λ (ds : Deeds). making t s ds buf) (served-by (served s body ++ resend-request s body) (λ m. k) (λ m. absurd (omega (arith, l, m))))
 
 -- IN EVERY CALL
 module _ (s : Session) where
-  by-step : (f : Bytes) (t : ℕ) (buf store : Bytes) → Moved s (step s f t buf store .session) (bodyIn f)
-  by-step f t buf store = each-step (λ (o : Outcome). Moved s (o .session) (bodyIn f)) s t buf f store (record {
-    refused = λ k. refusal-moves k s (bodyIn f) buf;
-    logon = λ P st y c. logon-moves t s (bodyIn f) (none-waiting s (ranged-is s (P .ranged)) st);
-    move = λ P st. active-moves t s (bodyIn f);
+  by-step : (f : Bytes) (t : ℕ) (buf store : Bytes) → Moved s (step s f t buf store .session) (Served s f t buf store) (requested s (bodyIn f))
+  by-step f t buf store = each-step (λ (o : Outcome). Moved s (o .session) (Served s f t buf store) (requested s (bodyIn f))) s t buf f store (record {
+    refused = λ k. refusal-moves k s buf;
+    logon = λ P st y c. logon-moves s f t buf store (none-waiting s (ranged-is s (P .ranged)) st);
+    move = λ P st. active-moves s f t buf store (record { ranged = P .ranged; stored = P .lent; one-frame = P .framed; timed = P .timed; room = P .roomy; is-active = st; unspent = P .unspent });
   })
 
-  by-tick : (t : ℕ) (buf : Bytes) → Moved s (tick s t buf .session) []
-  by-tick t buf = each-tick (λ (o : Outcome). Moved s (o .session) []) s t buf (record { refused = λ k. refusal-moves k s [] buf; nothing = kept refl; beat = λ r l u. kept refl })
+  by-tick : (t : ℕ) (buf : Bytes) → Moved s (tick s t buf .session) ⊥ no-replay
+  by-tick t buf = each-tick (λ (o : Outcome). Moved s (o .session) ⊥ no-replay) s t buf (record { refused = λ k. refusal-moves k s buf; nothing = kept refl (λ e. e); beat = λ r l u. kept refl (λ e. e) })
 
   by-reconnect : inRange s ≡ true → reconnect s .session .replay ≡ no-replay
   unfolding reconnect
@@ -118,9 +144,11 @@ module _ (s : Session) where
   pub disturbs : Disturbs s
   disturbs = record {
     by-step = by-step;
-    starts = λ f t buf store U p r l y c u. ap (λ (o : Outcome). o .session .replay) (active-step s f t buf store U) ∙ served-starts t s (bodyIn f) p r l y c u;
+    starts = λ f t buf store S e. starts s f t buf store S e;
+    starts-too-high = λ f t buf store S l. starts-too-high s f t buf store S l;
+    within-L = λ f t buf store B S. within-L s f t buf store S B;
     by-tick = by-tick;
-    by-logout = λ t buf. each-logout (λ (o : Outcome). Moved s (o .session) []) s t buf (λ k. refusal-moves k s [] buf) (λ S. dropped refl refl);
-    by-test = λ id t buf. each-test (λ (o : Outcome). Moved s (o .session) []) s t buf id (λ k. refusal-moves k s [] buf) (λ S e. kept refl);
+    by-logout = λ t buf. each-logout (λ (o : Outcome). Moved s (o .session) ⊥ no-replay) s t buf (λ k. refusal-moves k s buf) (λ S. dropped refl refl);
+    by-test = λ id t buf. each-test (λ (o : Outcome). Moved s (o .session) ⊥ no-replay) s t buf id (λ k. refusal-moves k s buf) (λ S e. kept refl (λ e. e));
     by-reconnect = by-reconnect;
   }

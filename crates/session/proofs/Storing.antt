@@ -13,10 +13,9 @@ use Rattle.message.specs.Whole.{good, bodyIn}
 use Rattle.moves.specs.Words.{first}
 use Rattle.moves.specs.Session.{_==_, Session}
 use Rattle.moves.specs.Seen.{isIt}
-use Rattle.session.specs.Calls.{Outcome, refusing, outcome, refusals, turned-away, moves, step, storeBy, storeAfter}
+use Rattle.session.specs.Calls.{Outcome, refusing, outcome, refusals, turned-away, moves, step, renewed, storeBy, storeAfter}
 use Rattle.moves.specs.Held.{sessionOf}
 use Rattle.session.specs.Held.{Leaves}
-use Rattle.session.specs.Promise.{Stored}
 use Rattle.moves.specs.declared.record.Record.{Record}
 use Rattle.moves.specs.declared.record.Status.{Status}
 use Rattle.moves.specs.declared.record.Status.the-variants.{Waiting, Active, Closed}
@@ -24,21 +23,18 @@ use Rattle.session.specs.declared.Answered.{Answered}
 use Rattle.session.specs.declared.Refusal.{Refusal}
 use Rattle.session.proofs.Stepping.{step-lent}
 use Rattle.session.proofs.EachCall.{each-refusal}
-use Rattle.session.proofs.Whole.{step-keeps}
 
-module _ (s : Session) (body : Bytes) (o : Outcome) (store : Bytes) where
-  not-accepted : ((s .status == Waiting) && (o .session .status == Active)) ≡ false → store ≡ storeBy s body o store
-  unfolding storeBy
-  not-accepted e = rw e
+-- WHETHER IT IS RENEWED
+-- a session that is not Waiting is not
+pub awake-old : (s : Session) (body : Bytes) (o : Outcome) (x : Status) → (x == Waiting) ≡ false → s .status ≡ x → renewed s body o ≡ false
+awake-old s body o x n st =
+    let asks = isIt (fix "Y") (firstField 141 body) in
+    ap (λ (y : Status). (y == Waiting) && (o .session .status == Active) && asks) st ∙ ap (λ (b : Bool). b && (o .session .status == Active) && asks) n
 
-  -- a session that is not Waiting
-  pub awake-stays : (x : Status) → (x == Waiting) ≡ false → s .status ≡ x → store ≡ storeBy s body o store
-  awake-stays x n st = not-accepted (ap (λ (y : Status). (y == Waiting) && (o .session .status == Active)) st ∙ ap (λ (b : Bool). b && (o .session .status == Active)) n)
-
--- a refusal
-refused-stays : (k : Refusal) (s : Session) (body buf store : Bytes) → store ≡ storeBy s body (refusing k s buf) store
-refused-stays k s body buf store =
-    not-accepted s body (refusing k s buf) store (each-refusal (λ (u : Session). ((s .status == Waiting) && (u .status == Active)) ≡ false) k s (same (s .status)) (closed (s .status)))
+-- nor by a refusal
+pub refused-old : (k : Refusal) (s : Session) (body buf : Bytes) → renewed s body (refusing k s buf) ≡ false
+refused-old k s body buf =
+    ap (λ (b : Bool). b && isIt (fix "Y") (firstField 141 body)) (each-refusal (λ (u : Session). ((s .status == Waiting) && (u .status == Active)) ≡ false) k s (same (s .status)) (closed (s .status)))
   where
     same : (x : Status) → ((x == Waiting) && (x == Active)) ≡ false
     same Waiting = refl
@@ -50,8 +46,16 @@ refused-stays k s body buf store =
     closed Active = refl
     closed Closed = refl
 
+module _ (s : Session) (body : Bytes) (o : Outcome) (store : Bytes) where
+  old-stays : renewed s body o ≡ false → store ≡ storeBy s body o store
+  unfolding storeBy
+  old-stays e = rw e
+
+  pub awake-stays : (x : Status) → (x == Waiting) ≡ false → s .status ≡ x → store ≡ storeBy s body o store
+  awake-stays x n st = old-stays (awake-old s body o x n st)
+
 pub refusal-stays : (s : Session) (body buf store : Bytes) {o : Outcome} {k : Refusal} → o ≡ refusing k s buf → store ≡ storeBy s body o store
-refusal-stays s body buf store {k = k} e = refused-stays k s body buf store ∙ ap (λ (o : Outcome). storeBy s body o store) (sym e)
+refusal-stays s body buf store {k = k} e = old-stays s body (refusing k s buf) store (refused-old k s body buf) ∙ ap (λ (o : Outcome). storeBy s body o store) (sym e)
 
 -- A LOGON that was answered
 module _ (r : Record) (body store : Bytes) (st : r .status ≡ Waiting) {o : Outcome} {a : Answered} {d : Bytes} (l : Leaves r o a d) {b : Bool} (ra : b ≡ (a .after .status == Active)) where
@@ -59,7 +63,7 @@ module _ (r : Record) (body store : Bytes) (st : r .status ≡ Waiting) {o : Out
   accepted = ra ∙ ap (λ (z : Answered). z .after .status == Active) (l .answered)
 
   pub unaccepted-stays : not b ≡ true → store ≡ storeBy (sessionOf r) body o store
-  unaccepted-stays h = not-accepted (sessionOf r) body o store (rw (st, ← accepted, not-true b h))
+  unaccepted-stays h = old-stays (sessionOf r) body o store (rw (st, ← accepted, not-true b h))
 
   module _ (hb : not b ≡ false) {h : Bool} (rh : h ≡ isIt (fix "Y") (firstField 141 body)) where
     pub unasked-stays : not h ≡ true → store ≡ storeBy (sessionOf r) body o store
@@ -79,6 +83,3 @@ pub after-lent : (s : Session) (f : Bytes) (t : ℕ) (buf store : Bytes) {b : Bo
     → storeAfter s f t buf store ≡ storeBy s (bodyIn f) (outcome (first (refusals s b (good f) t (length buf) ++ turned-away s (bodyIn f))) t (moves (s .status) s (bodyIn f)) s buf) store
 unfolding storeAfter
 after-lent s f t buf store e = ap (λ (o : Outcome). storeBy s (bodyIn f) o store) (step-lent s f t buf store e)
-
-pub stores : (s : Session) (f : Bytes) (t : ℕ) (buf store : Bytes) → Stored s f t buf store
-stores s f t buf store = record { refused = λ k e. sym (after-as s f t buf store refl refl (refusal-stays s (bodyIn f) buf store (step-keeps s t buf f store .refused k e))) }
