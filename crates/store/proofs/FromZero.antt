@@ -13,7 +13,7 @@ use Rattle.bytes.specs.Bytes.{Bytes, has}
 use Rattle.bytes.proofs.Tests.{any-append, or-last}
 use Rattle.places.specs.Places.{isStore, zeroed}
 use Rattle.places.proofs.Cuts.{zeroed-places, zeroed-store}
-use Rattle.report.specs.Report.{Report, sent}
+use Rattle.report.specs.Report.{Report, sent, sendable}
 use Rattle.report.proofs.Promise.{promise}
 use Rattle.kept.specs.Kept.{held}
 use Rattle.kept.proofs.Holding.{held-is}
@@ -50,20 +50,32 @@ module _ (us them : Bytes) where
   pub zeroed-none : (store : Bytes) → isStore store ≡ true → (n : ℕ) → find n (kept us them (zeroed store)) ≡ none
   zeroed-none store s n = ap (find n) (zeroed-table store s)
 
+  pub zeroed-behind : (store : Bytes) → isStore store ≡ true → Behind (kept us them (zeroed store)) []
+  zeroed-behind store s =
+      record { long = kept-length us them (zeroed store); many = inl (ap (λ (l : Table). length (numbers l)) (zeroed-table store s)); last = zeroed-none store s }
+
+  -- with one more report, whose number rises
+  module _ (done : List Report) (r : Report) (rest : List Report) (store : Bytes) (s : isStore store ≡ true) (B : Behind (kept us them store) done) (S : sendable us them r ≡ true) (A : Above 0 (done ++ (r ∷ rest))) where
+    new-number : find (r .number) (kept us them store) ≡ none
+    new-number = is-new (kept us them store) done r rest B A
+
+    pub still-store : isStore (keep us them r store) ≡ true
+    still-store = keep-whole us them r store s S new-number
+
+    pub one-more : Behind (kept us them (keep us them r store)) (done ++ (r ∷ []))
+    one-more =
+        subst (λ (l : Table). Behind l (done ++ (r ∷ []))) (sym (keep-table us them r store s S new-number))
+        (step (kept us them store) done r rest B A (kept-once us them store))
+
   all-kept : (done rs : List Report) (store : Bytes) → isStore store ≡ true → Behind (kept us them store) done → AllSendable us them rs → Above 0 (done ++ rs)
       → (n : ℕ) → find n (kept us them (keepAll us them rs store)) ≡ find n (last64 (done ++ rs))
   all-kept done [] store s B S A n = B .last n ∙ ap (λ (l : List Report). find n (last64 l)) (sym (append-nil done))
   all-kept done (r ∷ rs) store s B S A n =
-      let f = is-new (kept us them store) done r rs B A in
       let e = append-snoc done r rs in
-      let T = keep-table us them r store s (S .0) f in
-      let C = step (kept us them store) done r rs B A (kept-once us them store) in
-      all-kept (done ++ (r ∷ [])) rs (keep us them r store) (keep-whole us them r store s (S .0) f) (subst (λ (l : Table). Behind l (done ++ (r ∷ []))) (sym T) C) (S .1) (subst (Above 0) (sym e) A) n
+      all-kept (done ++ (r ∷ [])) rs (keep us them r store) (still-store done r rs store s B (S .0) A) (one-more done r rs store s B (S .0) A) (S .1) (subst (Above 0) (sym e) A) n
       ∙ ap (λ (l : List Report). find n (last64 l)) e
 
   pub last-kept : (store : Bytes) (rs : List Report) → isStore store ≡ true → AllSendable us them rs → Above 0 rs
       → (n : ℕ) → find n (kept us them (keepAll us them rs (zeroed store))) ≡ find n (last64 rs)
   last-kept store rs s S A =
-      all-kept [] rs (zeroed store) (zeroed-store store s)
-      (record { long = kept-length us them (zeroed store); many = inl (ap (λ (l : Table). length (numbers l)) (zeroed-table store s)); last = zeroed-none store s })
-      S A
+      all-kept [] rs (zeroed store) (zeroed-store store s) (zeroed-behind store s) S A

@@ -79,19 +79,20 @@ module _ (kept : Table) (end : ℕ) where
       go (some r) e = let k = found-number n kept r e in record { from = k; on = omega (arith, k); within = omega (arith, k, l) }
 
   -- the number n is where an item begins
-  abbrev Begins : ℕ → ℕ → Type 0
+  abbrev pub Begins : ℕ → ℕ → Type 0
   Begins at n = find n kept ≡ none → find (n - 1) kept ≡ none → n ≡ at
 
   absent-or : (n : ℕ) → (b : Bool) → has (numbers kept) n ≡ b → (b ≡ true → ⊥) → find n kept ≡ none
   absent-or n true e h = absurd (h refl)
   absent-or n false e h = not-found n kept e
 
-  item-right : (at n : ℕ) → n ≤ end → Begins at n → Right kept end at (item kept end n)
+  pub item-right : (at n : ℕ) → n ≤ end → Begins at n → Right kept end at (item kept end n)
   unfolding item
   item-right at n l B = go (find n kept) refl
     where
       go : (o : Option Report) → find n kept ≡ o → Right kept end at (orFill kept end n o)
       go none e = record {
+        filled = run-within n end (numbers kept) l .0;
         others = λ m k j. between m k j;
         from = λ f. B e f;
         to = λ f. run-stops n end (numbers kept) (found-not (runTo n end (numbers kept) + 1) kept f);

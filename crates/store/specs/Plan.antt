@@ -61,6 +61,7 @@ module _ (kept : Table) (end : ℕ) where
 
   -- a longest run of numbers that are not kept, in a replay from `at`
   pub record Run (at b e : ℕ) : Type 0 where
+    pub filled : b ≤ e
     pub others : (n : ℕ) → b ≤ n → n ≤ e → find n kept ≡ none
     -- it cannot begin earlier, and not go further
     pub from : find (b - 1) kept ≡ none → b ≡ at
