@@ -18,6 +18,10 @@ use Rattle.session.specs.declared.Refusal.the-variants.{SessionClosed, NumbersS
 use Rattle.session.specs.declared.Answer.{Answer}
 use Rattle.session.specs.declared.Answer.the-variants.{Done, Refused}
 
+-- "is at most 512 bytes"; "12, report longer than 512 bytes"
+abbrev pub longest : ℕ
+longest = 512
+
 -- a session s that sends the values v at the time t
 module _ (s : Session) (v : Values) (t : ℕ) where
   -- with the next number out, and its bytes
@@ -26,10 +30,6 @@ module _ (s : Session) (v : Values) (t : ℕ) where
 
   unfoldable pub message : Bytes
   message = sent (s .ours) (s .peers) theReport
-
-  -- "12, report longer than 512 bytes"
-  abbrev pub longest : ℕ
-  longest = 512
 
   -- "the order for a report is 11, 7, 2, 5, 8, 12, 9"; Q-4: "13, report while replaying, after 11; 14, store not of 32,768 bytes, after 13"
   unfoldable pub refusals : Bool → ℕ → List (Option Answer)
@@ -57,7 +57,7 @@ module _ (s : Session) (v : Values) (t : ℕ) where
   unfoldable pub report : Bytes → Bytes → Outcome
   report buf store = unless (first (refusals (isStore store) (length buf))) buf
 
-  -- THE STORE behind it: the report is kept, and "no refusal changes the store"
+  -- THE STORE behind it: "Keep the last 64 reports of Q-1 in a store that the host lends", and "no refusal changes the store"
   abbrev pub keptUnless : Option Answer → Bytes → Bytes
   keptUnless (some a) store = store
   keptUnless none store = keep (s .ours) (s .peers) theReport store

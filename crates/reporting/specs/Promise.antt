@@ -1,26 +1,38 @@
--- What is promised of the report call, for any session, values, time, buffer and store; and of the store behind any number of them.
-use Prim.Native.Nat.{ℕ, _+_}
+-- What is promised of the report call, for any session, values, time, buffer and store. What the store holds behind any calls is said in crates/replaying.
+use Prim.Native.Nat.{ℕ, _+_, _≤_, _<_}
 use mathlib.Core.Path.{_≡_}
-use mathlib.Core.List.{List, [], _∷_}
+use mathlib.Core.List.{[], _∷_}
 use mathlib.Core.Option.{none, some}
-use mathlib.Core.Bool.{true}
+use mathlib.Core.Bool.{true, false}
+use lib.ListN.{length}
 use Rattle.bytes.specs.Bytes.{Bytes}
-use Rattle.report.specs.Values.{Values}
-use Rattle.report.specs.Report.{Report}
-use Rattle.places.specs.Places.{isStore, zeroed}
+use Rattle.calendar.specs.Time.{limit}
+use Rattle.places.specs.Places.{isStore}
+use Rattle.report.specs.Values.{Values, takes}
 use Rattle.store.specs.Store.{find, keep}
 use Rattle.store.specs.Store as Store
-use Rattle.store.specs.Promise.{last64}
 use Rattle.report.specs.Promise.{Written}
 use Rattle.moves.specs.Session.{Session, no-replay, numbering, sent-at, inRange}
-use Rattle.session.specs.Calls.{Outcome}
+use Rattle.moves.specs.declared.record.Status.the-variants.{Active}
+use Rattle.session.specs.Calls.{Outcome, keeping, spent}
 use Rattle.session.specs.Promise.{InRange, Kept}
 use Rattle.session.specs.declared.Refusal.{Refusal}
-use Rattle.session.specs.declared.Answer.{Answer}
-use Rattle.session.specs.declared.Answer.the-variants.{Done, Delivered, NothingDue, Refused}
-use Rattle.reporting.specs.Call.{theReport, message, report, storeAfter}
+use Rattle.session.specs.declared.Refusal.the-variants.{SessionClosed}
+use Rattle.session.specs.declared.Answer.the-variants.{Done, Refused}
+use Rattle.reporting.specs.Call.{theReport, message, longest, report, storeAfter}
 
--- A REPORT THAT WENT OUT
+-- A REPORT THAT IS SENT: no refusal stands, "the order for a report is 11, 7, 2, 5, 8, 12, 9", with 13 and 14 behind 11
+pub record Sends (s : Session) (v : Values) (t : ℕ) (buf store : Bytes) : Type 0 where
+  pub ranged : inRange s ≡ true
+  pub none-running : s .replay ≡ no-replay
+  pub stored : isStore store ≡ true
+  pub timed : t < limit
+  pub is-active : s .status ≡ Active
+  pub unspent : spent s ≡ false
+  pub taken : takes v ≡ true
+  pub short : length (message s v t) ≤ longest
+  pub fits : length (message s v t) ≤ length buf
+
 pub record Reported (s : Session) (v : Values) (t : ℕ) (o : Outcome) : Type 0 where
   -- one message, ..
   pub one : o .reply ≡ message s v t ∷ []
@@ -39,31 +51,13 @@ pub record Stored (s : Session) (v : Values) (t : ℕ) (buf store : Bytes) : Typ
   -- .. "no refusal changes the store"
   pub refused : (k : Refusal) → report s v t buf store .answer ≡ Refused k → storeAfter s v t buf store ≡ store
 
--- A RUN OF REPORTS on one session with one store: the reports that went out, and the store behind them
-pub record Told : Type 0 where
-  pub values : Values
-  pub time : ℕ
-  pub buffer : Bytes
-
-abbrev pub wentOut : Answer → Report → List Report → List Report
-wentOut Done r rs = r ∷ rs
-wentOut Delivered r rs = rs
-wentOut NothingDue r rs = rs
-wentOut (Refused k) r rs = rs
-
-abbrev pub sentReports : Session → Bytes → List Told → List Report
-sentReports s store [] = []
-sentReports s store (c ∷ cs) =
-    let o = report s (c .values) (c .time) (c .buffer) store in
-    wentOut (o .answer) (theReport s (c .values) (c .time)) (sentReports (o .session) (storeAfter s (c .values) (c .time) (c .buffer) store) cs)
-
-abbrev pub storeBehind : Session → Bytes → List Told → Bytes
-storeBehind s store [] = store
-storeBehind s store (c ∷ cs) =
-    storeBehind (report s (c .values) (c .time) (c .buffer) store .session) (storeAfter s (c .values) (c .time) (c .buffer) store) cs
-
 pub record Promise : Type 0 where
-  pub reported : (s : Session) (v : Values) (t : ℕ) (buf store : Bytes) → report s v t buf store .answer ≡ Done → Reported s v t (report s v t buf store)
+  -- nothing else goes out, and it always does
+  pub reported : (s : Session) (v : Values) (t : ℕ) (buf store : Bytes) → report s v t buf store .answer ≡ Done → Sends s v t buf store × Reported s v t (report s v t buf store)
+  pub reports : (s : Session) (v : Values) (t : ℕ) (buf store : Bytes) → Sends s v t buf store → report s v t buf store .answer ≡ Done
+  -- "Outside Active a report is refusal 2, session unchanged."
+  pub outside-active : (s : Session) (v : Values) (t : ℕ) (buf store : Bytes) → inRange s ≡ true → isStore store ≡ true → t < limit → (s .status ≡ Active → ⊥)
+      → report s v t buf store ≡ keeping (Refused SessionClosed) s buf
   -- "8, 9 and 12 change nothing"; 5 closes, and the others change nothing either; the buffer keeps its old bytes behind the report and under a refusal
   pub kept : (s : Session) (v : Values) (t : ℕ) (buf store : Bytes) → Kept (report s v t buf store) s buf
   -- two different reports never have the same bytes, whichever sessions send them
@@ -73,8 +67,5 @@ pub record Promise : Type 0 where
   pub ranged : (s : Session) (v : Values) (t : ℕ) (buf store : Bytes) → inRange s ≡ true → InRange (report s v t buf store .session)
   -- "13, report while replaying": so no report takes a place of the store while one is running, and none of them moves a replay
   pub no-replay-moved : (s : Session) (v : Values) (t : ℕ) (buf store : Bytes) → report s v t buf store .answer ≡ Done → (s .replay ≡ no-replay) × (report s v t buf store .session .replay ≡ no-replay)
-  -- Q-4: "Keep the last 64 reports of Q-1 in a store that the host lends"
+  -- Q-4: "Keep .. reports of Q-1 in a store that the host lends"
   pub stored : (s : Session) (v : Values) (t : ℕ) (buf store : Bytes) → Stored s v t buf store
-  -- from a zeroed store on, behind any report calls, refused ones among them: exactly the last 64 that went out are found, each whole
-  pub last : (s : Session) (store : Bytes) (cs : List Told) → isStore store ≡ true → (n : ℕ)
-      → find n (Store.kept (s .ours) (s .peers) (storeBehind s (zeroed store) cs)) ≡ find n (last64 (sentReports s (zeroed store) cs))

@@ -34,7 +34,7 @@ ofSession s stored t =
 unfoldable pub ofValues : Session → Values → ℕ → ℕ → List (Option Answer)
 ofValues s v t room =
     Refused BadValue when not (takes v) ∷
-    Refused ReportTooLong when longest s v t <? length (message s v t) ∷
+    Refused ReportTooLong when longest <? length (message s v t) ∷
     Refused NoRoom when room <? length (message s v t) ∷
     []
 
