@@ -61,7 +61,7 @@ module _ (r : Record) (t : ℕ) (d store : Bytes) where
                 rw (← ra, not-false a ha, ← rb, not-false b hb, lt-leb limit t h₇, le-ltb (length d) 600 h₆, eq-eqb (r .at) 0 e)
                 (record { answered = w; buffer = refl })
 
-            pub replay-next : (r .at ≡ 0 → ⊥) → {d′ : Bytes} → Leaves r (playing (sessionOf r) t (its-item (sessionOf r) t store) d) x d′ → Goes x d′
+            pub replay-next : (r .at ≡ 0 → ⊥) → {d′ : Bytes} → Leaves r (playing (sessionOf r) t (its-item (sessionOf r) store) d) x d′ → Goes x d′
             unfolding replay refusals
             replay-next n w =
                 rw (← ra, not-false a ha, ← rb, not-false b hb, lt-leb limit t h₇, le-ltb (length d) 600 h₆, ne-eqb (r .at) 0 n)

@@ -1,6 +1,8 @@
 pub mod Ways
 pub mod Following
 pub mod Finished
+pub mod Numbers
+pub mod OneStore
 pub mod Gates
 pub mod Plays
 pub mod Kept

@@ -46,7 +46,7 @@ use Rattle.replaying.proofs.Ways.{placed-running}
 
 -- THE PLACE BEHIND a message that covers the numbers up to e
 abbrev movedOn : Record → ℕ → ℕ → ℕ → Answered
-movedOn r t e len = record { answer = Done; after = with r (replaying (behind (sessionOf r) t (Fill (r .at) e)) (sent-at t (sessionOf r))); len = len }
+movedOn r t e len = record { answer = Done; after = with r (replaying (behind (sessionOf r) (Fill (r .at) e)) (sent-at t (sessionOf r))); len = len }
 
 module _ (r : Record) (t e len : ℕ) {z : Record} where
   pub moved-further : e < r .to → z ≡ with r (changed (sessionOf r) (r .status) (r .expected) (r .next) (r .heartbeat) t (record { at = e + 1; to = r .to }))
@@ -134,17 +134,17 @@ module _ (r : Record) (t : ℕ) (old : Bytes) where
     abbrev them : Bytes
     them = take (r .peerLen) (r .peer)
 
-    by-ids : its-item (sessionOf r) t store ≡ item (kept us them store) (r .to) (r .at)
+    by-ids : its-item (sessionOf r) store ≡ item (kept us them store) (r .to) (r .at)
     by-ids = ap₂ (λ (x y : Bytes). item (kept x y store) (r .to) (r .at)) (P .ours .is) (P .peer .is)
 
     module _ {i : ℕ} (e : i ≡ placeOf (r .at) (kept us them store)) {a : Answered} {len : ℕ} {new : Bytes} where
       pub play-again : i < 64 → Wrote old new 0 len (againOf us them t (held us them (take (512 * i + 512 - 512 * i) (drop (512 * i) store)))) → len ≤ length old
-          → a ≡ movedOn r t (r .at) len → Leaves r (playing (sessionOf r) t (its-item (sessionOf r) t store) old) a new
+          → a ≡ movedOn r t (r .at) len → Leaves r (playing (sessionOf r) t (its-item (sessionOf r) store) old) a new
       unfolding item message
       play-again h w l q =
           let S = stands us them store (r .at) i e h in
           let k = S .report in
-          let x : its-item (sessionOf r) t store ≡ Again k = by-ids ∙ ap (orFill (kept us them store) (r .to) (r .at)) (S .is) in
+          let x : its-item (sessionOf r) store ≡ Again k = by-ids ∙ ap (orFill (kept us them store) (r .to) (r .at)) (S .is) in
           let y : againOf us them t (held us them (take (512 * i + 512 - 512 * i) (drop (512 * i) store))) ≡ again (sessionOf r .ours) (sessionOf r .peers) k t =
           ap (againOf us them t) (S .holds) ∙ ap₂ (λ (u v : Bytes). again u v k t) (sym (P .ours .is)) (sym (P .peer .is)) in
           subst (λ (j : Item). Leaves r (playing (sessionOf r) t j old) a new) (sym x)
@@ -152,11 +152,11 @@ module _ (r : Record) (t : ℕ) (old : Bytes) where
 
       pub play-fill : 64 ≤ i → {z : ℕ} {stamp : Bytes} → z ≡ runTo (r .at) (r .to) (numbers (kept us them store)) → stamp ≡ utc t
           → Replied us them (r .at) stamp (nineDigits (z + 1)) old new 0 len (gapFill us them (r .at) stamp (z + 1)) → 600 ≤ length old
-          → a ≡ movedOn r t z len → Leaves r (playing (sessionOf r) t (its-item (sessionOf r) t store) old) a new
+          → a ≡ movedOn r t z len → Leaves r (playing (sessionOf r) t (its-item (sessionOf r) store) old) a new
       unfolding item message
       play-fill h {z} {stamp} f v R l q =
           let b = run-within us them store (r .at) i e (r .to) (P .ordered) h in
-          let x : its-item (sessionOf r) t store ≡ Fill (r .at) z =
+          let x : its-item (sessionOf r) store ≡ Fill (r .at) z =
           by-ids ∙ ap (orFill (kept us them store) (r .to) (r .at)) (absent us them store (r .at) i e h) ∙ ap (Fill (r .at)) (sym f) in
           let S : Sending us them (r .at) 0 stamp old =
           record { ours-short = P .ours .long; peers-short = P .peer .long; number = omega (arith, P .ordered, P .high); stamped = omega (arith, ap length v, utc-length t); room = omega (arith, l) } in

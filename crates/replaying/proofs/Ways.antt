@@ -4,20 +4,20 @@ use Prim.Native.Nat.{ℕ, _≤_, _<_}
 use native.Mathlib.Omega.{arith}
 use mathlib.Core.Path.{_≡_, refl, ap₂, subst}
 use mathlib.Core.Bool.{Bool, true, false, cond, not, _&&_}
-use mathlib.Core.List.{List, [], _∷_}
-use mathlib.Core.Option.{Option, none, some}
+use mathlib.Core.List.{[], _∷_}
+use mathlib.Core.Option.{Option}
 use lib.Dec.{eqb, leb, ltb}
 use lib.ListN.{length}
 use borrow.Author.Tests.{eqb-true, eqb-false, leb-true, leb-false, ltb-true, ltb-false, not-true, not-false}
-use Rattle.bytes.specs.Bytes.{Bytes}
+use Rattle.bytes.specs.Bytes.{Bytes, has}
 use Rattle.bytes.proofs.Tests.{both}
 use Rattle.calendar.specs.Time.{limit}
 use Rattle.places.specs.Places.{isStore}
-use Rattle.moves.specs.Words.{_when_, first}
+use Rattle.moves.specs.Words.{_when_}
 use Rattle.moves.specs.Session.{_==_, Session, no-replay, running, inRange}
 use Rattle.moves.specs.declared.record.Status.the-variants.{Active}
-use Rattle.moves.proofs.Words.{Said, Each, then-by, said-when, not-said}
-use Rattle.session.specs.Refusals.{after}
+use Rattle.moves.proofs.Words.{Said, each-first, then-by, said-when, not-said}
+use Rattle.session.specs.Refusals.{No, after}
 use Rattle.session.specs.Calls.{Outcome, refusing, keeping, answering}
 use Rattle.session.specs.declared.Answer.{Answer}
 use Rattle.session.specs.declared.Answer.the-variants.{NothingDue, Refused}
@@ -66,23 +66,18 @@ module _ (Q : Outcome → Type 0) (s : Session) (t : ℕ) (buf store : Bytes) wh
   abbrev Told : Answer → Type 0
   Told a = Q (answering a s buf)
 
-  each-answer : (l : List (Option Answer)) → Each Told l (Q (playing s t (its-item s t store) buf)) → Q (unless s t (first l) (its-item s t store) buf)
-  each-answer [] h = h
-  each-answer (none ∷ l) h = each-answer l (h .1 refl)
-  each-answer (some a ∷ l) h = h .0
-
-  -- none of the refusals changes the session
-  pub each-replay : ((k : Refusal) → after k s ≡ s → Q (refusing k s buf))
+  -- none of the four refusals changes the session
+  pub each-replay : ((k : Refusal) → after k s ≡ s → has (11 ∷ 14 ∷ 7 ∷ 6 ∷ []) (No k) ≡ true → Q (refusing k s buf))
       → (inRange s ≡ true → running (s .replay) ≡ false → Q (keeping NothingDue s buf))
-      → (Passed s t buf store → Q (playing s t (its-item s t store) buf))
+      → (Passed s t buf store → Q (playing s t (its-item s store) buf))
       → Q (replay s t buf store)
   unfolding replay refusals
   each-replay shuts idle sends =
-      each-answer (refusals s t (isStore store) (length buf))
-      (then-by (shut BadRecord (not (inRange s)) refl) (λ n₁₁.
-      then-by (shut BadStore (not (isStore store)) refl) (λ n₁₄.
-      then-by (shut TimePast (leb limit t) refl) (λ n₇.
-      then-by (shut BufferShort (ltb (length buf) 600) refl) (λ n₆.
+      each-first (λ (o : Option Answer). Q (unless s t o (its-item s store) buf)) (refusals s t (isStore store) (length buf))
+      (then-by (shut BadRecord (not (inRange s)) refl refl) (λ n₁₁.
+      then-by (shut BadStore (not (isStore store)) refl refl) (λ n₁₄.
+      then-by (shut TimePast (leb limit t) refl refl) (λ n₇.
+      then-by (shut BufferShort (ltb (length buf) 600) refl refl) (λ n₆.
       then-by (said-when Told NothingDue (not (running (s .replay))) (λ e. idle (not-false (inRange s) (not-said (Refused BadRecord) _ n₁₁)) (not-true (running (s .replay)) e))) (λ n₀.
       sends (record {
         ranged = not-false (inRange s) (not-said (Refused BadRecord) _ n₁₁);
@@ -92,5 +87,5 @@ module _ (Q : Outcome → Type 0) (s : Session) (t : ℕ) (buf store : Bytes) wh
         is-running = not-false (running (s .replay)) (not-said NothingDue _ n₀);
       })))))))
     where
-      shut : (k : Refusal) (b : Bool) → after k s ≡ s → Said Told (Refused k when b)
-      shut k b e = said-when Told (Refused k) b (λ w. shuts k e)
+      shut : (k : Refusal) (b : Bool) → after k s ≡ s → has (11 ∷ 14 ∷ 7 ∷ 6 ∷ []) (No k) ≡ true → Said Told (Refused k when b)
+      shut k b e n = said-when Told (Refused k) b (λ w. shuts k e n)

@@ -18,8 +18,8 @@ use Rattle.session.specs.declared.Refusal.the-variants.{BufferShort, TimePast, 
 use Rattle.session.specs.declared.Answer.{Answer}
 use Rattle.session.specs.declared.Answer.the-variants.{Done, NothingDue, Refused}
 
--- a session s at the time t
-module _ (s : Session) (t : ℕ) where
+-- a session s
+module _ (s : Session) where
   -- the reports that are kept between its CompIDs
   abbrev pub its-table : Bytes → Table
   its-table store = kept (s .ours) (s .peers) store
@@ -28,15 +28,17 @@ module _ (s : Session) (t : ℕ) where
   abbrev pub its-item : Bytes → Item
   its-item store = item (its-table store) (s .replay .to) (s .replay .at)
 
+  -- the place behind an item; behind the last number asked for none is running
+  abbrev pub behind : Item → Replay
+  behind i = if ends i <? s .replay .to then record { at = ends i + 1; to = s .replay .to } else no-replay
+
+-- and the time t of the call
+module _ (s : Session) (t : ℕ) where
   -- "each kept report goes out again under its old number with 43=Y, a new 52 and its first 52 as 122, and each longest run of other numbers becomes one gap
   -- fill": the gap fill has the run's first number as its 34, one above its last as its 36
   unfoldable pub message : Item → Bytes
   message (Again r) = again (s .ours) (s .peers) r t
   message (Fill b e) = letter (s .ours) (s .peers) b (utc t) (GapFill (e + 1))
-
-  -- the place behind an item; behind the last number asked for none is running
-  abbrev pub behind : Item → Replay
-  behind i = if ends i <? s .replay .to then record { at = ends i + 1; to = s .replay .to } else no-replay
 
   -- "A replay call: 11, 14, 7, 6."; "With none running nothing is due."
   unfoldable pub refusals : Bool → ℕ → List (Option Answer)
@@ -48,14 +50,15 @@ module _ (s : Session) (t : ℕ) where
       NothingDue when not (running (s .replay)) ∷
       []
 
-  -- the item goes out, the place moves on; "Every message written in a session sets last sent to the call's time."; it uses no number
+  -- the item goes out, the place moves on; "Every message written in a session sets last sent to the call's time."; "It uses no new
+  -- number"
   abbrev pub playing : Item → Bytes → Outcome
   playing i old =
-      record { answer = Done; session = replaying (behind i) (sent-at t s); reply = message i ∷ []; buffer = over (message i ∷ []) old }
+      record { answer = Done; session = replaying (behind s i) (sent-at t s); reply = message i ∷ []; buffer = over (message i ∷ []) old }
 
   abbrev pub unless : Option Answer → Item → Bytes → Outcome
   unless (some a) i old = answering a s old
   unless none i old = playing i old
 
   unfoldable pub replay : Bytes → Bytes → Outcome
-  replay buf store = unless (first (refusals (isStore store) (length buf))) (its-item store) buf
+  replay buf store = unless (first (refusals (isStore store) (length buf))) (its-item s store) buf

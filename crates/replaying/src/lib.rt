@@ -28,7 +28,7 @@ ghost use Rattle.replaying.specs.Call.{its-item, behind, playing, replay
 // A message of so many bytes went out that covers the numbers up to e: the place behind it.
 fn moved_on(r: Record, e: u64, len: usize, time: u64) -> Answered
     requires { ⌜ e < 1_000_000_000 ⌝ }
-    ensures { λ a. ⌜ a ≡ record { answer = Answer.Done; after = with r (replaying (behind (sessionOf r) time (Fill (r .at) e)) (sent-at time (sessionOf r))); len = len } ⌝ }
+    ensures { λ a. ⌜ a ≡ record { answer = Answer.Done; after = with r (replaying (behind (sessionOf r) (Fill (r .at) e)) (sent-at time (sessionOf r))); len = len } ⌝ }
 {
     let st = r.status;
     if e < r.to {
@@ -50,7 +50,7 @@ fn moved_on(r: Record, e: u64, len: usize, time: u64) -> Answered
 // The next message of a replay that is running.
 fn play_next(r: Record, time: u64, buf: &mut [u8], store: &[u8]) -> Answered
     requires { ⌜ (inRange (sessionOf r) ≡ true) × (running (sessionOf r .replay) ≡ true) × (isStore (now store) ≡ true) × (time < limit) × (600 ≤ length (now buf)) ⌝ }
-    ensures { λ a. ⌜ Leaves r (playing (sessionOf r) time (its-item (sessionOf r) time (now (store .entry))) (now (buf .entry))) a (now (buf .exit)) ⌝ }
+    ensures { λ a. ⌜ Leaves r (playing (sessionOf r) time (its-item (sessionOf r) (now (store .entry))) (now (buf .entry))) a (now (buf .exit)) ⌝ }
 {
     let ours = r.ours;
     let o = r.oursLen;
