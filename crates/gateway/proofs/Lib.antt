@@ -5,4 +5,5 @@ pub mod OneOutcome
 pub mod Reports
 pub mod Replays
 pub mod Leaving
+pub mod Lasting
 pub mod Promise
