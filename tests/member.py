@@ -1,0 +1,176 @@
+"""A member's engine as tests/runs plays it: its own numbers, the messages it sends in turn or not, and a line with faults."""
+from generate.basics import byte_mutated, chance, framed, joined
+from generate.bodies import message
+from generate.faults import faulty
+from messages import OURS, PEER, first, messages, number, stamp
+
+# What it sends while logged on, and how often.
+SENDS = {"heartbeat": 12, "test_request": 8, "resend_request": 15, "unservable": 3, "gap_fill": 4, "bare_reset": 3, "reject": 4,
+         "request": 16, "cancel": 16, "report": 2, "unclean": 4, "duplicate": 3, "too_high": 3, "too_low": 0.5, "logon_again": 1,
+         "stranger": 0.5, "unnumbered": 0.4, "logout": 1.2, "end_of_numbers": 0.1}
+LOGONS = {"in_turn": 61, "reset": 12, "high": 7, "low": 4, "reset_high": 4, "no_logon": 6, "bad_logon": 6}
+KINDS = {"heartbeat": b"0", "test_request": b"1", "reject": b"3", "request": b"AD", "cancel": b"F", "report": b"AE",
+         "logon_again": b"A", "logout": b"5"}
+
+
+def text(number):
+    return b"%d" % number
+
+
+class Member:
+    """It counts what it sends and what it has got, and answers a Resend Request of ours."""
+
+    def __init__(self, r):
+        self.r = r
+        self.next = 1           # its next number out
+        self.seen = 0           # the greatest of our numbers that it has got
+        self.owed = []          # answers to our Resend Requests
+
+    def made(self, kind, given=(), at=None):
+        """A message under its next number, or under another one that it does not count."""
+        n = self.next if at is None else at
+        self.next += at is None
+        return message(self.r, kind, {49: PEER, 56: OURS, 34: text(n), 43: None, 122: None, **dict(given)})
+
+    def sends(self):
+        """The frames that it sends at a turn: what it owes, else something new."""
+        if self.owed:
+            owed, self.owed = self.owed, []
+            return owed
+        what = self.r.choices(tuple(SENDS), tuple(SENDS.values()))[0]
+        return [framed(joined(getattr(self, what, lambda: self.made(KINDS[what]))()))]
+
+    def logs_on(self):
+        what = self.r.choices(tuple(LOGONS), tuple(LOGONS.values()))[0]
+        return framed(joined(getattr(self, what)()))
+
+    def gets(self, reply):
+        """What we send it: it counts, and owes an answer to each Resend Request."""
+        for got in messages(reply):
+            self.seen = max(self.seen, number(got))
+            if first(got, 35) == b"A" and first(got, 141) == b"Y":
+                self.seen = 1
+            if first(got, 35) == b"2":
+                self.owed += self.resent(int(first(got, 7)))
+
+    def resent(self, begin):
+        """All that it sent from this number on: few of them one by one, else as a gap fill."""
+        marks = {43: b"Y", 122: stamp(0)}
+        if self.next - begin in range(1, 4):
+            return [framed(joined(self.made(b"F", marks, at=n))) for n in range(begin, self.next)]
+        return [framed(joined(self.made(b"4", {**marks, 123: b"Y", 36: text(max(self.next, begin))}, at=begin)))]
+
+    # ---- What it sends while logged on -------------------------------------------------------------------------------
+
+    def resend_request(self):
+        """A range of what went out, short, longer or all of it, seldom beyond; now and then too high a number."""
+        r, last = self.r, max(1, self.seen)
+        begin = r.choice((r.randint(1, last), r.randint(max(1, last - 70), last), max(1, last - r.randrange(8)), 1))
+        end = min(last, begin + r.choice((0, 1, 4, 4, 4, 20)))
+        ends = text(r.choice((end, end, end, end, end, 0, last, last + 5, 999_999_999)))
+        return self.made(b"2", {7: text(begin), 16: ends}, at=self.next + 1 if chance(r, 0.05) else None)
+
+    def unservable(self):
+        r = self.r
+        begin = r.choice((self.seen + 1000, 999_999_999, max(2, self.seen)))
+        return self.made(b"2", {7: text(begin), 16: text(r.choice((0, 1, begin - 1)))})
+
+    def gap_fill(self):
+        """Forward, or to its own number, which is rejected."""
+        new = self.next + self.r.choice((1, 1, 2, 5, 0))
+        parts = self.made(b"4", {123: b"Y", 36: text(new)})
+        self.next = max(self.next, new)
+        return parts
+
+    def bare_reset(self):
+        new = max(1, self.next + self.r.choice((0, 1, 3, -1, -5)))
+        parts = self.made(b"4", {123: self.r.choice((None, b"N")), 36: text(new)}, at=self.next)
+        self.next = max(self.next, new)
+        return parts
+
+    def end_of_numbers(self):
+        return self.made(b"4", {123: None, 36: b"999999991"}, at=self.next)
+
+    def unclean(self):
+        return faulty(self.r, self.made(self.r.choice((b"0", b"1", b"2", b"AD", b"F", b"F"))), most=1)
+
+    def duplicate(self):
+        marks = {43: b"Y", 122: self.r.choice((stamp(0), stamp(0), None))}
+        return self.made(self.r.choice((b"0", b"F", b"AE")), marks, at=max(1, self.next - self.r.randint(1, 3)))
+
+    def too_high(self):
+        return self.made(self.r.choice((b"0", b"F", b"AE", b"4")), at=self.next + self.r.choice((1, 2, 500)))
+
+    def too_low(self):
+        return self.made(b"0", at=max(1, self.next - 1))
+
+    def stranger(self):
+        tag = self.r.choice((49, 56))
+        return self.made(b"0", {tag: self.r.choice((None, b"XX", b"M", b"GWW"))}, at=self.next + self.r.choice((0, 1)))
+
+    def unnumbered(self):
+        return self.made(b"0", {34: self.r.choice((None, b"x", b"01", b"0"))}, at=self.next)
+
+    # ---- How it logs on ----------------------------------------------------------------------------------------------
+
+    def logon(self, reset=None, at=None):
+        return self.made(b"A", {108: self.r.choice((b"30", b"5", b"60")), 141: reset}, at=at)
+
+    def in_turn(self):
+        return self.logon(self.r.choice((None, b"N")))
+
+    def reset(self):
+        self.next = 1
+        self.owed = []
+        return self.logon(b"Y")
+
+    def high(self):
+        self.next += self.r.choice((1, 2, 50))
+        return self.logon()
+
+    def low(self):
+        return self.logon(at=1)
+
+    def reset_high(self):
+        return self.logon(b"Y", at=self.next + 5)
+
+    def no_logon(self):
+        return self.made(b"0", at=self.next)
+
+    def bad_logon(self):
+        return self.made(b"A", self.r.choice(({108: b"61"}, {49: b"XX"}, {56: None}, {34: b"x"}, {98: b"1"})), at=self.next)
+
+
+class Line:
+    """The bytes between the member and the host: frames get lost, doubled, damaged, torn, or pass each other."""
+
+    def __init__(self, r):
+        self.r = r
+        self.held = []          # frames that come behind the next one
+        self.rest = b""         # of a torn piece
+
+    def carry(self, frames):
+        """The pieces that arrive."""
+        return [piece for frame in frames for piece in self.arriving(frame)]
+
+    def arriving(self, frame):
+        before, self.held = self.held, []
+        rest, self.rest = self.rest, b""
+        fault = self.r.random()
+        if fault < 0.01:
+            carried = []
+        elif fault < 0.013:
+            carried = [frame, frame]
+        elif fault < 0.03:
+            carried = [byte_mutated(self.r, frame)]
+        elif fault < 0.04:
+            self.held, carried = [frame], []
+        elif fault < 0.09:
+            at = self.r.randrange(1, len(frame))
+            carried, self.rest = [frame[:at]], frame[at:]
+        else:
+            at = self.r.randrange(len(frame)) if fault < 0.3 else 0
+            carried = [frame[:at], frame[at:]] if at else [frame]
+        return ([rest] if rest else []) + carried + before
+
+
