@@ -8,6 +8,7 @@ import subprocess
 import threading
 
 PATIENCE = 60       # seconds in which a batch must be answered; a driver that does not flush its answers ends here
+BUILDING = 600      # seconds for the first batch: host/drive builds what has changed before it runs
 DRIVER = pathlib.Path(__file__).resolve().parent.parent / "host" / "drive"
 SILENT = "(ended, or silent for too long)"
 
@@ -17,11 +18,12 @@ class Driver:
 
     def __init__(self, command):
         self.child = subprocess.Popen(shlex.split(command), stdin=subprocess.PIPE, stdout=subprocess.PIPE)
+        self.patience = BUILDING
 
     def send(self, requests):
         """Writes from a thread, so that neither side waits for the other with its pipe full."""
         self.sender = threading.Thread(target=self.write, args=("".join(line + "\n" for line in requests).encode(),))
-        self.watch = threading.Timer(PATIENCE, self.child.kill)
+        self.watch = threading.Timer(self.patience, self.child.kill)
         self.sender.start()
         self.watch.start()
 
@@ -38,6 +40,7 @@ class Driver:
         answers = [line.decode("latin-1").removesuffix("\n") for line in itertools.takewhile(bool, lines)]
         self.watch.cancel()
         self.sender.join()
+        self.patience = PATIENCE
         return answers
 
     def put(self, request):
@@ -46,8 +49,9 @@ class Driver:
 
     def take(self):
         """The answer to it; SILENT if the driver ended, or gives none in time."""
-        ready, _, _ = select.select([self.child.stdout], [], [], PATIENCE)
+        ready, _, _ = select.select([self.child.stdout], [], [], self.patience)
         line = self.child.stdout.readline() if ready else b""
+        self.patience = PATIENCE
         return line.decode("latin-1").removesuffix("\n") or SILENT
 
     def finish(self):
