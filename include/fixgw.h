@@ -32,7 +32,8 @@ extern "C" {
 /* What holds for every call
 
    - A slice is a pointer and a length. NULL with length 0 is an empty slice; otherwise the pointer is good for `length`
-     bytes. An array, `uint64_t out[2]`, is a pointer that is good for as many elements and is never NULL.
+     bytes, that of words for as many words. An array, `uint64_t out[2]`, is a pointer that is good for as many elements
+     and is never NULL. Bytes may lie at any address, a store's too.
    - What a call may write (no const) overlaps nothing else that the same call is given.
    - Nothing else is asked of the caller: every number, every byte and every length may be given, and each input has
      exactly one outcome.
