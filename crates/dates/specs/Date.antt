@@ -1,5 +1,5 @@
 -- Days and times: "52, 60, 122 are `YYYYMMDD-HH:MM:SS`, alone or with 3 or 6 decimals; 75 is `YYYYMMDD`; Gregorian calendar, years 0001 to 9999,
--- seconds 00 to 60 in any minute."
+-- seconds 00 to 60 in any minute."; document 02: "64 is a date like 75."
 use Prim.Native.Nat.{ℕ, _%_}
 use Prim.Native.Char.{code}
 use mathlib.Core.List.{List, [], _∷_}

@@ -59,7 +59,7 @@ miscounted g = reason 16 tag g .group .counter when not (eqb (g .begun) (g .coun
 unfoldable pub closing : Open → Says
 closing g = firstOf (incomplete g ∷ miscounted g ∷ [])
 
--- of all that are open, the innermost first
+-- document 02: "count, first-member and missing-member checks apply at each level, innermost first": of all that are open
 abbrev pub closingAll : List Open → Says
 closingAll [] = Nothing
 closingAll (g ∷ gs) = firstOf (closing g ∷ closingAll gs ∷ [])
@@ -123,7 +123,7 @@ rule8 m [] t = reason 15 tag t when member m t
 rule8 m (g ∷ gs) t =
     firstOf (reason 15 tag t when eqb (g .begun) 0 ∷ reason 13 tag t when has (g .last) t ∷ []) when not (firstMember (g .group .members) t)
 
--- "9. bad form: 6 (numbers, Y/N, the shape of dates)"
+-- "9. bad form: 6 (numbers, Y/N, the shape of dates)"; document 02, of 31 and 32: "(else 6; out of range 5)"
 unfoldable pub rule9 : MsgType → ℕ → Bytes → Says
 rule9 m t v = reason 6 tag t when not (formed (kindIn (rowsOf m) t) v)
 

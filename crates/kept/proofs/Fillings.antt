@@ -15,9 +15,9 @@ use Rattle.calendar.specs.Time.{utc, microseconds}
 use Rattle.calendar.proofs.Times.{utc-length}
 use Rattle.message.specs.Message.{row}
 use Rattle.report.specs.Values.{Values, own, takes}
-use Rattle.stamps.specs.Stamp.{isStamp}
+use Rattle.stamps.specs.code.Stamp.{isStamp}
 use Rattle.stamps.proofs.Stamps.{stamp-is, utc-stamp}
-use Rattle.listed.specs.Listed.{Listed}
+use Rattle.listed.specs.code.Listed.{Listed}
 use Rattle.kept.specs.code.Walk.{Filled}
 use Rattle.kept.proofs.Behind.{at-join, at-first, at-second}
 

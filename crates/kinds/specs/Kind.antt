@@ -1,7 +1,8 @@
 -- The kinds of values: "Kinds: 7, 34, 36, 45 are 1 to 999,999,999; 16 also 0; the other numbers (108, 371, 373, 453, 580, 1409) 0 to 999,999,999
 -- unless a list or group narrows them. .. 43, 97, 123, 141 are Y or N. 52, 60, 122 are `YYYYMMDD-HH:MM:SS`, alone or with 3 or 6 decimals; 75 is
 -- `YYYYMMDD`; Gregorian calendar, years 0001 to 9999, seconds 00 to 60 in any minute. Other values are strings of 1 to 32 bytes, none `|` (112: 64;
--- 58: 256)." Document 02 adds decimals: "31 and 32 are decimals .. 64 is a date like 75."
+-- 58: 256)." Document 02: "31 and 32 are decimals .. The other fields are strings unless 01 gives them a kind; 64 is a date like 75."; 552 is a count, as 453
+-- and 580 are.
 use Prim.Native.Nat.{ℕ}
 use mathlib.Core.List.{List, [], _∷_}
 use mathlib.Core.Bool.{Bool, true, cond, _&&_, _||_}

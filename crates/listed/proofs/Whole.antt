@@ -13,7 +13,7 @@ use Rattle.message.specs.Message.{Field, row}
 use Rattle.amounts.specs.Amount.{Amount}
 use Rattle.report.specs.Values.{Party, Values, group, own, takes}
 use Rattle.report.proofs.Taken.{all-fit}
-use Rattle.listed.specs.Listed.{Listed}
+use Rattle.listed.specs.code.Listed.{Listed}
 use Rattle.listed.specs.code.Taken.{Took, anything, without, end, Fields, trade, figures, instrument, side}
 use Rattle.listed.proofs.Rows.{fields-joined, renamed}
 

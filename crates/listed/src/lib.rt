@@ -10,7 +10,7 @@ ghost use Prim.Native.Nat.{_≤_};
 ghost use lib.ListN.{length, drop};
 ghost use Rattle.bytes.specs.Bytes.{fix};
 ghost use Rattle.report.specs.Values.{group};
-ghost use Rattle.listed.specs.Listed.{Listed};
+ghost use Rattle.listed.specs.code.Listed.{Listed};
 ghost use Rattle.listed.specs.code.Taken.{Took, anything, without, end, Fields, trade, figures, instrument, side, party, Parties};
 
 // 571, 828, 60.

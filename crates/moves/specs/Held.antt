@@ -17,7 +17,7 @@ abbrev pub sessionOf : Record → Session
 sessionOf r =
     record { ours = held (r .oursLen) (r .ours); peers = held (r .peerLen) (r .peer); status = r .status; E = r .expected; next = r .next; heartbeat = r .heartbeat; sent = r .sent; replay = record { at = r .at; to = r .to } }
 
--- a call changes the status, the numbers and the replay of a record, and never its CompIDs
+-- a call changes what the record says of the session, and never its CompIDs
 abbrev pub with : Record → Session → Record
 with r s =
     record { ours = r .ours; oursLen = r .oursLen; peer = r .peer; peerLen = r .peerLen; status = s .status; expected = s .E; next = s .next; heartbeat = s .heartbeat; sent = s .sent; at = s .replay .at; to = s .replay .to }

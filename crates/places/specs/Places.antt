@@ -34,6 +34,6 @@ padded m = m ++ replicate (size - length m) 0
 unfoldable pub putAt : ℕ → Bytes → Bytes → Bytes
 putAt i m store = sets store (size * i) (padded m)
 
--- "zeroes the store"
+-- "An accepted logon with 141=Y zeroes the store; a host lends a new session a zeroed one."
 unfoldable pub zeroed : Bytes → Bytes
 zeroed store = replicate (length store) 0

@@ -17,7 +17,7 @@ use Rattle.report.proofs.ReadBack.{sendable-is}
 use Rattle.report.proofs.Sizes.{again-fits}
 use Rattle.kept.specs.Kept.{Holds, held, numberOf}
 use Rattle.kept.proofs.Holding.{held-is}
-use Rattle.possdup.specs.Again.{againOf}
+use Rattle.possdup.specs.code.Again.{againOf}
 use Rattle.possdup.specs.code.Resent.{stampAt, resent}
 use Rattle.possdup.proofs.Standing.{start, rest, again-cut, length-is, parts-within, first-part, last-part}
 

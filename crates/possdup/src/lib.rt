@@ -13,7 +13,7 @@ ghost use Rattle.calendar.specs.Time.{limit};
 ghost use Rattle.message.specs.Unfit.{compID};
 ghost use Rattle.message.specs.Wrote.{Wrote};
 ghost use Rattle.kept.specs.Kept.{held, numberOf};
-ghost use Rattle.possdup.specs.Again.{againOf};
+ghost use Rattle.possdup.specs.code.Again.{againOf};
 ghost use Rattle.possdup.specs.code.Resent.{resent};
 
 // The body of a kept report that is sent again, at the front of a buffer. From `at` on stands the first 52, from `end` on the trailer.

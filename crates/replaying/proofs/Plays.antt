@@ -23,7 +23,7 @@ use Rattle.report.specs.Report.{again}
 use Rattle.places.specs.Places.{isStore}
 use Rattle.places.proofs.Cuts.{slice-at, place-at, place-length}
 use Rattle.kept.specs.Kept.{held, numberOf}
-use Rattle.possdup.specs.Again.{againOf}
+use Rattle.possdup.specs.code.Again.{againOf}
 use Rattle.store.specs.Store.{Table, numbers, find, placeOf, kept}
 use Rattle.store.specs.Plan.{Item, Again, Fill, ends, runTo, orFill, item}
 use Rattle.store.proofs.Counting.{Stands}

@@ -21,6 +21,7 @@ pub told : Told
 unfolding numeral decimal fixt partOf firstField isBody kindOf isNumber formed goodDay goodClock allowed isDecimal decimalOf №453 №580 №552 header code35 fields groupsOf rowsOf framed bodyIn yearDays inYear dateOf utc microseconds amountText amountIn rejected required takes sent again everyField valuesIn reportIn compID sendable read valuesGiven
 told =
     record {
+      as-listed = λ v. refl;
       plainly = record { first = refl; read-back = refl; second = refl };
       fully = record { first = refl; read-back = refl; second = refl };
       unfit = (refl, (refl, (refl, (refl, (refl, (refl, (refl, (refl, (refl, (refl, (refl, (refl, (refl, (refl, (refl, (refl, (refl, tt)))))))))))))))));

@@ -3,14 +3,17 @@
 use Prim.Native.Nat.{ℕ}
 use Prim.Native.String.{String}
 use mathlib.Core.Path.{_≡_}
-use mathlib.Core.List.{List, [], _∷_, _++_}
+use mathlib.Core.List.{List, [], _∷_, _++_, map}
 use mathlib.Core.Bool.{true, false}
 use mathlib.Core.Option.{Option, none, some}
-use lib.ListN.{replicate}
+use lib.ListN.{take, replicate}
 use Rattle.bytes.specs.Bytes.{Bytes, fix}
 use Rattle.calendar.specs.Time.{limit}
+use Rattle.table.specs.declared.MsgType.the-variants.{TradeCaptureReport}
+use Rattle.table.specs.Dictionary.{fields}
+use Rattle.message.specs.Message.{Field, _is_}
 use Rattle.amounts.specs.Amount.{Amount}
-use Rattle.report.specs.Values.{Party, Values, takes}
+use Rattle.report.specs.Values.{Party, Values, own, takes}
 use Rattle.report.specs.Report.{Report, sent, again, sendable, valuesIn, read}
 use Rattle.report.specs.Layout.{valuesGiven}
 
@@ -186,7 +189,12 @@ abbrev pub Each : {A : Type 0} → (A → Type 0) → List A → Type 0
 Each P [] = Unit {0}
 Each P (x ∷ l) = P x × Each P l
 
+-- "then the message's fields as listed": the order of `own` is the dictionary's, with the side's own fields behind 552
+abbrev pub tagOf : Field → ℕ
+tagOf (t is v) = t
+
 pub record Told : Type 0 where
+  pub as-listed : (v : Values) → map tagOf (take 12 (own v)) ≡ map (λ r. r .tag) (fields TradeCaptureReport) ++ (54 ∷ 1427 ∷ [])
   pub plainly : Written plain 5 plain-bytes plain-again
   pub fully : Written full 6 full-bytes full-again
   pub unfit : Each (λ v. takes v ≡ false) unfitValues

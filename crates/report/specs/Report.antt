@@ -82,7 +82,7 @@ valuesIn body =
 unfoldable pub reportIn : Bytes → Report
 reportIn body = record { values = valuesIn body; number = value (the 34 body); time = microseconds (the 52 body) }
 
--- WHAT OUR REPORT CALL WRITES: refusals 11 (CompIDs), 5 (a number above 999,999,990), 7 (time), 8 (values) and 12 keep it from anything else
+-- WHAT OUR REPORT CALL WRITES: refusals 11 (CompIDs, a number below 1), 5 (a number above 999,999,990), 7 (time), 8 (values) and 12 keep it from anything else
 unfoldable pub sendable : Bytes → Bytes → Report → Bool
 sendable us them r =
     compID us && compID them && within 1 999_999_990 (r .number) && ltb (r .time) limit && takes (r .values) && leb (length (sent us them r)) 512

@@ -18,7 +18,7 @@ use Rattle.kinds.specs.Judged.{judged}
 use Rattle.calendar.specs.Time.{utc, limit, microseconds}
 use Rattle.calendar.proofs.Times.{utc-length, utc-formed, utc-allowed, utc-year, utc-second}
 use Rattle.calendar.proofs.Named.{Taken, utc-only, named-before}
-use Rattle.stamps.specs.Stamp.{isStamp}
+use Rattle.stamps.specs.code.Stamp.{isStamp}
 use Rattle.stamps.proofs.Stamps.{stamp-is, utc-stamp}
 
 -- the finding of the kind is that of the date

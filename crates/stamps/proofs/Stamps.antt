@@ -10,7 +10,7 @@ use Rattle.bytes.proofs.Tests.{both}
 use Rattle.kinds.proofs.Values.{same-true, same-refl}
 use Rattle.calendar.specs.Time.{utc, limit, microseconds}
 use Rattle.calendar.proofs.Times.{utc-names}
-use Rattle.stamps.specs.Stamp.{isStamp}
+use Rattle.stamps.specs.code.Stamp.{isStamp}
 
 pub stamp-is : (v : Bytes) → isStamp v ≡ true → (v ≡ utc (microseconds v)) × (microseconds v < limit)
 unfolding isStamp

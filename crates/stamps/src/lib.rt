@@ -2,7 +2,7 @@
 use kinds::Kind;
 use kinds::judge;
 ghost use mathlib.Core.Path.{_≡_};
-ghost use Rattle.stamps.specs.Stamp.{isStamp};
+ghost use Rattle.stamps.specs.code.Stamp.{isStamp};
 
 pub fn is_stamp(v: &[u8]) -> bool
     ensures { λ b. ⌜ b ≡ isStamp (now (v .entry)) ⌝ }

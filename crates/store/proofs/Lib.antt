@@ -9,4 +9,5 @@ pub mod Tables
 pub mod Keeping
 pub mod Last
 pub mod FromZero
+pub mod Cases
 pub mod Promise

@@ -8,9 +8,11 @@ use mathlib.Core.Bool.{true, false}
 use lib.ListN.{length, drop}
 use Rattle.bytes.specs.Bytes.{Bytes}
 use Rattle.places.specs.Places.{isStore, zeroed}
+use Rattle.report.specs.Values.{Values}
 use Rattle.report.specs.Report.{Report, sendable}
 use Rattle.store.specs.Store.{Table, numbers, find, full, lowest, kept, keep}
 use Rattle.store.specs.Plan.{Planned}
+use Rattle.store.specs.Cases.{Cases}
 
 -- A REPORT r that our call can write, of a number that is not kept yet, behind `keep`
 pub record Keeps (us them : Bytes) (r : Report) (store : Bytes) : Type 0 where
@@ -43,9 +45,11 @@ last64 rs = map some (drop (length rs - 64) rs)
 
 pub record Promise : Type 0 where
   pub keeps : (us them : Bytes) (r : Report) (store : Bytes) → isStore store ≡ true → sendable us them r ≡ true → find (r .number) (kept us them store) ≡ none → Keeps us them r store
-  -- a zeroed store keeps nothing, and behind rising reports exactly the last 64, each whole
+  -- "a host lends a new session a zeroed one": it keeps nothing, and behind rising reports exactly the last 64, each whole
   pub zeroed-none : (us them store : Bytes) → isStore store ≡ true → (n : ℕ) → find n (kept us them (zeroed store)) ≡ none
   pub last : (us them store : Bytes) (rs : List Report) → isStore store ≡ true → AllSendable us them rs → Above 0 rs
       → (n : ℕ) → find n (kept us them (keepAll us them rs (zeroed store))) ≡ find n (last64 rs)
   -- whatever is kept
   pub planned : (table : Table) (end at : ℕ) → at ≤ end + 1 → Planned table end at
+  -- worked cases
+  pub cases : (v : Values) → Cases v

@@ -74,13 +74,13 @@ groups = №453 ∷ №580 ∷ №552 ∷ []
 unfoldable pub header : List Row
 header = 35 Y ∷ 49 Y ∷ 56 Y ∷ 34 Y ∷ 52 Y ∷ 43 N ∷ 97 N ∷ 122 N ∷ 1128 of "9" N ∷ []
 
--- The nine message types, in the document's order, and "AE as a tenth type, walked as AD and F are". A Reject's 372 may name any of them.
+-- The nine message types, in the document's order; document 02: "Demands 2 and 3 read as before with AE as a tenth type, walked as AD and F are". A Reject's 372
+-- may name any of them.
 abbrev pub theTen : List MsgType
 theTen =
     Heartbeat ∷ TestRequest ∷ ResendRequest ∷ Reject ∷ SequenceReset ∷ Logout ∷ Logon ∷ OrderCancelRequest ∷ TradeCaptureReportRequest ∷ TradeCaptureReport ∷ []
 
--- What stands behind `35=`, and the fields of each.
-
+-- What stands behind `35=`
 unfoldable pub code35 : MsgType → Bytes
 code35 Heartbeat = fix "0"
 code35 TestRequest = fix "1"
@@ -93,6 +93,9 @@ code35 OrderCancelRequest = fix "F"
 code35 TradeCaptureReportRequest = fix "AD"
 code35 TradeCaptureReport = fix "AE"
 
+-- "0: 112 N. 1: 112 Y. 2: 7 Y, 16 Y. 3: 45 Y, 371 N, 372 N, 373 N, 58 N. 4: 36 Y, 123 N. 5: 1409 N, 58 N. A: 98 {0} Y, 108 (1 to 60) Y, 1137 {9} Y, 141 N.
+-- F: 11 Y, 41 Y, 54 {1, 2} Y, 48 Y, 22 {8} Y, 60 Y, 453 group N. AD: 568 Y, 569 {0} Y, 263 {0} N, 828 {0, 54} N, 453 group N, 22 {8} Y, 48 Y, 580 group Y,
+-- 58 N, 1041 N."; document 02, of AE: "The fields are 571, 828 {0, 54, 99}, 60, 32, 31, 64 optional, 574 {2, 4, 7, 22}, 48, 22 {8}, and group 552"
 unfoldable pub fields : MsgType → List Row
 fields Heartbeat = 112 N ∷ []
 fields TestRequest = 112 Y ∷ []
