@@ -16,7 +16,7 @@ use Rattle.bytes.proofs.Decimals.{decimal-worth, decimal-numeral, numeral-decim
 use Rattle.decimals.specs.Decimal.{leading, trailing, plain, pointed, isDecimal, placesOf, wholeOf, inRange, rangedOf, decimalOf}
 use Rattle.decimals.specs.declared.Decimal.the-variants.{Is, OutOfRange, Bad}
 use Rattle.calendar.specs.Time.{padded}
-use Rattle.kinds.specs.Kind.{Kind, allowed}
+use Rattle.kinds.specs.Kind.{Kind, formed, allowed}
 use Rattle.kinds.specs.Kind as Kind
 use Rattle.calendar.proofs.Texts.{padded-from}
 use Rattle.message.proofs.Pointed.{leading-digits, decimal-length}
@@ -199,3 +199,8 @@ decimal-only v w k e = go (isDecimal v) refl e
 
 pub one-text : (u v : Bytes) (w k : ℕ) → decimalOf u ≡ Is w k → decimalOf v ≡ Is w k → u ≡ v
 one-text u v w k e f = sym (decimal-only u w k e) ∙ decimal-only v w k f
+
+-- so that the amount of a decimal tells its text
+pub text-back : (v : Bytes) → formed Kind.decimal v ≡ true → allowed Kind.decimal v ≡ true → amountText (amountIn v) ≡ v
+unfolding amountText amountIn decimalOf formed allowed
+text-back v f h = rw (f, h) (pointing-only v f)

@@ -24,6 +24,7 @@ use Rattle.dictionary.specs.declared.Verdict.the-variants as Found
 use Rattle.dictionary.proofs.Types.{type-coded}
 use Rattle.dictionary.proofs.Findings.{verdict-refuses}
 use Rattle.readback.specs.Back.{numbers, ofType, byVerdict, readBack, wordsIn, wordsBy, Reads}
+use Rattle.readback.specs.Promise.{OtherType}
 use Rattle.readback.specs.code.Pass.{isAE, namesReport}
 use Rattle.readback.specs.declared.ReadBack.{ReadBack}
 use Rattle.readback.specs.declared.ReadBack.the-variants.{Values, Finding, NoBody}
@@ -103,13 +104,23 @@ of-values (some m) e = ap some (coded-report m (go (same (code35 m) (fix "AE")) 
     go true k h = k
     go false k h = let z : _≡_ {A = ℕ} 0 1 = cc in absurd (omega arith)
 
-of-finding : (o : Option MsgType) (r t : ℕ) → ofType o ≡ Finding r t → (r ≡ 11) × (t ≡ 35)
-of-finding none r t e = (cc, cc)
-of-finding (some m) r t e = go (same (code35 m) (fix "AE")) e
+of-report : ofType (some TradeCaptureReport) ≡ Values
+unfolding code35
+of-report = refl
+
+of-finding : (o : Option MsgType) (r t : ℕ) → ofType o ≡ Finding r t → (o ≡ some TradeCaptureReport → ⊥) × ((r ≡ 11) × (t ≡ 35))
+of-finding o r t e = (other, go o e)
   where
-    go : (b : Bool) → cond b Values (Finding 11 35) ≡ Finding r t → (r ≡ 11) × (t ≡ 35)
-    go true h = let z : _≡_ {A = ℕ} 0 1 = cc in absurd (omega arith)
-    go false h = (cc, cc)
+    other : o ≡ some TradeCaptureReport → ⊥
+    other q = let v = sym (ap ofType q ∙ of-report) ∙ e in let z : _≡_ {A = ℕ} 0 1 = cc in omega arith
+
+    by : (b : Bool) → cond b Values (Finding 11 35) ≡ Finding r t → (r ≡ 11) × (t ≡ 35)
+    by true h = let z : _≡_ {A = ℕ} 0 1 = cc in absurd (omega arith)
+    by false h = (cc, cc)
+
+    go : (o : Option MsgType) → ofType o ≡ Finding r t → (r ≡ 11) × (t ≡ 35)
+    go none e = (cc, cc)
+    go (some m) e = by (same (code35 m) (fix "AE")) e
 
 of-none : (o : Option MsgType) → numbers (ofType o) .0 ≡ none
 of-none none = refl
@@ -129,12 +140,15 @@ module _ (body : Bytes) where
       go (Found.Finding r t) e k = let z : _≡_ {A = ℕ} 0 1 = cc in absurd (omega arith)
       go Found.NoBody e k = let z : _≡_ {A = ℕ} 0 1 = cc in absurd (omega arith)
 
-  pub finding-says : (r t : ℕ) → readBack body ≡ Finding r t → (verdict body ≡ Found.Finding r t) ⊎ ((verdict body ≡ Found.Clean) × ((r ≡ 11) × (t ≡ 35)))
+  pub report-answers : verdict body ≡ Found.Clean → msgType body ≡ some TradeCaptureReport → readBack body ≡ Values
+  report-answers c m = sym (found body (sym c)) ∙ ap ofType m ∙ of-report
+
+  pub finding-says : (r t : ℕ) → readBack body ≡ Finding r t → (verdict body ≡ Found.Finding r t) ⊎ OtherType body r t
   unfolding readBack
   finding-says r t h = go (verdict body) refl h
     where
-      go : (o : Verdict) → verdict body ≡ o → byVerdict o (msgType body) ≡ Finding r t → (verdict body ≡ Found.Finding r t) ⊎ ((verdict body ≡ Found.Clean) × ((r ≡ 11) × (t ≡ 35)))
-      go Found.Clean e k = inr (e, of-finding (msgType body) r t k)
+      go : (o : Verdict) → verdict body ≡ o → byVerdict o (msgType body) ≡ Finding r t → (verdict body ≡ Found.Finding r t) ⊎ OtherType body r t
+      go Found.Clean e k = let o = of-finding (msgType body) r t k in inr (record { clean = e; other = o .0; its-reason = o .1 .0; its-tag = o .1 .1 })
       go (Found.Finding q u) e k = let a : q ≡ r = cc in let b : u ≡ t = cc in inl (e ∙ ap (λ (n : ℕ). Found.Finding n u) a ∙ ap (Found.Finding r) b)
       go Found.NoBody e k = let z : _≡_ {A = ℕ} 0 1 = cc in absurd (omega arith)
 

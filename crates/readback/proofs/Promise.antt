@@ -1,6 +1,6 @@
 -- What is promised of the reading back, proved.
 use Prim.Native.Nat.{ℕ, _≤_, _<_}
-use mathlib.Core.Path.{_≡_, refl, ap, sym, _∙_}
+use mathlib.Core.Path.{_≡_, refl, ap, sym, _∙_, subst}
 use mathlib.Core.List.{List, [], _∷_, _++_}
 use mathlib.Core.Bool.{true}
 use mathlib.Core.Option.{Option, none, some}
@@ -8,19 +8,23 @@ use lib.ListN.{length, getD}
 use lib.Seq.{take-all}
 use Rattle.bytes.specs.Bytes.{Bytes, fix, decimal}
 use Rattle.fields.specs.Field.{firstField}
-use Rattle.table.specs.Dictionary.{header, fields}
+use Rattle.kinds.specs.Kind.{kindOf}
+use Rattle.kinds.specs.Kind as Kind
+use Rattle.table.specs.Dictionary.{№453, №580, №552, header, fields, groupsOf, rowsOf, kindIn, inDictionary}
 use Rattle.table.specs.declared.MsgType.{MsgType}
 use Rattle.table.specs.declared.MsgType.the-variants.{TradeCaptureReport}
 use Rattle.dictionary.specs.Verdict.{verdict, msgType}
-use Rattle.dictionary.specs.Promise.{required}
+use Rattle.dictionary.specs.Promise.{OfKind, required}
 use Rattle.dictionary.specs.declared.Verdict.the-variants.{Clean}
 use Rattle.dictionary.proofs.Clean.{clean-body}
 use Rattle.calendar.specs.Time.{utc, limit}
 use Rattle.message.specs.Message.{Value, absent, bytes, row, framed}
 use Rattle.message.specs.Whole.{bodyIn}
 use Rattle.message.proofs.Wholes.{body-back}
+use Rattle.amounts.specs.Amount.{amountText, amountIn}
+use Rattle.amounts.proofs.Amounts.{text-back}
 use Rattle.report.specs.Values as Report
-use Rattle.report.specs.Report.{Report, fieldsWith, sent, again, sendable, valuesIn, reportIn}
+use Rattle.report.specs.Report.{Report, orEmpty, the, fieldsWith, sent, again, sendable, valuesIn, reportIn}
 use Rattle.report.proofs.Promise as Written
 use Rattle.report.proofs.ReadBack.{sendable-is}
 use Rattle.report.proofs.Longest.{few-parties}
@@ -29,7 +33,7 @@ use Rattle.readback.specs.code.Pass.{namesReport}
 use Rattle.readback.specs.declared.ReadBack.{ReadBack}
 use Rattle.readback.specs.declared.ReadBack.the-variants.{Values, Finding, NoBody}
 use Rattle.readback.specs.Promise.{upToEight, Given, ReadsBack, Promise}
-use Rattle.readback.proofs.Answers.{values-clean, values-say, finding-says, refusal-says}
+use Rattle.readback.proofs.Answers.{report-answers, values-clean, values-say, finding-says, refusal-says}
 use Rattle.readback.proofs.Given.{values-given}
 
 -- a clean report has its 32 and its 31
@@ -40,13 +44,29 @@ there body c m t h =
     let e : B .type ≡ TradeCaptureReport = cc in
     B .there t (ap (λ (k : MsgType). required (header ++ fields k) t) e ∙ h)
 
+-- as decimals, so that their two numbers tell their texts
+told-text : (body : Bytes) → verdict body ≡ Clean → msgType body ≡ some TradeCaptureReport → (t : ℕ) (v : Bytes) → inDictionary t ≡ true → kindIn (rowsOf TradeCaptureReport) t ≡ Kind.decimal → firstField t body ≡ some v
+    → firstField t body ≡ some (amountText (amountIn (the t body)))
+told-text body c m t v k d q =
+    let B = clean-body body c in
+    let n = B .named in
+    let e : B .type ≡ TradeCaptureReport = cc in
+    let K : OfKind TradeCaptureReport t v = subst (λ (m : MsgType). OfKind m t v) e (B .of-kind t v k q) in
+    q ∙ ap some (sym (text-back v (rw d at (K .form)) (rw d at (K .value))) ∙ ap (λ (o : Option Bytes). amountText (amountIn (orEmpty o))) (sym q))
+
 given : (body : Bytes) → readBack body ≡ Values → Given body
-unfolding header fields
+unfolding header fields №453 №580 №552 rowsOf groupsOf inDictionary kindOf valuesIn
 given body h =
     let s = values-say body h in
     let a = there body (s .0) (s .1) 32 refl in
     let b = there body (s .0) (s .1) 31 refl in
-    record { clean = s .0; report = s .1; values = values-given body (a .0) (a .1) (b .0) (b .1) }
+    record {
+      clean = s .0;
+      report = s .1;
+      values = values-given body (a .0) (a .1) (b .0) (b .1);
+      price = told-text body (s .0) (s .1) 31 (b .0) refl refl (b .1);
+      quantity = told-text body (s .0) (s .1) 32 (a .0) refl refl (a .1);
+    }
 
 -- WHAT OUR REPORT CALL WROTE, sent or sent again: it begins with 35=AE, and has at most eight parties
 begun : (us them : Bytes) (n : ℕ) (dup : Value) (t : ℕ) (orig : Value) (v : Report.Values) → namesReport (row (fieldsWith us them n dup t orig v)) ≡ true
@@ -110,4 +130,4 @@ numbers-tell : (r s : ReadBack) → numbers r ≡ numbers s → r ≡ s
 numbers-tell r s h = sym (told-back r) ∙ ap (λ (p : Option ℕ × List ℕ). told (p .0) (p .1)) h ∙ told-back s
 
 pub promise : Promise
-promise = record { given = given; back = back; back-again = back-again; finding = finding-says; refusal-10 = refusal-says; told-apart = numbers-tell }
+promise = record { answers = report-answers; given = given; back = back; back-again = back-again; finding = finding-says; refusal-10 = refusal-says; told-apart = numbers-tell }

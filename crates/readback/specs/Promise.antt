@@ -6,12 +6,13 @@ use mathlib.Core.Bool.{true, cond}
 use mathlib.Core.Option.{none, some}
 use lib.ListN.{take}
 use Rattle.bytes.specs.Bytes.{Bytes}
-use Rattle.fields.specs.Field.{isBody}
+use Rattle.fields.specs.Field.{firstField, isBody}
 use Rattle.table.specs.declared.MsgType.the-variants.{TradeCaptureReport}
 use Rattle.dictionary.specs.Verdict.{verdict, msgType}
 use Rattle.dictionary.specs.declared.Verdict.the-variants as Found
 use Rattle.calendar.specs.Time.{limit}
 use Rattle.message.specs.Whole.{bodyIn}
+use Rattle.amounts.specs.Amount.{amountText}
 use Rattle.report.specs.Values as Report
 use Rattle.report.specs.Report.{Report, sent, again, sendable, valuesIn}
 use Rattle.report.specs.Layout.{valuesGiven}
@@ -42,6 +43,16 @@ pub record Given (body : Bytes) : Type 0 where
   pub clean : verdict body ≡ Found.Clean
   pub report : msgType body ≡ some TradeCaptureReport
   pub values : valuesGiven (wordsIn body) body ≡ upToEight (valuesIn body)
+  -- "reading gives back both": the whole number and the places of 31, and of 32, tell its text
+  pub price : firstField 31 body ≡ some (amountText (valuesIn body .its31))
+  pub quantity : firstField 32 body ≡ some (amountText (valuesIn body .its32))
+
+-- a clean body of another type
+pub record OtherType (body : Bytes) (r t : ℕ) : Type 0 where
+  pub clean : verdict body ≡ Found.Clean
+  pub other : msgType body ≡ some TradeCaptureReport → ⊥
+  pub its-reason : r ≡ 11
+  pub its-tag : t ≡ 35
 
 -- "written, and read back": of what our report call wrote, all its values
 pub record ReadsBack (body : Bytes) (r : Report) : Type 0 where
@@ -49,12 +60,15 @@ pub record ReadsBack (body : Bytes) (r : Report) : Type 0 where
   pub its-values : valuesGiven (wordsIn body) body ≡ r .values
 
 pub record Promise : Type 0 where
+  -- the values are answered of every clean report, ..
+  pub answers : (body : Bytes) → verdict body ≡ Found.Clean → msgType body ≡ some TradeCaptureReport → readBack body ≡ Values
+  -- .. and of nothing else
   pub given : (body : Bytes) → readBack body ≡ Values → Given body
   pub back : (us them : Bytes) (r : Report) → sendable us them r ≡ true → ReadsBack (bodyIn (sent us them r)) r
   -- and of what goes out again (Q-4), the same
   pub back-again : (us them : Bytes) (r : Report) → sendable us them r ≡ true → (t : ℕ) → t < limit → ReadsBack (bodyIn (again us them r t)) r
   -- a finding is the verdict's, or that a clean body is of another type: 11, tag 35
-  pub finding : (body : Bytes) (r t : ℕ) → readBack body ≡ Finding r t → (verdict body ≡ Found.Finding r t) ⊎ ((verdict body ≡ Found.Clean) × ((r ≡ 11) × (t ≡ 35)))
+  pub finding : (body : Bytes) (r t : ℕ) → readBack body ≡ Finding r t → (verdict body ≡ Found.Finding r t) ⊎ OtherType body r t
   -- refusal 10 where the verdict has it, for bytes that are no body, there, and only there
   pub refusal-10 : (body : Bytes) → numbers (readBack body) .0 ≡ cond (isBody body) none (some 10)
   -- "a definition gives this paper's number and values for each case of the enum": they tell the cases apart
