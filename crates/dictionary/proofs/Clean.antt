@@ -1,4 +1,4 @@
--- What a clean verdict says: each part is a field that passed, so the first field of a tag of the dictionary is of its kind; and each required tag
+-- What a clean walk says: each part is a field that passed, so the first field of a tag of the dictionary is of its kind; and each required tag
 -- is there.
 use Prim.Native.Nat.{ℕ, _≤_}
 use native.Mathlib.Omega.{arith}
@@ -10,39 +10,37 @@ use mathlib.Core.Option.{Option, none, some}
 use mathlib.Core.Logic.{_⊎_, inl, inr}
 use lib.Dec.{eqb}
 use lib.ListN.{length, drop}
-use Rattle.bytes.specs.Bytes.{Bytes, all, has, starts, within}
+use Rattle.bytes.specs.Bytes.{Bytes, has, starts, within}
 use Rattle.fields.specs.Field.{Part, field, malformed, partOf, parts, firstOfParts, firstField, isBody}
 use Rattle.fields.proofs.Firsts.{tagged, starts-append, tag-part, part-split}
-use Rattle.table.specs.Dictionary.{Row, №453, №580, №552, theTen, header, fields, rowsOf, listed, administrative, inDictionary}
+use Rattle.table.specs.Dictionary.{Row, header, fields, rowsOf, listed, administrative, inDictionary}
 use Rattle.dictionary.specs.Verdict.{Open, Past, _when_, firstOf, missing, closingAll, left, rule1, rule2, rule4, rule6, rule9, rule10, said, skipped, taken, after, verdictBy, walk, nothingYet, msgType, judgedAs, verdict}
 use Rattle.table.specs.declared.MsgType.{MsgType}
 use Rattle.dictionary.specs.declared.Says.{Says}
 use Rattle.dictionary.specs.declared.Says.the-variants.{Nothing, Reason}
 use Rattle.dictionary.specs.declared.Verdict.{Verdict}
 use Rattle.dictionary.specs.declared.Verdict.the-variants.{Clean, NoBody}
-use Rattle.dictionary.specs.Promise.{OfKind, required, Passed, PassedPart, AllPassed, CleanBody}
-use Rattle.table.specs.code.Held.{allRows, tags}
+use Rattle.dictionary.specs.Promise.{OfKind, Passed, PassedPart, AllPassed}
+use Rattle.dictionary.specs.Groups.{required}
 use Rattle.bytes.proofs.Numerals.{within-is}
 use Rattle.bytes.proofs.Tests.{both}
-use Rattle.table.proofs.Lists.{all-ten}
-use Rattle.dictionary.proofs.Saying.{unknown-tag}
 use Rattle.dictionary.proofs.Turns.{silent, silent-at, unknown-skipped}
 
 -- a field of a tag is a part that begins with the tag and `=`
-part-starts : (t : ℕ) (p v : Bytes) → partOf p ≡ field t v → starts (tagged t) p ≡ true
+pub part-starts : (t : ℕ) (p v : Bytes) → partOf p ≡ field t v → starts (tagged t) p ≡ true
 part-starts t p v e = ap (starts (tagged t)) (part-split p v t e) ∙ starts-append (tagged t) v
 
 -- a clean walk found no fault with the part that it began with, and goes on clean
-by-clean : (s : Says) (x : Verdict) → verdictBy s x ≡ Clean → (s ≡ Nothing) × (x ≡ Clean)
+pub by-clean : (s : Says) (x : Verdict) → verdictBy s x ≡ Clean → (s ≡ Nothing) × (x ≡ Clean)
 by-clean Nothing x h = (refl, h)
 by-clean (Reason a t) x h = let z : _≡_ {A = ℕ} 0 1 = cc in absurd (omega arith)
 
 -- the tags met behind a field: a member leaves none
-seen-taken : (m : MsgType) (seen : List ℕ) (u : ℕ) (v : Bytes) → taken m seen [] u v .seen ≡ u ∷ seen
+pub seen-taken : (m : MsgType) (seen : List ℕ) (u : ℕ) (v : Bytes) → taken m seen [] u v .seen ≡ u ∷ seen
 unfolding taken
 seen-taken m seen u v = refl
 
-seen-member : (m : MsgType) (seen : List ℕ) (g : Open) (gs : List Open) (u : ℕ) (v : Bytes) → taken m seen (g ∷ gs) u v .seen ≡ seen
+pub seen-member : (m : MsgType) (seen : List ℕ) (g : Open) (gs : List Open) (u : ℕ) (v : Bytes) → taken m seen (g ∷ gs) u v .seen ≡ seen
 unfolding taken
 seen-member m seen g gs u v = refl
 
@@ -51,7 +49,7 @@ when-not : (b : Bool) (a t : ℕ) → (Reason a t when not b) ≡ Nothing → b 
 when-not true a t h = refl
 when-not false a t h = let z : _≡_ {A = ℕ} 0 1 = cc in absurd (omega arith)
 
-when-so : (b : Bool) (a t : ℕ) → (Reason a t when b) ≡ Nothing → b ≡ false
+pub when-so : (b : Bool) (a t : ℕ) → (Reason a t when b) ≡ Nothing → b ≡ false
 when-so true a t h = let z : _≡_ {A = ℕ} 0 1 = cc in absurd (omega arith)
 when-so false a t h = refl
 
@@ -84,7 +82,7 @@ walk-passed m (p ∷ ps) w h =
     let c = by-clean (said m w (partOf p)) (walk m (after m w (partOf p)) ps) h in
     (passed-part m w (partOf p) (c .0), walk-passed m ps (after m w (partOf p)) (c .1))
 
-none-missing : (rows : List Row) (met : List ℕ) (t : ℕ) → required rows t ≡ true → missing rows met ≡ Nothing → has met t ≡ true
+pub none-missing : (rows : List Row) (met : List ℕ) (t : ℕ) → required rows t ≡ true → missing rows met ≡ Nothing → has met t ≡ true
 none-missing [] met t r h = absurd (false≢true r)
 none-missing (x ∷ rows) met t r h = go (x .required) (eqb (x .tag) t) (has met (x .tag)) refl refl r h (none-missing rows met t)
   where
@@ -159,7 +157,7 @@ module _ (m : MsgType) (t : ℕ) (low : 1 ≤ t) (high : t ≤ 99_999) where
       go (inr f) = inr (found-later p ps f)
 
 -- behind a clean verdict
-clean-walk : (m : MsgType) (body : Bytes) → verdict body ≡ Clean → msgType body ≡ some m → walk m nothingYet (parts body) ≡ Clean
+pub clean-walk : (m : MsgType) (body : Bytes) → verdict body ≡ Clean → msgType body ≡ some m → walk m nothingYet (parts body) ≡ Clean
 unfolding verdict
 clean-walk m body h t = go (isBody body) (rw t at h)
   where
@@ -196,50 +194,3 @@ clean-required m t body h y n r = go (walk-required m t (within-is 1 99_999 t n 
     go : (_≡_ {A = Bool} false true) ⊎ Found m t (within-is 1 99_999 t n .0) (within-is 1 99_999 t n .1) (parts body) → (v : Bytes) × (firstOfParts (tagged t) (parts body) ≡ some v)
     go (inl x) = absurd (false≢true x)
     go (inr f) = f
-
--- THE TABLE'S TAGS have one to five digits
-abbrev tagged-row : Row → Bool
-tagged-row r = within 1 99_999 (r .tag)
-
-required-tag : (rows : List Row) (t : ℕ) → all tagged-row rows ≡ true → required rows t ≡ true → within 1 99_999 t ≡ true
-required-tag [] t h k = absurd (false≢true k)
-required-tag (r ∷ rows) t h k = let w = both (tagged-row r) (all tagged-row rows) h in go (r .required) (eqb (r .tag) t) refl k (w .0) (required-tag rows t (w .1))
-  where
-    go : (q b : Bool) → eqb (r .tag) t ≡ b → ((b && q) || required rows t) ≡ true → within 1 99_999 (r .tag) ≡ true → (required rows t ≡ true → within 1 99_999 t ≡ true) → within 1 99_999 t ≡ true
-    go true true e k l f = ap (within 1 99_999) (sym (eqb-true (r .tag) t e)) ∙ l
-    go true false e k l f = f k
-    go false true e k l f = f k
-    go false false e k l f = f k
-
-rows-tagged : all (λ (m : MsgType). all tagged-row (header ++ fields m)) theTen ≡ true
-unfolding header fields №453 №580 №552
-rows-tagged = refl
-
-listed-tag : (l : List ℕ) (t : ℕ) → all (within 1 99_999) l ≡ true → has l t ≡ true → within 1 99_999 t ≡ true
-listed-tag [] t h k = absurd (false≢true k)
-listed-tag (x ∷ l) t h k = let w = both (within 1 99_999 x) (all (within 1 99_999) l) h in go (eqb x t) refl k (listed-tag l t (w .1)) (w .0)
-  where
-    go : (b : Bool) → eqb x t ≡ b → (b || has l t) ≡ true → (has l t ≡ true → within 1 99_999 t ≡ true) → within 1 99_999 x ≡ true → within 1 99_999 t ≡ true
-    go true e k f g = ap (within 1 99_999) (sym (eqb-true x t e)) ∙ g
-    go false e k f g = f k
-
-known-tagged : (t : ℕ) → inDictionary t ≡ true → within 1 99_999 t ≡ true
-unfolding allRows tags header fields №453 №580 №552
-known-tagged t h = listed-tag tags t refl (go (has tags t) refl)
-  where
-    go : (b : Bool) → has tags t ≡ b → b ≡ true
-    go true e = refl
-    go false e = absurd (false≢true (sym (unknown-tag t e) ∙ h))
-
--- ALL THAT A CLEAN VERDICT SAYS
-pub clean-body : (body : Bytes) → verdict body ≡ Clean → CleanBody body
-clean-body body h =
-    let y = clean-type body h in
-    let m = y .0 in
-    record {
-      type = m;
-      named = y .1;
-      passed = clean-passed m body h (y .1);
-      of-kind = λ t v k e. clean-kind m t body v h (y .1) (known-tagged t k) k e;
-      there = λ t r. clean-required m t body h (y .1) (required-tag (header ++ fields m) t (all-ten (λ (n : MsgType). all tagged-row (header ++ fields n)) rows-tagged m) r) r;
-    }

@@ -13,6 +13,11 @@ pub mod Closings
 pub mod Reports
 pub mod Types
 pub mod Clean
+pub mod Inside
+pub mod Grouping
+pub mod Once
+pub mod Counting
+pub mod Bodies
 pub mod Promise
 pub mod Findings
 pub mod OneOutcome

@@ -17,7 +17,8 @@ use Rattle.fields.specs.Field.{partOf, field, parts, isBody}
 use Rattle.fields.proofs.Items.{field-part}
 use Rattle.table.specs.Dictionary.{Row, header, fields, administrative, listed, groupsOf, member, rowsOf, frameTag, inDictionary}
 use Rattle.dictionary.specs.Verdict.{Past, nothingYet, said, after, taken, left, skipped, closing, missing, walk, rules4to10, rule1, rule2, rule3, rule4, rule5, rule6, rule7, rule8, rule9, rule10, msgType, verdict}
-use Rattle.dictionary.specs.Promise.{OfKind, required}
+use Rattle.dictionary.specs.Promise.{OfKind}
+use Rattle.dictionary.specs.Groups.{required}
 use Rattle.table.specs.declared.MsgType.{MsgType}
 use Rattle.dictionary.specs.declared.Says.the-variants.{Nothing, Reason}
 use Rattle.dictionary.specs.declared.Verdict.the-variants.{Clean}

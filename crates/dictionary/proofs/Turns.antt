@@ -50,7 +50,7 @@ unknown-skipped m w t v k h = rw k (go (administrative m) (silent-at (rule1 (w .
     go true h = refl
     go false h = let z : _≡_ {A = ℕ} 0 1 = cc in absurd (omega arith)
 
-known-not-skipped : (m : MsgType) (t : ℕ) → inDictionary t ≡ true → skipped m t ≡ false
+pub known-not-skipped : (m : MsgType) (t : ℕ) → inDictionary t ≡ true → skipped m t ≡ false
 unfolding skipped
 known-not-skipped m t k = rw k (and-false (administrative m))
 

@@ -2,16 +2,18 @@
 use Prim.Native.Nat.{ℕ, _≤_}
 use mathlib.Core.Path.{_≡_}
 use mathlib.Core.List.{List, [], _∷_, _++_}
-use mathlib.Core.Bool.{Bool, true, false, cond, _&&_}
+use mathlib.Core.Bool.{true, false, cond}
 use mathlib.Core.Option.{none, some}
 use lib.Dec.{eqb}
 use lib.ListN.{length}
-use Rattle.bytes.specs.Bytes.{Bytes, any, has}
+use Rattle.bytes.specs.Bytes.{Bytes, has}
 use Rattle.fields.specs.Field.{Part, field, malformed, partOf, parts, firstField, isBody}
 use Rattle.kinds.specs.Kind.{formed, allowed}
-use Rattle.table.specs.Dictionary.{Row, header, fields, rowsOf, listed, kindIn, administrative, inDictionary}
+use Rattle.table.specs.Dictionary.{№552, header, fields, groupsOf, member, rowsOf, listed, kindIn, administrative, inDictionary}
 use Rattle.dictionary.specs.Verdict.{msgType, verdict, numbers}
+use Rattle.dictionary.specs.Groups.{required, fieldsAmong, AllGrouped}
 use Rattle.table.specs.declared.MsgType.{MsgType}
+use Rattle.table.specs.declared.MsgType.the-variants.{TradeCaptureReport}
 use Rattle.dictionary.specs.declared.Verdict.{Verdict}
 use Rattle.dictionary.specs.declared.Verdict.the-variants.{Clean, Finding}
 
@@ -19,10 +21,6 @@ use Rattle.dictionary.specs.declared.Verdict.the-variants.{Clean, Findin
 pub record OfKind (m : MsgType) (t : ℕ) (v : Bytes) : Type 0 where
   pub form : formed (kindIn (rowsOf m) t) v ≡ true
   pub value : allowed (kindIn (rowsOf m) t) v ≡ true
-
--- "Y required, N optional": t is a required tag of some rows
-abbrev pub required : List Row → ℕ → Bool
-required rows t = any (λ (r : Row). eqb (r .tag) t && r .required) rows
 
 -- A field that no rule spoke of. "tag not in the dictionary: skipped in an administrative message, 3 in AD and F", and in AE, "walked as AD and F
 -- are"; "not for this message: 2"; "empty value: 4"; and of its kind.
@@ -52,6 +50,12 @@ pub record CleanBody (body : Bytes) : Type 0 where
   pub of-kind : (t : ℕ) (v : Bytes) → inDictionary t ≡ true → firstField t body ≡ some v → OfKind type t v
   -- "the first missing required tag, header first, in the order above: 1": none is missing
   pub there : (t : ℕ) → required (header ++ fields type) t ≡ true → (v : Bytes) × (firstField t body ≡ some v)
+  -- "a tag outside groups seen before: 13": each is there at most once
+  pub once : (t : ℕ) → inDictionary t ≡ true → member type t ≡ false → length (fieldsAmong (eqb t) (parts body)) ≤ 1
+  -- of each group of the type, at each level: whole instances, as many as its count says
+  pub grouped : AllGrouped (groupsOf type) (parts body)
+  -- "group 552, exactly once, of 54 and, both optional, 1427 and group 453": in a report each of these tags is there at most once
+  pub side : type ≡ TradeCaptureReport → (t : ℕ) → listed (№552 .members) t ≡ true → length (fieldsAmong (eqb t) (parts body)) ≤ 1
 
 -- the reasons that document 01 names: 0 to 6, 11, 13 to 16 ..
 abbrev pub reasons : List ℕ

@@ -14,9 +14,10 @@ use Rattle.table.specs.Dictionary.{№453, №580, №552, header, fields, grou
 use Rattle.table.specs.declared.MsgType.{MsgType}
 use Rattle.table.specs.declared.MsgType.the-variants.{TradeCaptureReport}
 use Rattle.dictionary.specs.Verdict.{verdict, msgType}
-use Rattle.dictionary.specs.Promise.{OfKind, required}
+use Rattle.dictionary.specs.Promise.{OfKind}
+use Rattle.dictionary.specs.Groups.{required}
 use Rattle.dictionary.specs.declared.Verdict.the-variants.{Clean}
-use Rattle.dictionary.proofs.Clean.{clean-body}
+use Rattle.dictionary.proofs.Bodies.{clean-body}
 use Rattle.calendar.specs.Time.{utc, limit}
 use Rattle.message.specs.Message.{Value, absent, bytes, row, framed}
 use Rattle.message.specs.Whole.{bodyIn}
