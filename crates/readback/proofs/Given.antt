@@ -7,7 +7,7 @@ use mathlib.Core.Bool.{cond, not}
 use mathlib.Core.Option.{Option, none, some}
 use lib.Dec.{eqb}
 use lib.ListN.{length, take, getD, replicate, length-append, List·getD-append}
-use lib.Seq.{getD-append-add}
+use lib.Seq.{getD-append-add, take-all}
 use Rattle.bytes.specs.Bytes.{Bytes}
 use Rattle.bytes.proofs.Numerals.{is-within}
 use Rattle.fields.specs.Field.{firstField}
@@ -22,7 +22,6 @@ use Rattle.report.specs.Report.{orEmpty, everyField, partiesOf, valuesIn}
 use Rattle.report.specs.Report as Report
 use Rattle.report.specs.Layout.{word, needed, mayBe, amountAt, partiesFrom, valuesGiven}
 use Rattle.readback.specs.Back.{placeWords, amountWords, everyPlace, partyWords, partiesIn, counted, wordsIn}
-use Rattle.readback.specs.Promise.{upToEight}
 use Rattle.readback.proofs.Ending.{zipped, party-long}
 use Rattle.readback.proofs.Everything.{bytesAt, part-is, every-bytes}
 
@@ -187,9 +186,9 @@ module _ (body : Bytes) where
       ∙ ap (λ (l : List Bytes). take 8 (partiesOf (everyField 448 body) l (map (bytesAt body) (everyPlace 452 body)))) (every-bytes 447 body)
       ∙ ap (λ (k : List Bytes). take 8 (partiesOf (everyField 448 body) (everyField 447 body) k)) (every-bytes 452 body)
 
-  pub values-given : (v : Bytes) → firstField 32 body ≡ some v → (u : Bytes) → firstField 31 body ≡ some u → valuesGiven (wordsIn body) body ≡ upToEight (valuesIn body)
+  pub values-given : (v : Bytes) → firstField 32 body ≡ some v → (u : Bytes) → firstField 31 body ≡ some u → length (Report.partiesIn body) ≤ 8 → valuesGiven (wordsIn body) body ≡ valuesIn body
   unfolding valuesGiven valuesIn
-  values-given v q u p i =
+  values-given v q u p l i =
       record {
         its571 = needed-is 0 (omega arith) 571 (omega arith, omega arith) refl i;
         its828 = needed-is 1 (omega arith) 828 (omega arith, omega arith) refl i;
@@ -202,5 +201,5 @@ module _ (body : Bytes) where
         its22 = needed-is 8 (omega arith) 22 (omega arith, omega arith) refl i;
         its54 = needed-is 9 (omega arith) 54 (omega arith, omega arith) refl i;
         its1427 = may-be-is 10 (omega arith) 1427 (omega arith, omega arith) refl i;
-        parties = parties-are i;
+        parties = (parties-are ∙ take-all 8 (Report.partiesIn body) l) i;
       }

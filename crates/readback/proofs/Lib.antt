@@ -6,6 +6,7 @@ pub mod Ending
 pub mod Clearing
 pub mod Answers
 pub mod Everything
+pub mod Parties
 pub mod Given
 pub mod Promise
 pub mod OneOutcome

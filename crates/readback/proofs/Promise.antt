@@ -1,13 +1,14 @@
 -- What is promised of the reading back, proved.
 use Prim.Native.Nat.{ℕ, _≤_, _<_}
+use native.Mathlib.Omega.{arith}
 use mathlib.Core.Path.{_≡_, refl, ap, sym, _∙_, subst}
 use mathlib.Core.List.{List, [], _∷_, _++_}
 use mathlib.Core.Bool.{true}
 use mathlib.Core.Option.{Option, none, some}
+use lib.Dec.{eqb}
 use lib.ListN.{length, getD}
-use lib.Seq.{take-all}
 use Rattle.bytes.specs.Bytes.{Bytes, fix, decimal}
-use Rattle.fields.specs.Field.{firstField}
+use Rattle.fields.specs.Field.{parts, firstField}
 use Rattle.kinds.specs.Kind.{kindOf}
 use Rattle.kinds.specs.Kind as Kind
 use Rattle.table.specs.Dictionary.{№453, №580, №552, header, fields, groupsOf, rowsOf, kindIn, inDictionary}
@@ -15,9 +16,10 @@ use Rattle.table.specs.declared.MsgType.{MsgType}
 use Rattle.table.specs.declared.MsgType.the-variants.{TradeCaptureReport}
 use Rattle.dictionary.specs.Verdict.{verdict, msgType}
 use Rattle.dictionary.specs.Promise.{OfKind}
-use Rattle.dictionary.specs.Groups.{required}
+use Rattle.dictionary.specs.Groups.{required, fieldsAmong, Counted, Grouped, AllGrouped}
 use Rattle.dictionary.specs.declared.Verdict.the-variants.{Clean}
 use Rattle.dictionary.proofs.Bodies.{clean-body}
+use Rattle.dictionary.proofs.Counting.{few}
 use Rattle.calendar.specs.Time.{utc, limit}
 use Rattle.message.specs.Message.{Value, absent, bytes, row, framed}
 use Rattle.message.specs.Whole.{bodyIn}
@@ -25,16 +27,15 @@ use Rattle.message.proofs.Wholes.{body-back}
 use Rattle.amounts.specs.Amount.{amountText, amountIn}
 use Rattle.amounts.proofs.Amounts.{text-back}
 use Rattle.report.specs.Values as Report
-use Rattle.report.specs.Report.{Report, orEmpty, the, fieldsWith, sent, again, sendable, valuesIn, reportIn}
+use Rattle.report.specs.Report.{Report, orEmpty, the, partiesIn, fieldsWith, sent, again, sendable, valuesIn, reportIn}
 use Rattle.report.proofs.Promise as Written
-use Rattle.report.proofs.ReadBack.{sendable-is}
-use Rattle.report.proofs.Longest.{few-parties}
 use Rattle.readback.specs.Back.{readBack, numbers}
 use Rattle.readback.specs.code.Pass.{namesReport}
 use Rattle.readback.specs.declared.ReadBack.{ReadBack}
 use Rattle.readback.specs.declared.ReadBack.the-variants.{Values, Finding, NoBody}
-use Rattle.readback.specs.Promise.{upToEight, Given, ReadsBack, Promise}
+use Rattle.readback.specs.Promise.{Parties, Given, ReadsBack, Promise}
 use Rattle.readback.proofs.Answers.{report-answers, values-clean, values-say, finding-says, refusal-says}
+use Rattle.readback.proofs.Parties.{three, parties-of, parties-are}
 use Rattle.readback.proofs.Given.{values-given}
 
 -- a clean report has its 32 and its 31
@@ -55,21 +56,51 @@ told-text body c m t v k d q =
     let K : OfKind TradeCaptureReport t v = subst (λ (m : MsgType). OfKind m t v) e (B .of-kind t v k q) in
     q ∙ ap some (sym (text-back v (rw d at (K .form)) (rw d at (K .value))) ∙ ap (λ (o : Option Bytes). amountText (amountIn (orEmpty o))) (sym q))
 
+-- its group 453
+its-453 : (body : Bytes) → verdict body ≡ Clean → msgType body ≡ some TradeCaptureReport → Grouped №453 (parts body)
+unfolding groupsOf fields №453 №580 №552
+its-453 body c m =
+    let B = clean-body body c in
+    let n = B .named in
+    let e : B .type ≡ TradeCaptureReport = cc in
+    subst (λ (k : MsgType). AllGrouped (groupsOf k) (parts body)) e (B .grouped) .0
+
+record Its-parties (body : Bytes) : Type 0 where
+  are : Parties (fieldsAmong three (parts body)) (partiesIn body)
+  counted : Counted 8 (fieldsAmong (eqb 453) (parts body)) (length (partiesIn body))
+  few : length (partiesIn body) ≤ 8
+
+its-parties : (body : Bytes) → verdict body ≡ Clean → msgType body ≡ some TradeCaptureReport → Its-parties body
+unfolding №453
+its-parties body c m =
+    let G = its-453 body c m in
+    let P = parties-of (G .number) (G .instances) in
+    let e = parties-are body (P .parties) (P .are) in
+    let n : G .number ≡ length (partiesIn body) = sym (P .long) ∙ ap length (sym e) in
+    record {
+      are = subst (Parties (fieldsAmong three (parts body))) (sym e) (P .are);
+      counted = subst (Counted 8 (fieldsAmong (eqb 453) (parts body))) n (G .counted);
+      few = omega (arith, few (G .counted));
+    }
+
 given : (body : Bytes) → readBack body ≡ Values → Given body
 unfolding header fields №453 №580 №552 rowsOf groupsOf inDictionary kindOf valuesIn
 given body h =
     let s = values-say body h in
     let a = there body (s .0) (s .1) 32 refl in
     let b = there body (s .0) (s .1) 31 refl in
+    let P = its-parties body (s .0) (s .1) in
     record {
       clean = s .0;
       report = s .1;
-      values = values-given body (a .0) (a .1) (b .0) (b .1);
+      values = values-given body (a .0) (a .1) (b .0) (b .1) (P .few);
+      parties = P .are;
+      counted = P .counted;
       price = told-text body (s .0) (s .1) 31 (b .0) refl refl (b .1);
       quantity = told-text body (s .0) (s .1) 32 (a .0) refl refl (a .1);
     }
 
--- WHAT OUR REPORT CALL WROTE, sent or sent again: it begins with 35=AE, and has at most eight parties
+-- WHAT OUR REPORT CALL WROTE, sent or sent again: it begins with 35=AE
 begun : (us them : Bytes) (n : ℕ) (dup : Value) (t : ℕ) (orig : Value) (v : Report.Values) → namesReport (row (fieldsWith us them n dup t orig v)) ≡ true
 unfolding firstField decimal
 begun us them n dup t orig v = refl
@@ -77,43 +108,26 @@ begun us them n dup t orig v = refl
 names-report : (us them : Bytes) (n : ℕ) (dup : Value) (t : ℕ) (orig : Value) (v : Report.Values) → namesReport (bodyIn (framed (row (fieldsWith us them n dup t orig v)))) ≡ true
 names-report us them n dup t orig v = ap namesReport (body-back (row (fieldsWith us them n dup t orig v))) ∙ begun us them n dup t orig v
 
-up-to-eight : (v : Report.Values) → length (v .parties) ≤ 8 → upToEight v ≡ v
-up-to-eight v h i =
-    record {
-      its571 = v .its571;
-      its828 = v .its828;
-      its60 = v .its60;
-      its32 = v .its32;
-      its31 = v .its31;
-      its64 = v .its64;
-      its574 = v .its574;
-      its48 = v .its48;
-      its22 = v .its22;
-      its54 = v .its54;
-      its1427 = v .its1427;
-      parties = take-all 8 (v .parties) h i;
-    }
-
 -- a clean body of such a report that names its values reads back as them
-reads : (us them body : Bytes) (r : Report) → sendable us them r ≡ true → verdict body ≡ Clean → namesReport body ≡ true → valuesIn body ≡ r .values → ReadsBack body r
-reads us them body r h c n e =
+reads : (body : Bytes) (r : Report) → verdict body ≡ Clean → namesReport body ≡ true → valuesIn body ≡ r .values → ReadsBack body r
+reads body r c n e =
     let a = values-clean body c n in
     record {
       answered = a;
-      its-values = given body a .values ∙ ap upToEight e ∙ up-to-eight (r .values) (few-parties (r .values) (sendable-is us them r h .taken));
+      its-values = given body a .values ∙ e;
     }
 
 back : (us them : Bytes) (r : Report) → sendable us them r ≡ true → ReadsBack (bodyIn (sent us them r)) r
 unfolding sent reportIn
 back us them r h =
     let W = Written.promise .written us them r h in
-    reads us them _ r h (W .clean) (names-report us them (r .number) absent (r .time) absent (r .values)) (ap (λ (x : Report). x .values) (W .reads))
+    reads _ r (W .clean) (names-report us them (r .number) absent (r .time) absent (r .values)) (ap (λ (x : Report). x .values) (W .reads))
 
 back-again : (us them : Bytes) (r : Report) → sendable us them r ≡ true → (t : ℕ) → t < limit → ReadsBack (bodyIn (again us them r t)) r
 unfolding again
 back-again us them r h t l =
     let W = Written.promise .repeated us them r h t in
-    reads us them _ r h (W .clean l) (names-report us them (r .number) (bytes (fix "Y")) t (bytes (utc (r .time))) (r .values)) (W .reads)
+    reads _ r (W .clean l) (names-report us them (r .number) (bytes (fix "Y")) t (bytes (utc (r .time))) (r .values)) (W .reads)
 
 -- the case that number and values tell
 told : Option ℕ → List ℕ → ReadBack

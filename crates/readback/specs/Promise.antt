@@ -1,48 +1,45 @@
 -- What is promised of the reading back, in document 02's words. Proved once, in proofs/Promise.antt.
 use Prim.Native.Nat.{ℕ, _<_}
 use mathlib.Core.Path.{_≡_}
+use mathlib.Core.List.{List, [], _∷_}
 use mathlib.Core.Logic.{_⊎_}
 use mathlib.Core.Bool.{true, cond}
 use mathlib.Core.Option.{none, some}
-use lib.ListN.{take}
-use Rattle.bytes.specs.Bytes.{Bytes}
-use Rattle.fields.specs.Field.{firstField, isBody}
+use lib.Dec.{eqb}
+use lib.ListN.{length}
+use Rattle.bytes.specs.Bytes.{Bytes, has}
+use Rattle.fields.specs.Field.{parts, firstField, isBody}
 use Rattle.table.specs.declared.MsgType.the-variants.{TradeCaptureReport}
 use Rattle.dictionary.specs.Verdict.{verdict, msgType}
+use Rattle.dictionary.specs.Groups.{fieldsAmong, Counted}
 use Rattle.dictionary.specs.declared.Verdict.the-variants as Found
 use Rattle.calendar.specs.Time.{limit}
 use Rattle.message.specs.Whole.{bodyIn}
 use Rattle.amounts.specs.Amount.{amountText}
-use Rattle.report.specs.Values as Report
+use Rattle.report.specs.Values.{Party}
 use Rattle.report.specs.Report.{Report, sent, again, sendable, valuesIn}
 use Rattle.report.specs.Layout.{valuesGiven}
 use Rattle.readback.specs.Back.{readBack, wordsIn, numbers}
 use Rattle.readback.specs.declared.ReadBack.{ReadBack}
 use Rattle.readback.specs.declared.ReadBack.the-variants.{Values, Finding}
 
--- the words have room for eight parties
-abbrev pub upToEight : Report.Values → Report.Values
-upToEight v =
-    record {
-      its571 = v .its571;
-      its828 = v .its828;
-      its60 = v .its60;
-      its32 = v .its32;
-      its31 = v .its31;
-      its64 = v .its64;
-      its574 = v .its574;
-      its48 = v .its48;
-      its22 = v .its22;
-      its54 = v .its54;
-      its1427 = v .its1427;
-      parties = take 8 (v .parties);
-    }
+-- "Group 453, 1 to 8 times: 448 Y, 447 {D} Y, 452 .. Y"; "That first member starts each instance, the others follow in any order": fields of these
+-- three tags, one behind the other, and the parties that they are
+pub data Parties : List (ℕ × Bytes) → List Party → Type 0 where
+  no-party : Parties [] []
+  ordered : {a b c : Bytes} {fs : List (ℕ × Bytes)} {ps : List Party} → Parties fs ps
+      → Parties ((448, a) ∷ (447, b) ∷ (452, c) ∷ fs) (record { its448 = a; its447 = b; its452 = c } ∷ ps)
+  turned : {a b c : Bytes} {fs : List (ℕ × Bytes)} {ps : List Party} → Parties fs ps
+      → Parties ((448, a) ∷ (452, c) ∷ (447, b) ∷ fs) (record { its448 = a; its447 = b; its452 = c } ∷ ps)
 
 -- a body whose values are answered: a clean report, and the words beside the body give the values that it names
 pub record Given (body : Bytes) : Type 0 where
   pub clean : verdict body ≡ Found.Clean
   pub report : msgType body ≡ some TradeCaptureReport
-  pub values : valuesGiven (wordsIn body) body ≡ upToEight (valuesIn body)
+  pub values : valuesGiven (wordsIn body) body ≡ valuesIn body
+  -- its parties are all of its fields 448, 447 and 452, each in its own party, and as many as its one 453 says, none where there is no 453
+  pub parties : Parties (fieldsAmong (has (448 ∷ 447 ∷ 452 ∷ [])) (parts body)) (valuesIn body .parties)
+  pub counted : Counted 8 (fieldsAmong (eqb 453) (parts body)) (length (valuesIn body .parties))
   -- "reading gives back both": the whole number and the places of 31, and of 32, tell its text
   pub price : firstField 31 body ≡ some (amountText (valuesIn body .its31))
   pub quantity : firstField 32 body ≡ some (amountText (valuesIn body .its32))
