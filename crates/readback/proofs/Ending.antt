@@ -13,7 +13,7 @@ use Rattle.bytes.proofs.Numerals.{is-within}
 use Rattle.fields.specs.Field.{firstField}
 use Rattle.fields.specs.First.{firstPlace, valueAt}
 use Rattle.fields.proofs.Firsts.{first-place}
-use Rattle.readback.specs.Back.{placeWords, amountWords, everyPlace, partyWords, partiesIn, counted, wordsIn}
+use Rattle.readback.specs.Back.{placeWords, amountWords, everyPlace, partyWords, partyWordsIn, counted, wordsIn}
 use Rattle.readback.specs.code.Pass.{tagAt, wordsAt, three, partAt, Parts, Gathered}
 use Rattle.readback.specs.declared.noting.Counts.{Counts}
 use Rattle.readback.proofs.Slots.{three-words}
@@ -148,8 +148,8 @@ module _ (body : Bytes) (words : List ℕ) (had : Counts) (G : Gathered body wor
       let f = part-of 0 (omega arith) (everyPlace 448 body) (G .ids) q k in
       (f .0 ∙ ap (λ (x : ℕ × ℕ). x .0) (sym e), f .1 ∙ ap (λ (x : ℕ × ℕ). x .1) (sym e))
 
-  parties-are : drop 33 w ≡ counted (partiesIn body)
-  unfolding partiesIn
+  parties-are : drop 33 w ≡ counted (partyWordsIn body)
+  unfolding partyWordsIn
   parties-are =
       let ws = partyWords A B C in
       let m : length ws ≡ 6 * n = party-long A B C ∙ ap (λ (k : ℕ). 6 * k) count-is in

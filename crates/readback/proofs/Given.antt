@@ -21,7 +21,7 @@ use Rattle.report.specs.Values.{Party}
 use Rattle.report.specs.Report.{orEmpty, everyField, partiesOf, valuesIn}
 use Rattle.report.specs.Report as Report
 use Rattle.report.specs.Layout.{word, needed, mayBe, amountAt, partiesFrom, valuesGiven}
-use Rattle.readback.specs.Back.{placeWords, amountWords, everyPlace, partyWords, partiesIn, counted, wordsIn}
+use Rattle.readback.specs.Back.{placeWords, amountWords, everyPlace, partyWords, partyWordsIn, counted, wordsIn}
 use Rattle.readback.proofs.Ending.{zipped, party-long}
 use Rattle.readback.proofs.Everything.{bytesAt, part-is, every-bytes}
 
@@ -124,12 +124,12 @@ module _ (body : Bytes) where
   all-three =
       (place-three (firstPlace 571 body), (place-three (firstPlace 828 body), (place-three (firstPlace 60 body), (amount-three (firstField 32 body), (amount-three (firstField 31 body), (place-three (firstPlace 64 body), (place-three (firstPlace 574 body), (place-three (firstPlace 48 body), (place-three (firstPlace 22 body), (place-three (firstPlace 54 body), (place-three (firstPlace 1427 body), tt)))))))))))
 
-  words-are : wordsIn body ≡ threes blocks (counted (partiesIn body))
+  words-are : wordsIn body ≡ threes blocks (counted (partyWordsIn body))
   unfolding wordsIn
   words-are = refl
 
   the-word : (k c : ℕ) → k < 11 → c < 3 → getD (wordsIn body) (3 * k + c) 0 ≡ getD (getD blocks k []) c 0
-  the-word k c h l = ap (λ (w : List ℕ). getD w (3 * k + c) 0) words-are ∙ word-in blocks (counted (partiesIn body)) all-three k c h l
+  the-word k c h l = ap (λ (w : List ℕ). getD w (3 * k + c) 0) words-are ∙ word-in blocks (counted (partyWordsIn body)) all-three k c h l
 
   -- A VALUE OF BYTES, given or not
   module _ (k : ℕ) (h : k < 11) (t : ℕ) (within : (1 ≤ t) × (t ≤ 99_999)) (e : getD blocks k [] ≡ placeWords (firstPlace t body)) where
@@ -169,13 +169,13 @@ module _ (body : Bytes) where
   A = take 8 (everyPlace 448 body)
 
   party-count : word (wordsIn body) body 33 ≡ zipped A (everyPlace 447 body) (everyPlace 452 body)
-  unfolding partiesIn
+  unfolding partyWordsIn
   party-count =
       let m = party-long A (everyPlace 447 body) (everyPlace 452 body) in
-      ap (λ (w : List ℕ). getD w 33 0) words-are ∙ word-behind blocks (counted (partiesIn body)) all-three 0 ∙ omega (arith, m)
+      ap (λ (w : List ℕ). getD w 33 0) words-are ∙ word-behind blocks (counted (partyWordsIn body)) all-three 0 ∙ omega (arith, m)
 
   parties-are : partiesFrom (wordsIn body) body 0 (word (wordsIn body) body 33) ≡ take 8 (Report.partiesIn body)
-  unfolding partiesIn
+  unfolding partyWordsIn
   parties-are =
       let ws : List ℕ = partyWords A (everyPlace 447 body) (everyPlace 452 body) in
       ap (partiesFrom (wordsIn body) body 0) party-count

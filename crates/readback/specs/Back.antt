@@ -16,6 +16,7 @@ use Rattle.dictionary.specs.Verdict.{verdict, msgType}
 use Rattle.dictionary.specs.declared.Verdict as Dictionary
 use Rattle.dictionary.specs.declared.Verdict.the-variants as Found
 use Rattle.amounts.specs.Amount.{amountIn}
+use Rattle.report.specs.Layout.{wordCount}
 use Rattle.readback.specs.declared.ReadBack.{ReadBack}
 use Rattle.readback.specs.declared.ReadBack.the-variants.{Values, Finding, NoBody}
 
@@ -63,8 +64,8 @@ partyWords (a ∷ j) [] k = []
 partyWords (a ∷ j) (b ∷ l) [] = []
 partyWords (a ∷ j) (b ∷ l) (c ∷ k) = a .0 ∷ a .1 ∷ b .0 ∷ b .1 ∷ c .0 ∷ c .1 ∷ partyWords j l k
 
-unfoldable pub partiesIn : Bytes → List ℕ
-partiesIn body = partyWords (take 8 (everyPlace 448 body)) (everyPlace 447 body) (everyPlace 452 body)
+unfoldable pub partyWordsIn : Bytes → List ℕ
+partyWordsIn body = partyWords (take 8 (everyPlace 448 body)) (everyPlace 447 body) (everyPlace 452 body)
 
 -- the number of parties, their words, and zeros where there are fewer than eight
 abbrev pub counted : List ℕ → List ℕ
@@ -83,13 +84,13 @@ wordsIn body =
     (placeWords (firstPlace 22 body) ++
     (placeWords (firstPlace 54 body) ++
     (placeWords (firstPlace 1427 body) ++
-    counted (partiesIn body)))))))))))
+    counted (partyWordsIn body)))))))))))
 
 -- without values the words are zero
 abbrev pub wordsBy : ReadBack → Bytes → List ℕ
 wordsBy Values body = wordsIn body
-wordsBy (Finding reason tag) body = replicate 82 0
-wordsBy NoBody body = replicate 82 0
+wordsBy (Finding reason tag) body = replicate wordCount 0
+wordsBy NoBody body = replicate wordCount 0
 
 -- THE CALL: what is answered for a body, and all the words that are left
 pub record Reads (body : Bytes) (r : ReadBack) (words : List ℕ) : Type 0 where
