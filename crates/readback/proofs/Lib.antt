@@ -7,6 +7,7 @@ pub mod Clearing
 pub mod Answers
 pub mod Everything
 pub mod Parties
+pub mod Again
 pub mod Given
 pub mod Promise
 pub mod OneOutcome

@@ -23,7 +23,7 @@ use Rattle.readback.specs.Promise.{Parties, no-party, ordered, turned}
 
 -- EVERY FIELD OF A TAG: the values of the fields with this tag
 module _ (t : ℕ) (low : 1 ≤ t) (high : t ≤ 99_999) where
-  every-of : (ps : List Bytes) → everyOfParts (tagged t) ps ≡ map (λ (f : ℕ × Bytes). f .1) (fieldsAmong (eqb t) ps)
+  pub every-of : (ps : List Bytes) → everyOfParts (tagged t) ps ≡ map (λ (f : ℕ × Bytes). f .1) (fieldsAmong (eqb t) ps)
   every-of [] = refl
   every-of (p ∷ ps) = go (starts (tagged t) p) (partOf p) refl refl (every-of ps)
     where

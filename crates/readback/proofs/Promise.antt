@@ -15,7 +15,7 @@ use Rattle.table.specs.Dictionary.{№453, №580, №552, header, fields, grou
 use Rattle.table.specs.declared.MsgType.{MsgType}
 use Rattle.table.specs.declared.MsgType.the-variants.{TradeCaptureReport}
 use Rattle.dictionary.specs.Verdict.{verdict, msgType}
-use Rattle.dictionary.specs.Promise.{OfKind}
+use Rattle.dictionary.specs.Promise.{OfKind, AllPassed}
 use Rattle.dictionary.specs.Groups.{required, fieldsAmong, Counted, Grouped, AllGrouped}
 use Rattle.dictionary.specs.declared.Verdict.the-variants.{Clean}
 use Rattle.dictionary.proofs.Bodies.{clean-body}
@@ -36,34 +36,28 @@ use Rattle.readback.specs.declared.ReadBack.the-variants.{Values, Findin
 use Rattle.readback.specs.Promise.{Parties, Given, ReadsBack, Promise}
 use Rattle.readback.proofs.Answers.{report-answers, values-clean, values-say, finding-says, refusal-says}
 use Rattle.readback.proofs.Parties.{three, parties-of, parties-are}
+use Rattle.readback.proofs.Again.{reportable}
 use Rattle.readback.proofs.Given.{values-given}
 
--- a clean report has its 32 and its 31
-there : (body : Bytes) → verdict body ≡ Clean → msgType body ≡ some TradeCaptureReport → (t : ℕ) → required (header ++ fields TradeCaptureReport) t ≡ true → (v : Bytes) × (firstField t body ≡ some v)
-there body c m t h =
-    let B = clean-body body c in
-    let n = B .named in
-    let e : B .type ≡ TradeCaptureReport = cc in
-    B .there t (ap (λ (k : MsgType). required (header ++ fields k) t) e ∙ h)
+-- WHAT A CLEAN REPORT SAYS: each required tag is there, a decimal's two numbers tell its text, and its groups are whole
+module _ (body : Bytes) (c : verdict body ≡ Clean) (m : msgType body ≡ some TradeCaptureReport) where
+  its-type : clean-body body c .type ≡ TradeCaptureReport
+  its-type = let n = clean-body body c .named in cc
 
--- as decimals, so that their two numbers tell their texts
-told-text : (body : Bytes) → verdict body ≡ Clean → msgType body ≡ some TradeCaptureReport → (t : ℕ) (v : Bytes) → inDictionary t ≡ true → kindIn (rowsOf TradeCaptureReport) t ≡ Kind.decimal → firstField t body ≡ some v
-    → firstField t body ≡ some (amountText (amountIn (the t body)))
-told-text body c m t v k d q =
-    let B = clean-body body c in
-    let n = B .named in
-    let e : B .type ≡ TradeCaptureReport = cc in
-    let K : OfKind TradeCaptureReport t v = subst (λ (m : MsgType). OfKind m t v) e (B .of-kind t v k q) in
-    q ∙ ap some (sym (text-back v (rw d at (K .form)) (rw d at (K .value))) ∙ ap (λ (o : Option Bytes). amountText (amountIn (orEmpty o))) (sym q))
+  there : (t : ℕ) → required (header ++ fields TradeCaptureReport) t ≡ true → (v : Bytes) × (firstField t body ≡ some v)
+  there t h = clean-body body c .there t (ap (λ (k : MsgType). required (header ++ fields k) t) its-type ∙ h)
 
--- its group 453
-its-453 : (body : Bytes) → verdict body ≡ Clean → msgType body ≡ some TradeCaptureReport → Grouped №453 (parts body)
-unfolding groupsOf fields №453 №580 №552
-its-453 body c m =
-    let B = clean-body body c in
-    let n = B .named in
-    let e : B .type ≡ TradeCaptureReport = cc in
-    subst (λ (k : MsgType). AllGrouped (groupsOf k) (parts body)) e (B .grouped) .0
+  told-text : (t : ℕ) (v : Bytes) → inDictionary t ≡ true → kindIn (rowsOf TradeCaptureReport) t ≡ Kind.decimal → firstField t body ≡ some v → firstField t body ≡ some (amountText (amountIn (the t body)))
+  told-text t v k d q =
+      let K : OfKind TradeCaptureReport t v = subst (λ (m : MsgType). OfKind m t v) its-type (clean-body body c .of-kind t v k q) in
+      q ∙ ap some (sym (text-back v (rw d at (K .form)) (rw d at (K .value))) ∙ ap (λ (o : Option Bytes). amountText (amountIn (orEmpty o))) (sym q))
+
+  its-passed : AllPassed TradeCaptureReport (parts body)
+  its-passed = subst (λ (k : MsgType). AllPassed k (parts body)) its-type (clean-body body c .passed)
+
+  its-groups : Grouped №453 (parts body) × Grouped №552 (parts body)
+  unfolding groupsOf fields №453 №580 №552
+  its-groups = let G = subst (λ (k : MsgType). AllGrouped (groupsOf k) (parts body)) its-type (clean-body body c .grouped) in (G .0, G .1 .0)
 
 record Its-parties (body : Bytes) : Type 0 where
   are : Parties (fieldsAmong three (parts body)) (partiesIn body)
@@ -73,7 +67,7 @@ record Its-parties (body : Bytes) : Type 0 where
 its-parties : (body : Bytes) → verdict body ≡ Clean → msgType body ≡ some TradeCaptureReport → Its-parties body
 unfolding №453
 its-parties body c m =
-    let G = its-453 body c m in
+    let G = its-groups body c m .0 in
     let P = parties-of (G .number) (G .instances) in
     let e = parties-are body (P .parties) (P .are) in
     let n : G .number ≡ length (partiesIn body) = sym (P .long) ∙ ap length (sym e) in
@@ -90,14 +84,17 @@ given body h =
     let a = there body (s .0) (s .1) 32 refl in
     let b = there body (s .0) (s .1) 31 refl in
     let P = its-parties body (s .0) (s .1) in
+    let q = told-text body (s .0) (s .1) 32 (a .0) refl refl (a .1) in
+    let p = told-text body (s .0) (s .1) 31 (b .0) refl refl (b .1) in
     record {
       clean = s .0;
       report = s .1;
       values = values-given body (a .0) (a .1) (b .0) (b .1) (P .few);
       parties = P .are;
       counted = P .counted;
-      price = told-text body (s .0) (s .1) 31 (b .0) refl refl (b .1);
-      quantity = told-text body (s .0) (s .1) 32 (a .0) refl refl (a .1);
+      price = p;
+      quantity = q;
+      reportable = reportable body (its-passed body (s .0) (s .1)) (there body (s .0) (s .1)) (its-groups body (s .0) (s .1) .1) (P .few) q p;
     }
 
 -- WHAT OUR REPORT CALL WROTE, sent or sent again: it begins with 35=AE

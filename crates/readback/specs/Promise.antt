@@ -16,7 +16,7 @@ use Rattle.dictionary.specs.declared.Verdict.the-variants as Found
 use Rattle.calendar.specs.Time.{limit}
 use Rattle.message.specs.Whole.{bodyIn}
 use Rattle.amounts.specs.Amount.{amountText}
-use Rattle.report.specs.Values.{Party}
+use Rattle.report.specs.Values.{Party, takes}
 use Rattle.report.specs.Report.{Report, sent, again, sendable, valuesIn}
 use Rattle.report.specs.Layout.{valuesGiven}
 use Rattle.readback.specs.Back.{readBack, wordsIn, numbers}
@@ -43,6 +43,8 @@ pub record Given (body : Bytes) : Type 0 where
   -- "reading gives back both": the whole number and the places of 31, and of 32, tell its text
   pub price : firstField 31 body ≡ some (amountText (valuesIn body .its31))
   pub quantity : firstField 32 body ≡ some (amountText (valuesIn body .its32))
+  -- "a value to write that the dictionary would reject, a required one absent": there is none, so that what is read back can be written again
+  pub reportable : takes (valuesIn body) ≡ true
 
 -- a clean body of another type
 pub record OtherType (body : Bytes) (r t : ℕ) : Type 0 where
