@@ -1,24 +1,26 @@
 -- What is promised of the reading back, proved.
 use Prim.Native.Nat.{ℕ, _≤_, _<_}
 use native.Mathlib.Omega.{arith}
+use borrow.Author.Tests.{not-true}
 use mathlib.Core.Path.{_≡_, refl, ap, sym, _∙_, subst}
 use mathlib.Core.List.{List, [], _∷_, _++_}
-use mathlib.Core.Bool.{true}
+use mathlib.Core.Bool.{Bool, true, false, not, _&&_, _||_}
 use mathlib.Core.Option.{Option, none, some}
 use lib.Dec.{eqb}
 use lib.ListN.{length, getD}
-use Rattle.bytes.specs.Bytes.{Bytes, fix, decimal}
+use Rattle.bytes.specs.Bytes.{Bytes, fix, decimal, all, has}
+use Rattle.bytes.proofs.Tests.{both}
 use Rattle.fields.specs.Field.{parts, firstField}
 use Rattle.kinds.specs.Kind.{kindOf}
 use Rattle.kinds.specs.Kind as Kind
-use Rattle.table.specs.Dictionary.{№453, №580, №552, header, fields, groupsOf, rowsOf, kindIn, inDictionary}
+use Rattle.table.specs.Dictionary.{№453, №580, №552, header, fields, groupsOf, member, rowsOf, listed, kindIn, inDictionary}
 use Rattle.table.specs.declared.MsgType.{MsgType}
 use Rattle.table.specs.declared.MsgType.the-variants.{TradeCaptureReport}
 use Rattle.dictionary.specs.Verdict.{verdict, msgType}
 use Rattle.dictionary.specs.Promise.{OfKind, AllPassed}
 use Rattle.dictionary.specs.Groups.{required, fieldsAmong, Counted, Grouped, AllGrouped}
 use Rattle.dictionary.specs.declared.Verdict.the-variants.{Clean}
-use Rattle.dictionary.proofs.Bodies.{clean-body}
+use Rattle.dictionary.proofs.Bodies.{among-all, clean-body}
 use Rattle.dictionary.proofs.Counting.{few}
 use Rattle.calendar.specs.Time.{utc, limit}
 use Rattle.message.specs.Message.{Value, absent, bytes, row, framed}
@@ -29,6 +31,7 @@ use Rattle.amounts.proofs.Amounts.{text-back}
 use Rattle.report.specs.Values as Report
 use Rattle.report.specs.Report.{Report, orEmpty, the, partiesIn, fieldsWith, sent, again, sendable, valuesIn, reportIn}
 use Rattle.report.proofs.Promise as Written
+use Rattle.report.specs.Layout.{tags}
 use Rattle.readback.specs.Back.{readBack, numbers}
 use Rattle.readback.specs.code.Pass.{namesReport}
 use Rattle.readback.specs.declared.ReadBack.{ReadBack}
@@ -38,6 +41,11 @@ use Rattle.readback.proofs.Answers.{report-answers, values-clean, value
 use Rattle.readback.proofs.Parties.{three, parties-of, parties-are}
 use Rattle.readback.proofs.Again.{reportable}
 use Rattle.readback.proofs.Given.{values-given}
+
+-- the tags of the eleven values
+tags-once : all (λ (t : ℕ). inDictionary t && (listed (№552 .members) t || not (member TradeCaptureReport t))) tags ≡ true
+unfolding inDictionary member groupsOf rowsOf header fields №453 №580 №552
+tags-once = refl
 
 -- WHAT A CLEAN REPORT SAYS: each required tag is there, a decimal's two numbers tell its text, and its groups are whole
 module _ (body : Bytes) (c : verdict body ≡ Clean) (m : msgType body ≡ some TradeCaptureReport) where
@@ -58,6 +66,17 @@ module _ (body : Bytes) (c : verdict body ≡ Clean) (m : msgType body ≡ some 
   its-groups : Grouped №453 (parts body) × Grouped №552 (parts body)
   unfolding groupsOf fields №453 №580 №552
   its-groups = let G = subst (λ (k : MsgType). AllGrouped (groupsOf k) (parts body)) its-type (clean-body body c .grouped) in (G .0, G .1 .0)
+
+  -- a tag of the eleven is one of the side or outside groups
+  its-one : (t : ℕ) → inDictionary t ≡ true → (listed (№552 .members) t || not (member TradeCaptureReport t)) ≡ true → length (fieldsAmong (eqb t) (parts body)) ≤ 1
+  its-one t k h = go (listed (№552 .members) t) refl h
+    where
+      go : (b : Bool) → listed (№552 .members) t ≡ b → (b || not (member TradeCaptureReport t)) ≡ true → length (fieldsAmong (eqb t) (parts body)) ≤ 1
+      go true e q = clean-body body c .side its-type t e
+      go false e q = clean-body body c .once t k (ap (λ (m : MsgType). member m t) its-type ∙ not-true (member TradeCaptureReport t) q)
+
+  only : (t : ℕ) → has tags t ≡ true → length (fieldsAmong (eqb t) (parts body)) ≤ 1
+  only t h = let w = both (inDictionary t) _ (among-all (λ (t : ℕ). inDictionary t && (listed (№552 .members) t || not (member TradeCaptureReport t))) tags tags-once t h) in its-one t (w .0) (w .1)
 
 record Its-parties (body : Bytes) : Type 0 where
   are : Parties (fieldsAmong three (parts body)) (partiesIn body)
@@ -90,6 +109,7 @@ given body h =
       clean = s .0;
       report = s .1;
       values = values-given body (a .0) (a .1) (b .0) (b .1) (P .few);
+      only = only body (s .0) (s .1);
       parties = P .are;
       counted = P .counted;
       price = p;

@@ -1,5 +1,5 @@
 -- What is promised of the reading back, in document 02's words. Proved once, in proofs/Promise.antt.
-use Prim.Native.Nat.{ℕ, _<_}
+use Prim.Native.Nat.{ℕ, _≤_, _<_}
 use mathlib.Core.Path.{_≡_}
 use mathlib.Core.List.{List, [], _∷_}
 use mathlib.Core.Logic.{_⊎_}
@@ -18,7 +18,7 @@ use Rattle.message.specs.Whole.{bodyIn}
 use Rattle.amounts.specs.Amount.{amountText}
 use Rattle.report.specs.Values.{Party, takes}
 use Rattle.report.specs.Report.{Report, sent, again, sendable, valuesIn}
-use Rattle.report.specs.Layout.{valuesGiven}
+use Rattle.report.specs.Layout.{tags, valuesGiven}
 use Rattle.readback.specs.Back.{readBack, wordsIn, numbers}
 use Rattle.readback.specs.declared.ReadBack.{ReadBack}
 use Rattle.readback.specs.declared.ReadBack.the-variants.{Values, Finding}
@@ -37,6 +37,8 @@ pub record Given (body : Bytes) : Type 0 where
   pub clean : verdict body ≡ Found.Clean
   pub report : msgType body ≡ some TradeCaptureReport
   pub values : valuesGiven (wordsIn body) body ≡ valuesIn body
+  -- each field outside the parties is once in a clean report, so that the first is the only one
+  pub only : (t : ℕ) → has tags t ≡ true → length (fieldsAmong (eqb t) (parts body)) ≤ 1
   -- its parties are all of its fields 448, 447 and 452, each in its own party, and as many as its one 453 says, none where there is no 453
   pub parties : Parties (fieldsAmong (has (448 ∷ 447 ∷ 452 ∷ [])) (parts body)) (valuesIn body .parties)
   pub counted : Counted 8 (fieldsAmong (eqb 453) (parts body)) (length (valuesIn body .parties))
