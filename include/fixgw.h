@@ -310,7 +310,7 @@ enum {
    has another number of words or another version, or if a word that is kept for later is not zero: so a host that was
    built for another version is refused, and nothing of its memory is touched. */
 
-/* Fills the record of a new session: Waiting, both numbers 1, heartbeat 30, last sent 0.
+/* Fills the record of a new session: Waiting, both numbers 1, heartbeat 30, last sent 0, no replay. Lend it a store of zeros.
    11: a CompID is not 1 to 11 bytes without `|`. The record is then as new, but Closed and with two empty CompIDs; no
    step is taken on it. With another number of words than FIXGW_WORDS nothing is written. */
 uint32_t fixgw_new(uint8_t comp_ids[FIXGW_COMP_IDS], uint64_t *words, size_t words_len,

@@ -15,7 +15,7 @@ use Rattle.store.proofs.Plan.{range-more, item-fits}
 use Rattle.moves.specs.Session.{Session, Replay, no-replay, running}
 use Rattle.moves.specs.Moves.{N, requested}
 use Rattle.session.specs.Calls.{Outcome, step}
-use Rattle.session.specs.Promise.{Served}
+use Rattle.session.specs.Replays.{Served}
 use Rattle.session.proofs.Promise as Session
 use Rattle.replaying.specs.Call.{its-table, its-item, behind, replay}
 use Rattle.replaying.specs.Run.{Turn, Ours, OurReport, OurReplay, turn, final, itemIf, itemsOf, sentItems, resentBy, Undisturbed, AllUndisturbed, Finished}

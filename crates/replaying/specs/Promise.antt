@@ -25,7 +25,8 @@ use Rattle.moves.specs.Session.{Session, no-replay, running, sent-at, replaying
 use Rattle.moves.specs.Moves.{requested}
 use Rattle.session.specs.Refusals.{No}
 use Rattle.session.specs.Calls.{Outcome, keeping, leastRoom, step}
-use Rattle.session.specs.Promise.{Served, Head, Whole, AllInRange, Kept}
+use Rattle.session.specs.Replays.{Served}
+use Rattle.session.specs.Promise.{Head, Whole, AllInRange, Kept}
 use Rattle.session.specs.declared.Refusal.{Refusal}
 use Rattle.session.specs.declared.Answer.the-variants.{Done, NothingDue, Refused}
 use Rattle.replaying.specs.Call.{its-table, its-item, message, behind, replay}

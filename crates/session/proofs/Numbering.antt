@@ -20,7 +20,8 @@ use Rattle.moves.specs.declared.record.Status.{Status}
 use Rattle.moves.specs.declared.record.Status.the-variants.{Waiting, Active, Closed}
 use Rattle.moves.proofs.EachRule.{each-logon, each-serving, each-reset, each-high, each-low, each-gap, each-turn, each-rule}
 use Rattle.session.specs.Calls.{Outcome, afterDeed, afterAll, messages, making, refusing, step, renewed, storeBy, storeAfter, Call, Step, Tick, OurLogout, OurTestRequest, Reconnect, call}
-use Rattle.session.specs.Promise.{Headed, OfBytes, first-out, time-of, Stored}
+use Rattle.session.specs.Replays.{Stored}
+use Rattle.session.specs.Promise.{Headed, OfBytes, first-out, time-of}
 use Rattle.session.specs.code.Fit.{AllFit}
 use Rattle.session.specs.declared.Refusal.{Refusal}
 use Rattle.session.specs.declared.Refusal.the-variants.{BadRecord}

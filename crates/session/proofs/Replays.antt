@@ -19,7 +19,8 @@ use Rattle.moves.specs.Seen.{isClean}
 use Rattle.moves.specs.Moves.{Deeds, Start, OurPeer, N, readable, type, reject, reject-type, counted, logout, resend-request, unserved, requested, served, logon, waiting, stranger, too-high, in-turn, active}
 use Rattle.moves.specs.declared.record.Status.the-variants.{Active, Closed}
 use Rattle.session.specs.Calls.{Outcome, making, refusing, keeping, step, tick, reconnect, afterAll}
-use Rattle.session.specs.Promise.{Unrefused, Served, Moved, kept, dropped, replaced, Disturbs}
+use Rattle.session.specs.Delivery.{Unrefused}
+use Rattle.session.specs.Replays.{Served, Moved, kept, dropped, replaced, Disturbs}
 use Rattle.session.specs.declared.Refusal.{Refusal}
 use Rattle.session.specs.declared.Answer.the-variants.{Done}
 use Rattle.letters.proofs.Carried.{type-is}

@@ -88,7 +88,7 @@ pub enum Answer {
     Done,
     // The frame is to be given to the application.
     Delivered,
-    // No heartbeat is due.
+    // Nothing is due: no Heartbeat, no message of a replay.
     NothingDue,
     Refused(Refusal),
 }
