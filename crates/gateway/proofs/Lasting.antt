@@ -17,7 +17,7 @@ use Rattle.moves.specs.Words.{if_then_else_}
 use Rattle.moves.specs.Session.{Session, inRange, fresh, turned}
 use Rattle.message.specs.Unfit.{compID}
 use Rattle.session.specs.Refusals.{numbers}
-use Rattle.moves.specs.Held.{held, sessionOf}
+use Rattle.moves.specs.Held.{held, sessionOf, with}
 use Rattle.session.specs.Held.{padded, recordOf}
 use Rattle.session.specs.Calls.{Outcome, keeping, step, storeAfter, tick, logout, test-request, new, reconnect, Step, Tick, OurLogout, OurTestRequest, Reconnect}
 use Rattle.session.specs.Promise.{Whole}
@@ -36,11 +36,11 @@ use Rattle.moves.specs.declared.record.Status.{Status}
 use Rattle.moves.specs.declared.record.Status.the-variants.{Closed}
 use Rattle.session.proofs.Promise as Session
 use Rattle.border.specs.Numbers.{refusalOf}
-use Rattle.border.specs.Record.{compIDsOf, wordsOf, statusIn, recordWith, recordIf, recordIn}
-use Rattle.gateway.specs.Calls.{Left, LeftWithStore, LeftByReconnect, LeftByNew, leftBy, replyLength, replyFrom, stepFrom, stepOut, tickOut, logoutOut, testRequestOut, reportFrom, reportOut, replayOut, reconnectFrom, reconnectOut, newFrom, newIf, newOut}
-use Rattle.gateway.specs.Promise.{Ranged, Of, WholeReport, Replayed, OneMessage, Leaves, LeavesStore, outLength, Lasts}
-use Rattle.gateway.proofs.Leaving.{left-ranged, left-unread, left-call, left-report, report-one, left-replay, replay-one, replay-none, call-ranged}
-use Rattle.border.proofs.Keeping.{new-loads}
+use Rattle.border.specs.Record.{saved, statusIn, recordWith, recordIf, recordIn}
+use Rattle.gateway.specs.Calls.{Left, LeftWithStore, LeftByNew, leftBy, replyLength, replyFrom, stepFrom, stepOut, tickOut, logoutOut, testRequestOut, reportFrom, reportOut, replayOut, reconnectFrom, reconnectOut, newFrom, newIf, newOut}
+use Rattle.gateway.specs.Promise.{Lies, Reconnected, Begun, Of, WholeReport, Replayed, OneMessage, Leaves, LeavesStore, outLength, Lasts}
+use Rattle.gateway.proofs.Leaving.{same-session, left-ranged, left-unread, left-call, left-report, report-one, left-replay, replay-one, replay-none, call-ranged}
+use Rattle.border.proofs.Keeping.{new-loads, saved-loads}
 
 -- a number other than 0 is that of a refusal
 is-refused : (a : Answer) → (refusalOf (numbers a) ≡ 0 → ⊥) → (k : Refusal) × (a ≡ Answer.Refused k)
@@ -65,25 +65,24 @@ module _ (us them : Bytes) (a : compID us ≡ true) (b : compID them ≡ true) w
   unfolding inRange
   fresh-in = rw (a, b)
 
-  fresh-ranged : Ranged (compIDsOf (recordOf (fresh us them))) (wordsOf (recordOf (fresh us them)))
-  fresh-ranged =
-      record {
-        its-record = recordOf (fresh us them);
-        lies = new-loads (recordOf (fresh us them)) (padded-long us (short us a)) (padded-long them (short them b));
-        ranged = ap₂ (λ (x y : Bytes). inRange (fresh x y)) (held-padded us (short us a)) (held-padded them (short them b)) ∙ fresh-in;
-      }
+  begun : Begun us them (newFrom (keeping Answer.Done (fresh us them) []))
+  begun =
+      let r = recordOf (fresh us them) in
+      let l = new-loads r (padded-long us (short us a)) (padded-long them (short them b)) in
+      let e : sessionOf r ≡ fresh us them = ap₂ fresh (held-padded us (short us a)) (held-padded them (short them b)) in
+      record { carried = record { its-record = r; lies = l; is = e }; ranged = record { its-record = r; lies = l; ranged = ap inRange e ∙ fresh-in } }
 
-new-lasts : (ids : Bytes) (words : List ℕ) (us them : Bytes) → (let o = newOut ids words us them in o .number ≡ 0 → Ranged (o .ids) (o .words))
+new-lasts : (ids : Bytes) (words : List ℕ) (us them : Bytes) → (let o = newOut ids words us them in o .number ≡ 0 → Begun us them o)
 unfolding newOut new
 new-lasts ids words us them = go (eqb (length words) 24)
   where
-    by : (x y : Bool) → compID us ≡ x → compID them ≡ y → (let o = newFrom (if x && y then keeping Answer.Done (fresh us them) [] else keeping (Answer.Refused BadRecord) (turned Closed (fresh [] [])) []) in o .number ≡ 0 → Ranged (o .ids) (o .words))
-    by true true p q h = fresh-ranged us them p q
+    by : (x y : Bool) → compID us ≡ x → compID them ≡ y → (let o = newFrom (if x && y then keeping Answer.Done (fresh us them) [] else keeping (Answer.Refused BadRecord) (turned Closed (fresh [] [])) []) in o .number ≡ 0 → Begun us them o)
+    by true true p q h = begun us them p q
     by true false p q h = absurd (omega (arith, h))
     by false true p q h = absurd (omega (arith, h))
     by false false p q h = absurd (omega (arith, h))
 
-    go : (l : Bool) → (let o = newIf ids words us them l in o .number ≡ 0 → Ranged (o .ids) (o .words))
+    go : (l : Bool) → (let o = newIf ids words us them l in o .number ≡ 0 → Begun us them o)
     go true h = by (compID us) (compID them) refl refl h
     go false h = absurd (omega (arith, h))
 
@@ -91,15 +90,22 @@ reconnect-done : (s : Session) → inRange s ≡ true → refusalOf (numbers (re
 unfolding reconnect
 reconnect-done s e = rw e
 
-reconnect-lasts : (ids : Bytes) (words : List ℕ) → Ranged ids words → (let o = reconnectOut ids words in (o .number ≡ 0) × Ranged ids (o .words))
+reconnect-lasts : (ids : Bytes) (words : List ℕ) → Reconnected ids words (reconnectOut ids words)
 unfolding reconnectOut
-reconnect-lasts ids words R = go (recordIn ids words) refl
+reconnect-lasts ids words = go (recordIn ids words) refl
   where
-    go : (x : Option Record) → recordIn ids words ≡ x → (let o = reconnectFrom words x in (o .number ≡ 0) × Ranged ids (o .words))
-    go none e = absurd (Option·none-ne-some (R .its-record) (sym e ∙ R .lies))
+    go : (x : Option Record) → recordIn ids words ≡ x → Reconnected ids words (reconnectFrom words x)
+    go none e = record { carried = λ r l. absurd (Option·none-ne-some r (sym e ∙ l)); ranged = λ R. absurd (Option·none-ne-some (R .its-record) (sym e ∙ R .lies)) }
     go (some r) e =
-        let same : R .its-record ≡ r = Option·some-injective (R .its-record) r (sym (R .lies) ∙ e) in
-        (reconnect-done (sessionOf r) (sym (ap (λ (x : Record). inRange (sessionOf x)) same) ∙ R .ranged), left-ranged ids words r e [] (reconnect (sessionOf r)) (Session.promise .buffers (sessionOf r) Reconnect) (call-ranged ids words r e Reconnect tt) R)
+        let K = Session.promise .buffers (sessionOf r) Reconnect in
+        record {
+          carried = λ q l.
+              subst (λ (x : Record). Lies ids (saved words (with r (reconnect (sessionOf r) .session))) (reconnect (sessionOf x) .session)) (Option·some-injective r q (sym e ∙ l))
+              (record { its-record = with r (reconnect (sessionOf r) .session); lies = saved-loads ids words r (reconnect (sessionOf r) .session) e; is = same-session ids words r e [] (reconnect (sessionOf r)) K });
+          ranged = λ R.
+              let same : R .its-record ≡ r = Option·some-injective (R .its-record) r (sym (R .lies) ∙ e) in
+              (reconnect-done (sessionOf r) (sym (ap (λ (x : Record). inRange (sessionOf x)) same) ∙ R .ranged), left-ranged ids words r e [] (reconnect (sessionOf r)) K (call-ranged ids words r e Reconnect tt) R);
+        }
 
 -- THE CALLS ON A RECORD, by whether one lies there
 module _ (ids : Bytes) (words : List ℕ) where
@@ -190,6 +196,6 @@ lasts =
       one-replayed = λ ids words t buf store o B so Bi h n.
           subst (λ (z : Left). z .number ≡ 0 → OneMessage (λ m. Of (recordIn ids words) (Replayed t store m)) buf (outLength (z .out)) (z .buffer)) (sym so) (λ h. one-replayed ids words t buf store B Bi (recordIn ids words) refl h n) h;
       none-replayed = λ ids words t buf store o so n. subst (λ (z : Left). outLength (z .out) ≡ 0) (sym so) (none-replayed ids words t buf store (recordIn ids words) refl n);
-      reconnect = λ ids words o so R. subst (λ (z : LeftByReconnect). (z .number ≡ 0) × Ranged ids (z .words)) (sym so) (reconnect-lasts ids words R);
-      new = λ ids words us them o so. subst (λ (z : LeftByNew). z .number ≡ 0 → Ranged (z .ids) (z .words)) (sym so) (new-lasts ids words us them);
+      reconnect = λ ids words o so. subst (Reconnected ids words) (sym so) (reconnect-lasts ids words);
+      new = λ ids words us them o so. subst (λ (z : LeftByNew). z .number ≡ 0 → Begun us them z) (sym so) (new-lasts ids words us them);
     }

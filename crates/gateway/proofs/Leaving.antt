@@ -68,7 +68,7 @@ module _ (ids : Bytes) (words : List ℕ) (r : Record) (lies : recordIn ids word
             (record { buffer = refl; session = refused-words k })
 
     -- its record is the session that the call left
-    same-session : sessionOf (with r (o .session)) ≡ o .session
+    pub same-session : sessionOf (with r (o .session)) ≡ o .session
     same-session = ap₂ (λ (us them : Bytes). record { ours = us; peers = them; status = o .session .status; E = o .session .E; next = o .session .next; heartbeat = o .session .heartbeat; sent = o .session .sent; replay = o .session .replay }) (sym (kept .ours)) (sym (kept .peers))
 
     left-carried : (by : Session → Outcome) → by (sessionOf r) ≡ o → (out : List ℕ) (q : Record) → recordIn ids words ≡ some q → Carried ids q by (leftBy words r o out)

@@ -33,10 +33,10 @@ use Rattle.readback.specs.Back.{readBack, wordsIn}
 use Rattle.readback.specs.declared.ReadBack.the-variants as ReadBack
 use Rattle.readback.specs.Promise as Back
 use Rattle.moves.specs.Words.{if_then_else_}
-use Rattle.moves.specs.Session.{Session, inRange}
+use Rattle.moves.specs.Session.{Session, fresh, inRange}
 use Rattle.moves.specs.Held.{sessionOf}
 use Rattle.session.specs.Refusals.{numbers}
-use Rattle.session.specs.Calls.{Outcome, step, storeAfter, tick, logout, test-request}
+use Rattle.session.specs.Calls.{Outcome, step, storeAfter, tick, logout, test-request, reconnect}
 use Rattle.session.specs.Promise as Session
 use Rattle.session.specs.Promise.{Head}
 use Rattle.reporting.specs.Call.{report}
@@ -93,6 +93,20 @@ pub record Carried (ids : Bytes) (r : Record) (by : Session → Outcome) (o : Le
   pub lies : recordIn ids (o .words) ≡ some its-record
   pub is : sessionOf its-record ≡ by (sessionOf r) .session
   pub buffer : o .buffer ≡ by (sessionOf r) .buffer
+
+-- a reconnect, which writes nothing, and a new record: the same of what lies there behind them
+pub record Lies (ids : Bytes) (words : List ℕ) (s : Session) : Type 0 where
+  pub its-record : Record
+  pub lies : recordIn ids words ≡ some its-record
+  pub is : sessionOf its-record ≡ s
+
+pub record Reconnected (ids : Bytes) (words : List ℕ) (o : LeftByReconnect) : Type 0 where
+  pub carried : (r : Record) → recordIn ids words ≡ some r → Lies ids (o .words) (reconnect (sessionOf r) .session)
+  pub ranged : Ranged ids words → (o .number ≡ 0) × Ranged ids (o .words)
+
+pub record Begun (us them : Bytes) (o : LeftByNew) : Type 0 where
+  pub carried : Lies (o .ids) (o .words) (fresh us them)
+  pub ranged : Ranged (o .ids) (o .words)
 
 -- what holds of the session that lies there; of none, nothing
 abbrev pub Of : Option Record → (Session → Type 0) → Type 0
@@ -194,8 +208,8 @@ pub record Lasts : Type 0 where
       → (getD words 6 0 ≡ 0 → ⊥) → OneMessage (λ m. Of (recordIn ids words) (Replayed time store m)) buf (outLength (o .out)) (o .buffer)
   pub none-replayed : (ids : Bytes) (words : List ℕ) (time : ℕ) (buf store : Bytes) (o : Left) → ReplayOut ids words time buf store (o .number) (o .words) (o .out) (o .buffer)
       → getD words 6 0 ≡ 0 → outLength (o .out) ≡ 0
-  pub reconnect : (ids : Bytes) (words : List ℕ) (o : LeftByReconnect) → ReconnectOut ids words (o .number) (o .words) → Ranged ids words → (o .number ≡ 0) × Ranged ids (o .words)
-  pub new : (ids : Bytes) (words : List ℕ) (us them : Bytes) (o : LeftByNew) → NewOut ids words us them (o .number) (o .ids) (o .words) → o .number ≡ 0 → Ranged (o .ids) (o .words)
+  pub reconnect : (ids : Bytes) (words : List ℕ) (o : LeftByReconnect) → ReconnectOut ids words (o .number) (o .words) → Reconnected ids words o
+  pub new : (ids : Bytes) (words : List ℕ) (us them : Bytes) (o : LeftByNew) → NewOut ids words us them (o .number) (o .ids) (o .words) → o .number ≡ 0 → Begun us them o
 
 pub record Promise : Type 0 where
   pub answers : Answers
