@@ -39,8 +39,8 @@ use Rattle.border.specs.Numbers.{refusalOf}
 use Rattle.border.specs.Record.{saved, statusIn, recordWith, recordIf, recordIn}
 use Rattle.gateway.specs.Calls.{Left, LeftWithStore, LeftByNew, leftBy, replyLength, replyFrom, stepFrom, stepOut, tickOut, logoutOut, testRequestOut, reportFrom, reportOut, replayOut, reconnectFrom, reconnectOut, newFrom, newIf, newOut}
 use Rattle.gateway.specs.Promise.{Lies, Reconnected, Begun, Of, WholeReport, Replayed, OneMessage, Leaves, LeavesStore, outLength, Lasts}
-use Rattle.gateway.proofs.Leaving.{same-session, left-ranged, left-unread, left-call, left-report, report-one, left-replay, replay-one, replay-none, call-ranged}
-use Rattle.border.proofs.Keeping.{new-loads, saved-loads}
+use Rattle.gateway.proofs.Leaving.{left-lies, left-ranged, left-unread, left-call, left-report, report-one, left-replay, replay-one, replay-none, call-ranged}
+use Rattle.border.proofs.Keeping.{new-loads}
 
 -- a number other than 0 is that of a refusal
 is-refused : (a : Answer) → (refusalOf (numbers a) ≡ 0 → ⊥) → (k : Refusal) × (a ≡ Answer.Refused k)
@@ -101,7 +101,7 @@ reconnect-lasts ids words = go (recordIn ids words) refl
         record {
           carried = λ q l.
               subst (λ (x : Record). Lies ids (saved words (with r (reconnect (sessionOf r) .session))) (reconnect (sessionOf x) .session)) (Option·some-injective r q (sym e ∙ l))
-              (record { its-record = with r (reconnect (sessionOf r) .session); lies = saved-loads ids words r (reconnect (sessionOf r) .session) e; is = same-session ids words r e [] (reconnect (sessionOf r)) K });
+              (left-lies ids words r e [] (reconnect (sessionOf r)) K);
           ranged = λ R.
               let same : R .its-record ≡ r = Option·some-injective (R .its-record) r (sym (R .lies) ∙ e) in
               (reconnect-done (sessionOf r) (sym (ap (λ (x : Record). inRange (sessionOf x)) same) ∙ R .ranged), left-ranged ids words r e [] (reconnect (sessionOf r)) K (call-ranged ids words r e Reconnect tt) R);

@@ -30,7 +30,7 @@ use Rattle.session.proofs.Promise as Session
 use Rattle.border.specs.Numbers.{refusalOf}
 use Rattle.border.specs.Record.{saved, closedIn, recordIn}
 use Rattle.gateway.specs.Calls.{leftBy, unread, replyLength}
-use Rattle.gateway.specs.Promise.{Ranged, Refused, Carried, WholeReport, Replayed, AllOf, Replied, OneMessage, Leaves, outLength}
+use Rattle.gateway.specs.Promise.{Ranged, Refused, Lies, Carried, WholeReport, Replayed, AllOf, Replied, OneMessage, Leaves, outLength}
 use Rattle.gateway.proofs.Reports.{report-done, report-whole}
 use Rattle.gateway.proofs.Replays.{replay-done, replay-rests, replay-whole}
 use Rattle.report.proofs.Given.{given-bytes}
@@ -68,8 +68,11 @@ module _ (ids : Bytes) (words : List ℕ) (r : Record) (lies : recordIn ids word
             (record { buffer = refl; session = refused-words k })
 
     -- its record is the session that the call left
-    pub same-session : sessionOf (with r (o .session)) ≡ o .session
+    same-session : sessionOf (with r (o .session)) ≡ o .session
     same-session = ap₂ (λ (us them : Bytes). record { ours = us; peers = them; status = o .session .status; E = o .session .E; next = o .session .next; heartbeat = o .session .heartbeat; sent = o .session .sent; replay = o .session .replay }) (sym (kept .ours)) (sym (kept .peers))
+
+    pub left-lies : Lies ids (saved words (with r (o .session))) (o .session)
+    left-lies = record { its-record = with r (o .session); lies = saved-loads ids words r (o .session) lies; is = same-session }
 
     left-carried : (by : Session → Outcome) → by (sessionOf r) ≡ o → (out : List ℕ) (q : Record) → recordIn ids words ≡ some q → Carried ids q by (leftBy words r o out)
     left-carried by e out q l =
@@ -77,9 +80,7 @@ module _ (ids : Bytes) (words : List ℕ) (r : Record) (lies : recordIn ids word
         subst (λ (x : Record). Carried ids x by (leftBy words r o out)) same
         (record {
           number = ap (λ (y : Outcome). refusalOf (numbers (y .answer))) (sym e);
-          its-record = with r (o .session);
-          lies = saved-loads ids words r (o .session) lies;
-          is = same-session ∙ ap (λ (y : Outcome). y .session) (sym e);
+          left = subst (λ (y : Outcome). Lies ids (saved words (with r (o .session))) (y .session)) (sym e) left-lies;
           buffer = ap (λ (y : Outcome). y .buffer) (sym e);
         })
 

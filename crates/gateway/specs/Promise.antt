@@ -85,21 +85,21 @@ pub record Refused (words : List ℕ) (buf : Bytes) (number : ℕ) (words′ : L
   pub buffer : buf′ ≡ buf
   pub session : words′ ≡ (if within 3 5 number then closedIn words else words)
 
--- THE RECORD IN MEMORY IS THE SESSION. Of a record r that lies there: the call answers what the session's call answers, and what lies there behind it is
--- the session that this call leaves. So what is promised of a session, and of any run of calls on one, holds of the record that a host keeps.
-pub record Carried (ids : Bytes) (r : Record) (by : Session → Outcome) (o : Left) : Type 0 where
-  pub number : o .number ≡ refusalOf (numbers (by (sessionOf r) .answer))
-  pub its-record : Record
-  pub lies : recordIn ids (o .words) ≡ some its-record
-  pub is : sessionOf its-record ≡ by (sessionOf r) .session
-  pub buffer : o .buffer ≡ by (sessionOf r) .buffer
-
--- a reconnect, which writes nothing, and a new record: the same of what lies there behind them
+-- THE RECORD IN MEMORY IS THE SESSION
+-- the record of this session lies in the bytes and words
 pub record Lies (ids : Bytes) (words : List ℕ) (s : Session) : Type 0 where
   pub its-record : Record
   pub lies : recordIn ids words ≡ some its-record
   pub is : sessionOf its-record ≡ s
 
+-- Of a record r that lies there: the call answers what the session's call answers, and what lies there behind it is the session that this call leaves. So
+-- what is promised of a session, and of any run of calls on one, holds of the record that a host keeps.
+pub record Carried (ids : Bytes) (r : Record) (by : Session → Outcome) (o : Left) : Type 0 where
+  pub number : o .number ≡ refusalOf (numbers (by (sessionOf r) .answer))
+  pub left : Lies ids (o .words) (by (sessionOf r) .session)
+  pub buffer : o .buffer ≡ by (sessionOf r) .buffer
+
+-- the same of a reconnect, which writes nothing, and of a new record
 pub record Reconnected (ids : Bytes) (words : List ℕ) (o : LeftByReconnect) : Type 0 where
   pub carried : (r : Record) → recordIn ids words ≡ some r → Lies ids (o .words) (reconnect (sessionOf r) .session)
   pub ranged : Ranged ids words → (o .number ≡ 0) × Ranged ids (o .words)
