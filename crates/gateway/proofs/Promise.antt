@@ -31,6 +31,7 @@ use Rattle.replaying.specs.Call.{replay}
 use Rattle.kept.proofs.Promise as Kept
 use Rattle.store.proofs.Promise as Store
 use Rattle.replaying.proofs.Promise as Replaying
+use Rattle.sequence.proofs.Promise as Sequence
 use Rattle.report.proofs.Promise as ReportMessage
 use Rattle.reporting.proofs.Promise as Reporting
 use Rattle.readback.proofs.Promise as Back
@@ -137,4 +138,5 @@ promise =
       kept-place = Kept.promise;
       store = Store.promise;
       replays = Replaying.promise;
+      sequence = Sequence.promise;
     }

@@ -44,6 +44,7 @@ use Rattle.reporting.specs.Call as Reporting
 use Rattle.reporting.specs.Promise as ReportCall
 use Rattle.replaying.specs.Call.{its-table, replay}
 use Rattle.replaying.specs.Promise as Replaying
+use Rattle.sequence.specs.Promise as Sequence
 use Rattle.moves.specs.declared.record.Record.{Record}
 use Rattle.gateway.specs.Border.{ReadOut, PutOut, DropOut, BodyOut, FieldOut, FirstOut, VerdictOut, ReportValuesOut}
 use Rattle.border.specs.Numbers.{refusalOf}
@@ -241,3 +242,5 @@ pub record Promise : Type 0 where
   pub kept-place : Kept.Promise
   pub store : Store.Promise
   pub replays : Replaying.Promise
+  -- "Nothing delivered twice, nothing stepped over", in any run of all calls between two resets
+  pub sequence : Sequence.Promise

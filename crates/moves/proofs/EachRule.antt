@@ -23,11 +23,11 @@ use Rattle.moves.proofs.Words.{then-by, said-when, said-first, said-oth
 use Rattle.moves.proofs.Readings.{is-clean}
 
 -- a field that holds a value
-holds-is : (w : Bytes) (o : Option Bytes) → isIt w o ≡ true → o ≡ some w
+pub holds-is : (w : Bytes) (o : Option Bytes) → isIt w o ≡ true → o ≡ some w
 holds-is w none e = absurd (false≢true e)
 holds-is w (some v) e = ap some (same-true v w e)
 
-is-held : (w : Bytes) (o : Option Bytes) → o ≡ some w → isIt w o ≡ true
+pub is-held : (w : Bytes) (o : Option Bytes) → o ≡ some w → isIt w o ≡ true
 is-held w o e = rw e (same-refl w)
 
 not-held : (w : Bytes) (o : Option Bytes) → isIt w o ≡ false → o ≡ some w → ⊥

@@ -1,0 +1,4 @@
+pub mod Run
+pub mod Day
+pub mod Wrong
+pub mod Promise
