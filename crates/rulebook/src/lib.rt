@@ -270,8 +270,8 @@ pub fn waiting(r: Record, body: &[u8]) -> Plan
     ensures { λ p. ⌜ planned (now (body .entry)) (sessionOf r) p ≡ summed (sessionOf r) (waiting (sessionOf r) (now (body .entry))) ⌝ }
 {
     let n = number_in(body, 34, 1);
-    let e = r.expected;
-    let up = e + 1;
+    let expected = r.expected;
+    let up = expected + 1;
     let seconds = number_in(body, 108, 0);
     if holds(body, 141, b"Y") {
         if n == 1 {
@@ -279,11 +279,11 @@ pub fn waiting(r: Record, body: &[u8]) -> Plan
         }
         return closing(r, Letter::Logout { why: 101 }, Letter::Nothing, r.expected);
     }
-    if n < e {
+    if n < expected {
         return closing(r, Letter::Logout { why: 101 }, Letter::Nothing, r.expected);
     }
-    if n == e {
+    if n == expected {
         return accepting(false, Letter::Nothing, up, seconds);
     }
-    accepting(false, Letter::Ask { from: e }, e, seconds)
+    accepting(false, Letter::Ask { from: expected }, expected, seconds)
 }
