@@ -1,5 +1,5 @@
-"""The C driver as a child process that is sent requests and answers them: what tests/compare, tests/hostile and tests/runs
-share."""
+"""The C driver as a child process that is sent requests and answers them: what tests/compare, tests/hostile, tests/runs and
+tests/sequence share."""
 import itertools
 import pathlib
 import select

@@ -1,14 +1,18 @@
-"""A member's engine as tests/runs plays it: its own numbers, the messages it sends in turn or not, and a line with faults."""
+"""A member's engine as tests/playing.py plays it: its own numbers, the messages it sends in turn or not, and a line with
+faults."""
 from generate.basics import byte_mutated, chance, framed, joined
 from generate.bodies import message
 from generate.faults import faulty
 from messages import OURS, PEER, first, messages, number, stamp
 
 # What it sends while logged on, and how often.
-SENDS = {"heartbeat": 12, "test_request": 8, "resend_request": 15, "unservable": 3, "gap_fill": 4, "bare_reset": 3, "reject": 4,
-         "request": 16, "cancel": 16, "report": 2, "unclean": 4, "duplicate": 3, "too_high": 3, "too_low": 0.5, "logon_again": 1,
-         "stranger": 0.5, "unnumbered": 0.4, "logout": 1.2, "end_of_numbers": 0.1}
+SENDS = {"heartbeat": 12, "test_request": 8, "resend_request": 15, "unservable": 3, "gap_fill": 4, "gap_fill_back": 1,
+         "bare_reset": 3, "reject": 4, "request": 16, "cancel": 16, "report": 2, "unclean": 4, "duplicate": 3, "too_high": 3,
+         "too_low": 0.5, "logon_again": 1, "stranger": 0.5, "unnumbered": 0.4, "logout": 1.2, "end_of_numbers": 0.1}
 LOGONS = {"in_turn": 61, "reset": 12, "high": 7, "low": 4, "reset_high": 4, "no_logon": 6, "bad_logon": 6}
+# What becomes of a frame on its way, and how often. A cut one comes in two pieces, the second of a torn one with the next; a
+# late one comes once more behind some others.
+FAULTS = {"lost": 0.01, "doubled": 0.003, "damaged": 0.017, "overtaken": 0.01, "torn": 0.05, "cut": 0.21}
 KINDS = {"heartbeat": b"0", "test_request": b"1", "reject": b"3", "request": b"AD", "cancel": b"F", "report": b"AE",
          "logon_again": b"A", "logout": b"5"}
 
@@ -20,8 +24,8 @@ def text(number):
 class Member:
     """It counts what it sends and what it has got, and answers a Resend Request of ours."""
 
-    def __init__(self, r):
-        self.r = r
+    def __init__(self, r, sends, logons):
+        self.r, self.kinds, self.logons = r, sends, logons
         self.next = 1           # its next number out
         self.seen = 0           # the greatest of our numbers that it has got
         self.owed = []          # answers to our Resend Requests
@@ -37,11 +41,11 @@ class Member:
         if self.owed:
             owed, self.owed = self.owed, []
             return owed
-        what = self.r.choices(tuple(SENDS), tuple(SENDS.values()))[0]
+        what = self.r.choices(tuple(self.kinds), tuple(self.kinds.values()))[0]
         return [framed(joined(getattr(self, what, lambda: self.made(KINDS[what]))()))]
 
     def logs_on(self):
-        what = self.r.choices(tuple(LOGONS), tuple(LOGONS.values()))[0]
+        what = self.r.choices(tuple(self.logons), tuple(self.logons.values()))[0]
         return framed(joined(getattr(self, what)()))
 
     def gets(self, reply):
@@ -57,7 +61,7 @@ class Member:
         """All that it sent from this number on: few of them one by one, else as a gap fill."""
         marks = {43: b"Y", 122: stamp(0)}
         if self.next - begin in range(1, 4):
-            return [framed(joined(self.made(b"F", marks, at=n))) for n in range(begin, self.next)]
+            return [framed(joined(self.made(self.r.choice((b"F", b"AD")), marks, at=n))) for n in range(begin, self.next)]
         return [framed(joined(self.made(b"4", {**marks, 123: b"Y", 36: text(max(self.next, begin))}, at=begin)))]
 
     # ---- What it sends while logged on -------------------------------------------------------------------------------
@@ -82,6 +86,10 @@ class Member:
         self.next = max(self.next, new)
         return parts
 
+    def gap_fill_back(self):
+        """To a number before its own, or to it: rejected."""
+        return self.made(b"4", {123: b"Y", 36: text(max(1, self.next - self.r.choice((1, 1, 3))))})
+
     def bare_reset(self):
         new = max(1, self.next + self.r.choice((0, 1, 3, -1, -5)))
         parts = self.made(b"4", {123: self.r.choice((None, b"N")), 36: text(new)}, at=self.next)
@@ -96,7 +104,7 @@ class Member:
 
     def duplicate(self):
         marks = {43: b"Y", 122: self.r.choice((stamp(0), stamp(0), None))}
-        return self.made(self.r.choice((b"0", b"F", b"AE")), marks, at=max(1, self.next - self.r.randint(1, 3)))
+        return self.made(self.r.choice((b"0", b"F", b"AD", b"AE")), marks, at=max(1, self.next - self.r.randint(1, 3)))
 
     def too_high(self):
         return self.made(self.r.choice((b"0", b"F", b"AE", b"4")), at=self.next + self.r.choice((1, 2, 500)))
@@ -142,35 +150,55 @@ class Member:
 
 
 class Line:
-    """The bytes between the member and the host: frames get lost, doubled, damaged, torn, or pass each other."""
+    """The bytes between the member and the host: frames get lost, doubled, damaged, torn, or pass each other. It counts how
+    often, in `met`."""
 
-    def __init__(self, r):
-        self.r = r
+    def __init__(self, r, faults, met):
+        self.r, self.faults, self.met = r, faults, met
         self.held = []          # frames that come behind the next one
         self.rest = b""         # of a torn piece
+        self.copies = []        # frames that come once more, each with the number of frames before it
 
     def carry(self, frames):
         """The pieces that arrive."""
         return [piece for frame in frames for piece in self.arriving(frame)]
 
+    def fault(self):
+        """What becomes of a frame; None where it arrives whole."""
+        left = self.r.random()
+        for fault, share in self.faults.items():
+            left -= share
+            if left < 0:
+                self.met[fault] += 1
+                return fault
+        return None
+
+    def due(self):
+        """The copies whose turn it is."""
+        self.copies = [(frames - 1, copy) for frames, copy in self.copies]
+        due = [copy for frames, copy in self.copies if frames == 0]
+        self.copies = [(frames, copy) for frames, copy in self.copies if frames]
+        return due
+
     def arriving(self, frame):
         before, self.held = self.held, []
         rest, self.rest = self.rest, b""
-        fault = self.r.random()
-        if fault < 0.01:
+        fault = self.fault()
+        carried = [frame]
+        if fault == "lost":
             carried = []
-        elif fault < 0.013:
+        elif fault == "doubled":
             carried = [frame, frame]
-        elif fault < 0.03:
+        elif fault == "damaged":
             carried = [byte_mutated(self.r, frame)]
-        elif fault < 0.04:
+        elif fault == "overtaken":
             self.held, carried = [frame], []
-        elif fault < 0.09:
+        elif fault == "torn":
             at = self.r.randrange(1, len(frame))
             carried, self.rest = [frame[:at]], frame[at:]
-        else:
-            at = self.r.randrange(len(frame)) if fault < 0.3 else 0
+        elif fault == "cut":
+            at = self.r.randrange(len(frame))
             carried = [frame[:at], frame[at:]] if at else [frame]
-        return ([rest] if rest else []) + carried + before
-
-
+        elif fault == "late":
+            self.copies.append((self.r.randint(2, 20), frame))
+        return ([rest] if rest else []) + carried + before + self.due()

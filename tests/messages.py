@@ -31,7 +31,9 @@ def fields(frame):
 
 
 def first(frame, tag):
-    return next((value for name, value in fields(frame) if name == b"%d" % tag), None)
+    """01: the first part that begins with t and `=`; its value, or None."""
+    label = b"%d=" % tag
+    return next((part[len(label):] for part in frame.split(BAR)[2:-2] if part.startswith(label)), None)
 
 
 def number(frame):
