@@ -25,13 +25,13 @@ use Rattle.moves.specs.Session.{Session}
 use Rattle.moves.specs.Moves.{OurPeer, Heartbeat, GapFill, Write, #, N, bare, readable}
 use Rattle.session.specs.Calls.{Outcome, refusing, Step, Tick, OurLogout, OurTestRequest, Reconnect, step}
 use Rattle.session.specs.Delivery.{Deliverable}
-use Rattle.session.specs.Sequence.{Made, refuses, delivers, rejects, Share, nothing, counts, skips, filledBy, countedBy, shareOf, deliveredBy, bodyOf, by-body, resets, resetBy, share, delivered, Passes, Idle, Rejected}
+use Rattle.session.specs.Sequence.{Made, refuses, delivers, is-reject, rejects, Share, nothing, counts, skips, filledBy, countedBy, shareOf, deliveredBy, bodyOf, by-body, resets, resetBy, share, delivered, Passes, Idle, Rejected}
 use Rattle.session.specs.declared.Answer.{Answer}
 use Rattle.session.specs.declared.Answer.the-variants.{Done, Delivered, NothingDue, Refused}
 use Rattle.session.specs.declared.Refusal.{Refusal}
 use Rattle.session.proofs.EachCall.{each-refusal, each-tick, each-logout, each-test, each-reconnect}
 use Rattle.session.proofs.Delivered.{delivery}
-use Rattle.session.proofs.Slips.{slips}
+use Rattle.session.proofs.Slips.{fails, slips}
 use Rattle.session.proofs.Promise as Session
 use Rattle.session.proofs.Venue.{farewell, asked}
 use Rattle.reporting.specs.Call.{theReport, message, unless, report}
@@ -42,9 +42,9 @@ use Rattle.replaying.specs.Run.{Turn, Ours, OurReport, OurReplay, turn}
 use Rattle.replaying.proofs.Ways.{each-replay}
 use Rattle.replaying.proofs.Numbers.{turn-ours}
 use Rattle.sequence.specs.Run.{given, made}
-use Rattle.sequence.proofs.OneStep.{Covers, fails, never, fills-is, Why, why-covers, delivered-share, step-why}
-use Rattle.sequence.proofs.Rejected.{is-reject, no-reject, tame, rejected-passed, Ahead, unrejected}
-use Rattle.sequence.proofs.Runs.{Sound, Onward, Calls}
+use Rattle.sequence.proofs.OneStep.{Covers, never, fills-is, Why, why-covers, delivered-share, step-why}
+use Rattle.sequence.proofs.Rejected.{no-reject, tame, rejected-passed, Ahead, unrejected}
+use Rattle.sequence.proofs.Runs.{Sound, Later, Calls}
 
 some-is : {f g : Bytes} → some f ≡ some g → f ≡ g
 some-is e = cc
@@ -240,7 +240,7 @@ sound s (Ours Reconnect) R = still (made s (Ours Reconnect)) refl (each-reconnec
 sound s (OurReport v t buf store) R = still (made s (OurReport v t buf store)) refl (report-rests s v t buf store)
 sound s (OurReplay t buf store) R = still (made s (OurReplay t buf store)) refl (replay-rests s t buf store)
 
-leads-on : (s : Session) (c : Turn) → resets (made s c) ≡ false → Onward s (turn s c .session)
+leads-on : (s : Session) (c : Turn) → resets (made s c) ≡ false → Later s (turn s c .session)
 leads-on s c R = let o = turn-ours s c in record { higher = omega (arith, sound s c R .passes .moved-by); same-ours = o .0; same-peers = o .1 }
 
 -- WHAT IS REJECTED is not delivered later
@@ -248,7 +248,7 @@ none-is : {A : Type 0} {f : Bytes} → none ≡ some f → A
 none-is e = let z : _≡_ {A = ℕ} 0 1 = cc in absurd (omega arith)
 
 -- what a later step delivers would not have been rejected before
-still-ahead : (s s′ : Session) (body : Bytes) → Onward s s′ → Deliverable s′ body → Ahead s body
+still-ahead : (s s′ : Session) (body : Bytes) → Later s s′ → Deliverable s′ body → Ahead s body
 unfolding readable
 still-ahead s s′ body O D = record { numbered = D .numbered; not-low = omega (arith, O .higher, D .in-turn); peer = record { sender = D .peer .sender ∙ ap some (O .same-peers); target = D .peer .target ∙ ap some (O .same-ours) }; no-verdict = D .no-verdict; application = D .application }
 
@@ -261,7 +261,7 @@ turn-unrejected s (Ours Reconnect) g e A = none-is e
 turn-unrejected s (OurReport v t buf store) g e A = none-is e
 turn-unrejected s (OurReplay t buf store) g e A = none-is e
 
-not-later : (s s′ : Session) (c c′ : Turn) → Onward s s′ → given c′ ≡ given c → rejects (turn s c) ≡ true → delivered (made s′ c′) ≡ []
+not-later : (s s′ : Session) (c c′ : Turn) → Later s s′ → given c′ ≡ given c → rejects (turn s c) ≡ true → delivered (made s′ c′) ≡ []
 not-later s s′ c (Ours (Step f t buf store)) O e r = go (good f) refl
   where
     go : (g : Bool) → good f ≡ g → delivered (made s′ (Ours (Step f t buf store))) ≡ []

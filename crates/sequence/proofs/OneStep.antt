@@ -26,6 +26,7 @@ use Rattle.moves.proofs.EachRule.{holds-is, is-held, each-logon, each-serving, 
 use Rattle.letters.proofs.Carried.{type-is}
 use Rattle.session.specs.Calls.{Outcome, afterAll, making, renewed, step}
 use Rattle.session.proofs.EachCall.{each-refusal, each-step}
+use Rattle.session.proofs.Slips.{fails}
 use Rattle.session.specs.Sequence.{refuses, rejects, Share, nothing, counts, skips, taken, resetBy, filledBy, countedBy, shareOf}
 
 -- a share, with the E before and behind it
@@ -33,11 +34,6 @@ abbrev pub Covers : ℕ → Share → ℕ → Type 0
 Covers e nothing e′ = e′ ≡ e
 Covers e (counts n) e′ = (n ≡ e) × (e′ ≡ e + 1)
 Covers e (skips n k) e′ = (n ≡ e) × (n < k) × (e′ ≡ k)
-
--- a test that cannot pass
-pub fails : (b : Bool) → (b ≡ true → ⊥) → b ≡ false
-fails true h = absurd (h refl)
-fails false h = refl
 
 -- one that passes and fails
 pub never : {A : Type 0} {b : Bool} → b ≡ false → b ≡ true → A

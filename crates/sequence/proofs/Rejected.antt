@@ -27,14 +27,11 @@ use Rattle.moves.specs.Seen.{isIt, isClean}
 use Rattle.moves.specs.Moves.{OurPeer, Letter, Heartbeat, Logon, ResendRequest, Reject, GapFill, Logout, TestRequest, letter, Deed, Write, Start, Count, Fill-to, Reset-to, Anew, Heartbeat-becomes, Becomes, Deliver, Deeds, N, type, bare, readable, reject, rejection, counted, logout, served, logon, waiting, too-high, filled, in-turn, active}
 use Rattle.moves.proofs.EachRule.{each-logon, each-high, each-low, each-gap, each-turn, each-rule}
 use Rattle.session.specs.Calls.{Outcome, afterDeed, afterAll, making, step}
-use Rattle.session.specs.Sequence.{rejects}
+use Rattle.session.specs.Sequence.{is-reject, rejects}
 use Rattle.session.proofs.EachCall.{each-step}
 use Rattle.sequence.proofs.OneStep.{never, application-not, fill-turn, other-counts}
 
 -- A MESSAGE OF OURS is of the type that it is written with
-abbrev pub is-reject : Bytes → Bool
-is-reject m = isIt (fix "3") (firstField 35 (bodyIn m))
-
 written-type : (m : MsgType) (vs : ℕ → Value) → is-reject (written m vs) ≡ isIt (fix "3") (firstField 35 (row (message m vs)))
 unfolding written
 written-type m vs = ap (λ (b : Bytes). isIt (fix "3") (firstField 35 b)) (body-back (row (message m vs)))

@@ -47,19 +47,19 @@ one-more m xs S h = go (delivers-one (m .met) (bodyOf (m .frame)) (m .left))
         subst (λ (l : List ℕ). RiseFrom (m .met .E) (l ++ xs)) (sym e) (k .0, subst (λ (i : ℕ). RiseFrom i xs) z h)
 
 -- what a later session has of an earlier one, where nothing reset it
-pub record Onward (s s′ : Session) : Type 0 where
+pub record Later (s s′ : Session) : Type 0 where
   pub higher : s .E ≤ s′ .E
   pub same-ours : s′ .ours ≡ s .ours
   pub same-peers : s′ .peers ≡ s .peers
 
-further : {s s′ s″ : Session} → Onward s s′ → Onward s′ s″ → Onward s s″
+further : {s s′ s″ : Session} → Later s s′ → Later s′ s″ → Later s s″
 further O P = record { higher = omega (arith, O .higher, P .higher); same-ours = P .same-ours ∙ O .same-ours; same-peers = P .same-peers ∙ O .same-peers }
 
 -- CALLS of any kind that are sound, that lead on, and of which none delivers what one before it rejected
 pub record Calls {C : Type 0} (given : C → Option Bytes) (call : Session → C → Outcome) : Type 0 where
   pub sound : (s : Session) (c : C) → resets (entry given call s c) ≡ false → Sound (entry given call s c)
-  pub leads-on : (s : Session) (c : C) → resets (entry given call s c) ≡ false → Onward s (call s c .session)
-  pub not-later : (s s′ : Session) (c c′ : C) → Onward s s′ → given c′ ≡ given c → rejects (call s c) ≡ true → delivered (entry given call s′ c′) ≡ []
+  pub leads-on : (s : Session) (c : C) → resets (entry given call s c) ≡ false → Later s (call s c .session)
+  pub not-later : (s s′ : Session) (c c′ : C) → Later s s′ → given c′ ≡ given c → rejects (call s c) ≡ true → delivered (entry given call s′ c′) ≡ []
 
 -- A RUN of them
 module _ {C : Type 0} (given : C → Option Bytes) (call : Session → C → Outcome) (K : Calls given call) where
@@ -116,7 +116,7 @@ module _ {C : Type 0} (given : C → Option Bytes) (call : Session → C → Out
   all-count s (c ∷ cs) R = (sound s c (R .0) .counting, all-count (call s c .session) cs (R .1))
 
   -- behind a call on s that rejected its frame
-  none-delivers : (s : Session) (c : C) → rejects (call s c) ≡ true → (s′ : Session) (cs : List C) → Onward s s′ → NoReset (runs s′ cs) → NoneDelivers (given c) (runs s′ cs)
+  none-delivers : (s : Session) (c : C) → rejects (call s c) ≡ true → (s′ : Session) (cs : List C) → Later s s′ → NoReset (runs s′ cs) → NoneDelivers (given c) (runs s′ cs)
   none-delivers s c r s′ [] O R = tt
   none-delivers s c r s′ (c′ ∷ cs) O R = (λ e. K .not-later s s′ c c′ O e r, none-delivers s c r (call s′ c′ .session) cs (further O (K .leads-on s′ c′ (R .0))) (R .1))
 

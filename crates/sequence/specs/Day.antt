@@ -52,7 +52,7 @@ pub record Day : Type 0 where
       ≡ Done ∷ Delivered ∷ Done ∷ Done ∷ Done ∷ Done ∷ Done ∷ Refused NotOneFrame ∷ NothingDue ∷ Delivered ∷ Done ∷ Done ∷ Done ∷ Done ∷ Done ∷ []
   pub contributions : map share (logged begin morning)
       ≡ counts 1 ∷ counts 2 ∷ nothing ∷ nothing ∷ skips 3 5 ∷ nothing ∷ counts 5 ∷ nothing ∷ nothing ∷ counts 6 ∷ nothing ∷ nothing ∷ counts 7 ∷ counts 8 ∷ nothing ∷ []
-  -- (what the replay sends is asked of no store here)
+  -- (the replay is left out: its message depends on what the store holds, which is not computed here)
   pub rejected : map (λ (m : Made). rejects (m .left)) (take 14 (logged begin morning))
       ≡ false ∷ false ∷ false ∷ false ∷ false ∷ false ∷ true ∷ false ∷ false ∷ false ∷ true ∷ false ∷ false ∷ false ∷ []
   pub delivered : deliveries (logged begin morning) ≡ 2 ∷ 6 ∷ []

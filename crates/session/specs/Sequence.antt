@@ -59,8 +59,11 @@ delivers NothingDue = false
 delivers (Refused k) = false
 
 -- it rejects: a Reject, 35=3, is among the messages of the reply
+abbrev pub is-reject : Bytes → Bool
+is-reject m = isIt (fix "3") (firstField 35 (bodyIn m))
+
 abbrev pub rejects : Outcome → Bool
-rejects o = any (λ m. isIt (fix "3") (firstField 35 (bodyIn m))) (o .reply)
+rejects o = any is-reject (o .reply)
 
 -- WHAT A CALL CONTRIBUTES: nothing; the number N of its frame; or the numbers from the N of a gap fill up to its 36, which is not among them
 pub data Share : Type 0 where
