@@ -2,9 +2,10 @@
 use Prim.Native.Nat.{ℕ, zero, suc, _+_, _≤_, _<_}
 use native.Mathlib.Numerals.{add-one}
 use native.Mathlib.Omega.{arith}
-use mathlib.Core.Path.{_≡_, refl, sym}
+use mathlib.Core.Path.{_≡_, refl, sym, ap}
 use mathlib.Core.List.{List, [], _∷_, _++_, map}
 use mathlib.Core.Bool.{Bool, true, false, _&&_, _||_, false≢true}
+use lib.Dec.{eqb}
 use lib.ListN.{length, drop, getD, drop-of-length-le}
 use lib.Seq.{drop-cons}
 use borrow.Author.Tests.{eq-eqb, ne-eqb}
@@ -66,6 +67,11 @@ map-at f d e (x ∷ l) zero h = refl
 map-at f d e (x ∷ l) (suc i) h = map-at f d e l i (omega arith)
 
 -- IS x IN A LIST: at the place looked at, behind it, or nowhere
+pub has-at : (l : List ℕ) (i : ℕ) → i < length l → has l (getD l i 0) ≡ true
+has-at [] i h = absurd (omega (arith, h))
+has-at (x ∷ l) zero h = ap (λ (b : Bool). b || has l x) (eq-eqb x x refl)
+has-at (x ∷ l) (suc i) h = or-last (eqb x (getD l i 0)) (has l (getD l i 0)) (has-at l i (omega (arith, h)))
+
 pub has-here : (l : List ℕ) (i x : ℕ) → i < length l → getD l i 0 ≡ x → has (drop i l) x ≡ true
 has-here l i x h e = rw (drop-cons l i 0 h, eq-eqb _ x e)
 

@@ -28,7 +28,7 @@ module _ (R : Rule) where
         subst Digit (sym (ap (λ (x : ℕ). getD g x 0) e₃ ∙ at 4)) (omega arith),
       )
 
-  good-end-at : {s : Bytes} {p n : ℕ} → GoodAt R s p n → (getD s (p + n - 1) 0 ≡ 1) × Digit (getD s (p + n - 3) 0)
+  pub good-end-at : {s : Bytes} {p n : ℕ} → GoodAt R s p n → (getD s (p + n - 1) 0 ≡ 1) × Digit (getD s (p + n - 3) 0)
   good-end-at {s} {p} {n} G =
       let g = take n (drop p s) in
       let l : length g ≡ n = part-length s p n (G .inside) in

@@ -16,6 +16,7 @@ pub mod Readable
 pub mod Streams
 pub mod Worked
 pub mod Pieces
+pub mod NoBar
 pub mod Promise
 pub mod OneOutcome
 pub mod Desk

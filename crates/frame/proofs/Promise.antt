@@ -22,6 +22,7 @@ use Rattle.frame.proofs.Readable.{reads-of}
 use Rattle.frame.proofs.Streams.{frames-at, frames-one, frames-of, are-frames, frames-join}
 use Rattle.frame.proofs.Worked.{rest-short}
 use Rattle.frame.proofs.Pieces.{frames-so-far, frames-cut, fed-of, fed-one, fed-short, comes-out, some-piece}
+use Rattle.frame.proofs.NoBar.{refused-again, with-the-next}
 
 module _ (R : Rule) (ok : MarkOk (R .mark)) where
   -- ---- two good frames
@@ -106,6 +107,7 @@ module _ (R : Rule) (ok : MarkOk (R .mark)) where
               comes-out = λ F. comes-out R ok F;
               some-piece = λ xs a g b G. some-piece xs a g b (omega (arith, good-shortest R g G));
             };
+        without-bar = record { refused-again = refused-again R ok; with-the-next = λ x y A bar F. with-the-next R ok x y A bar F };
         longest-frame = record { none-longer = good-longest R; attained = longest-good };
         pending-rest = record { refused = refused-short; kept = λ F. omega (arith, fed-short R ok F) };
       }

@@ -62,7 +62,7 @@ module _ (R : Rule) where
       of-nil : {x : Bytes} {q m : ℕ} → GoodAt R (x ++ []) q m → GoodAt R x q m
       of-nil {x} {q} {m} G = subst (λ (y : Bytes). GoodAt R y q m) (append-nil x) G
 
-      frame-dropped : {p n : ℕ} → Leftmost R (drop d s ++ t) p n → Leftmost R (s ++ t) (d + p) n
+      pub frame-dropped : {p n : ℕ} → Leftmost R (drop d s ++ t) p n → Leftmost R (s ++ t) (d + p) n
       frame-dropped {p} {n} L =
           record { here = of-nil (shift [] p n (at-nil (L .here))); left = left }
         where
@@ -73,7 +73,7 @@ module _ (R : Rule) where
               go (yes k) = none-dropped [] q m k (at-nil G)
               go (no k) = L .left (q - d) m (omega arith) (of-nil (unshift [] q m (omega arith) (at-nil G)))
 
-      rest-dropped : {e : ℕ} → Unfinished R (drop d s ++ t) e → Unfinished R (s ++ t) (d + e)
+      pub rest-dropped : {e : ℕ} → Unfinished R (drop d s ++ t) e → Unfinished R (s ++ t) (d + e)
       rest-dropped {e} U = record { none = none; dead = dead′; stop = stop (U .stop) }
         where
           none : (q m : ℕ) → GoodAt R (s ++ t) q m → ⊥
@@ -160,6 +160,20 @@ module _ (R : Rule) where
 
     pub drained-of : (s : Bytes) → (fs : List Bytes) × ((r : Bytes) × Drained R s fs r)
     drained-of s = drained-within (suc (length s)) s (omega arith)
+
+    -- bytes of which nothing comes out are read late: as if what they keep had been kept
+    pub drained-late : {q r r′ : Bytes} {fs : List Bytes} (x : Bytes) → Drained R q [] r → Drained R (q ++ x) fs r′ → Drained R (r ++ x) fs r′
+    drained-late {r = r} x D E =
+        let w = drained-of (r ++ x) in
+        let e = drained-one refl (drained-join x D (w .1 .1)) E in
+        drained-at refl (e .0) (e .1) (w .1 .1)
+
+    -- what is kept, worked off again, is kept
+    pub drained-again : {s r : Bytes} {fs : List Bytes} → Drained R s fs r → Drained R r [] r
+    drained-again {s} (keep d A) =
+        let K : Drained R s [] (drop d s) = keep d A in
+        drained-at (append-nil (drop d s)) refl refl (drained-late [] K (drained-at (sym (append-nil s)) refl refl K))
+    drained-again (hand p n A D) = drained-again D
 
     -- "Under refusal 1 at most 2,072 bytes stay pending": less than a longest frame
     pub rest-short : (s : Bytes) {d : ℕ} → Unfinished R s d → length (drop d s) < longest R

@@ -1,5 +1,5 @@
--- What the frame layer promises, in document 01's words, over a rule R: one reading, the frames of a stream, demand 3, every cutting, the longest frame
--- and the pending rest.
+-- What the frame layer promises, in document 01's words, over a rule R: one reading, the frames of a stream, demand 3, every cutting, bytes without `|`,
+-- the longest frame and the pending rest.
 --
 -- Shown in proofs/Promise.antt for every rule whose mark is as specs/Mark.antt asks, and so for `8=FIXT.1.1|9=` and `8=FIX.4.2|9=`. Of the digit limit
 -- R .most nothing is asked: all of this holds for every limit. One field has a premise on it: a frame of the longest length has a body length of four
@@ -8,8 +8,9 @@ use Prim.Native.Nat.{ℕ, suc, _+_, _-_, _≤_, _<_}
 use mathlib.Core.Path.{_≡_}
 use mathlib.Core.Logic.{_⊎_}
 use mathlib.Core.List.{List, [], _∷_, _++_}
-use lib.ListN.{length, take, getD}
-use Rattle.bytes.specs.Bytes.{Bytes}
+use mathlib.Core.Bool.{false}
+use lib.ListN.{length, take, drop, getD}
+use Rattle.bytes.specs.Bytes.{Bytes, byte, has}
 use Rattle.frame.specs.Frame.{Rule, fixt, Good, GoodAt, longest}
 use Rattle.frame.specs.Reading.{Answer, refusal, Reads}
 use Rattle.frame.specs.Stream.{Frames, Fed, joined}
@@ -69,6 +70,16 @@ pub record InPieces (R : Rule) : Type 0 where
   -- and there is such a piece
   pub some-piece : (xs : List Bytes) (a g b : Bytes) → Good R g → joined xs ≡ a ++ (g ++ b) → (k : ℕ) × EndsIn xs k a g b
 
+-- BYTES WITHOUT `|`
+-- A good frame ends with `|`, so bytes x that hold none end no frame: a host need not read when they come.
+pub record WithoutBar (R : Rule) : Type 0 where
+  -- where a reading gave refusal 1, with d bytes to drop, it gives refusal 1 again when x has come: behind all that was read, and behind what is left of
+  -- it once these d bytes are dropped, where e more are to be dropped;
+  pub refused-again : (s x : Bytes) (d : ℕ) → Reads R s (refusal 1 d) → has x (byte "|") ≡ false → (e : ℕ) × (Reads R (s ++ x) (refusal 1 (d + e)) × Reads R (drop d s ++ x) (refusal 1 e))
+  -- so the host may as well read x together with the next piece y: while x is worked off nothing comes out, while y is what comes out of both together,
+  -- and the same rest is kept
+  pub with-the-next : {r r′ : Bytes} {xs : List Bytes} {fss : List (List Bytes)} {d : ℕ} (x y : Bytes) → Reads R r (refusal 1 d) → has x (byte "|") ≡ false → Fed R r ((x ++ y) ∷ xs) fss r′ → Fed R r (x ∷ y ∷ xs) ([] ∷ fss) r′
+
 -- THE LONGEST FRAME
 pub record LongestFrame (R : Rule) : Type 0 where
   -- "The longest frame is 2,073 bytes": no good frame is longer,
@@ -90,6 +101,7 @@ pub record Promise (R : Rule) : Type 0 where
   pub frames-apart : FramesApart R
   pub whole-stream : WholeStream R
   pub in-pieces : InPieces R
+  pub without-bar : WithoutBar R
   pub longest-frame : LongestFrame R
   pub pending-rest : PendingRest R
 

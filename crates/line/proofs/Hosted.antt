@@ -21,14 +21,24 @@ use Rattle.line.specs.Line as L
 use Rattle.line.specs.Promise.{Within, Lent}
 
 -- ---- the two calls
+fitting-whole : (l : Line) (x : Bytes) → length x ≤ room l → fitting l x ≡ length x
+fitting-whole l x h = rw (le-leb (length x) (room l) h)
+
+pub fitting-full : (l : Line) (x : Bytes) → room l ≤ length x → fitting l x ≡ room l
+fitting-full l x h = go (decLe (length x) (room l))
+  where
+    go : Dec (length x ≤ room l) → fitting l x ≡ room l
+    go (yes k) = fitting-whole l x k ∙ omega arith
+    go (no k) = rw (lt-leb (length x) (room l) (omega arith))
+
 fitting-bounds : (l : Line) (x : Bytes) → (fitting l x ≤ length x) × (fitting l x ≤ room l)
 fitting-bounds l x = go (decLe (length x) (room l))
   where
     go : Dec (length x ≤ room l) → (fitting l x ≤ length x) × (fitting l x ≤ room l)
-    go (yes h) = let e : fitting l x ≡ length x = rw (le-leb (length x) (room l) h) in omega arith
-    go (no h) = let e : fitting l x ≡ room l = rw (lt-leb (length x) (room l) (omega arith)) in omega arith
+    go (yes h) = omega (arith, fitting-whole l x h)
+    go (no h) = omega (arith, fitting-full l x (omega arith))
 
-put-fits : (l : Line) (x : Bytes) → Within l → (length (put l x .buffer) ≡ length (l .buffer)) × Within (put l x)
+pub put-fits : (l : Line) (x : Bytes) → Within l → (length (put l x .buffer) ≡ length (l .buffer)) × Within (put l x)
 unfolding put
 put-fits l x h =
     let b = fitting-bounds l x in
@@ -38,6 +48,14 @@ put-fits l x h =
 pub put-pending : (l : Line) (x : Bytes) → Within l → pending (put l x) ≡ pending l ++ take (fitting l x) x
 unfolding put
 put-pending l x h = take-paste (l .buffer) (l .held) x (fitting l x) h ((fitting-bounds l x) .0)
+
+-- a piece that fits is put whole
+pub put-whole : (l : Line) (x : Bytes) → Within l → length x ≤ room l → pending (put l x) ≡ pending l ++ x
+put-whole l x h f = put-pending l x h ∙ ap (λ (y : Bytes). pending l ++ y) (take-all (fitting l x) x (omega (arith, fitting-whole l x f)))
+
+pub put-room : (l : Line) (x : Bytes) → Within l → length x ≤ room l → room (put l x) ≡ room l - length x
+unfolding put
+put-room l x h f = omega (arith, (put-fits l x h) .0, fitting-whole l x f)
 
 pub pending-fits : (l : Line) → Within l → length (pending l) ≡ l .held
 pending-fits l h = length-take-le (l .held) (l .buffer) h
@@ -61,19 +79,19 @@ module _ (R : Rule) where
     pub same : length (l′ .buffer) ≡ length (l .buffer)
     pub fits : Within l′
 
-  worked-kept : {l l′ : Line} {fs : List Bytes} → Within l → Worked R l fs l′ → Kept l l′
+  pub worked-kept : {l l′ : Line} {fs : List Bytes} → Within l → Worked R l fs l′ → Kept l l′
   worked-kept {l} h (L.keep d A) = let f = dropped-fits l d h in record { same = f .0; fits = f .1 }
   worked-kept {l} h (L.hand p n A W) =
       let f = dropped-fits l (p + n) h in
       let k = worked-kept (f .1) W in
       record { same = k .same ∙ f .0; fits = k .fits }
 
-  worked-drained : {l l′ : Line} {fs : List Bytes} → Worked R l fs l′ → Drained R (pending l) fs (pending l′)
+  pub worked-drained : {l l′ : Line} {fs : List Bytes} → Worked R l fs l′ → Drained R (pending l) fs (pending l′)
   worked-drained {l} (L.keep d A) = drained-at R refl refl (sym (dropped-pending l d)) (keep d A)
   worked-drained {l} (L.hand p n A W) = hand p n A (drained-at R (dropped-pending l (p + n)) refl refl (worked-drained W))
 
   -- ---- the loop has one outcome
-  worked-one : {l l₂ m n : Line} {fs gs : List Bytes} → l ≡ l₂ → Worked R l fs m → Worked R l₂ gs n → (fs ≡ gs) × (m ≡ n)
+  pub worked-one : {l l₂ m n : Line} {fs gs : List Bytes} → l ≡ l₂ → Worked R l fs m → Worked R l₂ gs n → (fs ≡ gs) × (m ≡ n)
   worked-one {l} {l₂} e (L.keep d A) (L.keep c B) =
       (refl, ap₂ (λ (x : Line) (k : ℕ). dropped x k) e (unfinished-one R (pending l₂) (subst (λ (x : Line). Unfinished R (pending x) d) e (A .1)) (B .1)))
   worked-one e (L.keep d A) (L.hand p n B X) = absurd (A .1 .none p n (subst (λ (x : Line). Leftmost R (pending x) p n) (sym e) B .here))
@@ -116,9 +134,7 @@ module _ (R : Rule) where
 
     -- the loop for one piece is "puts each piece behind the pending rest, reads and drops until refusal 1, and keeps what isn't dropped"
     pub taken-drained : {l l′ : Line} {x : Bytes} {fs : List Bytes} → Within l → Taken R l x fs l′ → Drained R (pending l ++ x) fs (pending l′)
-    taken-drained {l} {x = x} h (L.all f W) =
-        let e : fitting l x ≡ length x = rw (le-leb (length x) (room l) f) in
-        drained-at R (put-pending l x h ∙ ap (λ (y : Bytes). pending l ++ y) (take-all (fitting l x) x (omega arith))) refl refl (worked-drained W)
+    taken-drained {l} {x = x} h (L.all f W) = drained-at R (put-whole l x h f) refl refl (worked-drained W)
     taken-drained {l} {x = x} h (L.some f W T) =
         let k = worked-kept ((put-fits l x h) .1) W in
         let x₁ = take (fitting l x) x in
@@ -151,13 +167,13 @@ module _ (R : Rule) where
             let w = later (dropped l (p + n)) (omega (arith, e, (good-at-length R (A .here)) .0, A .here .inside)) in
             (take n (drop p (pending l)) ∷ w .0, (w .1 .0, L.hand p n A (w .1 .1)))
 
-    worked-of : (l : Line) → (fs : List Bytes) × ((l′ : Line) × Worked R l fs l′)
+    pub worked-of : (l : Line) → (fs : List Bytes) × ((l′ : Line) × Worked R l fs l′)
     worked-of l = worked-within (suc (length (pending l))) l (omega arith)
 
     kept-lent : {l l′ : Line} → Lent R l → Kept l l′ → Lent R l′
     kept-lent r k = record { within = k .fits; wide = omega (arith, r .wide, k .same) }
 
-    put-lent : (l : Line) (x : Bytes) → Lent R l → Lent R (put l x)
+    pub put-lent : (l : Line) (x : Bytes) → Lent R l → Lent R (put l x)
     put-lent l x r = let p = put-fits l x (r .within) in record { within = p .1; wide = omega (arith, r .wide, p .0) }
 
     -- a lent line on which less than a longest frame is pending, as it is when it has been worked off
@@ -165,7 +181,7 @@ module _ (R : Rule) where
       pub lent : Lent R l
       pub short : l .held < longest R
 
-    worked-ready : {l l′ : Line} {fs : List Bytes} → Lent R l → Worked R l fs l′ → Ready l′
+    pub worked-ready : {l l′ : Line} {fs : List Bytes} → Lent R l → Worked R l fs l′ → Ready l′
     worked-ready {l} {l′} r W =
         let k = worked-kept (r .within) W in
         record { lent = kept-lent r k; short = omega (arith, drained-short R ok (worked-drained W), pending-fits l′ (k .fits)) }
@@ -190,9 +206,7 @@ module _ (R : Rule) where
     taken-within (suc k) l x r h = taken-turn l x (r .lent) (λ more m q. taken-within k m (drop (fitting l x) x) q (less more))
       where
         less : room l < length x → length (drop (fitting l x) x) < k
-        less more =
-            let e : fitting l x ≡ room l = rw (lt-leb (length x) (room l) more) in
-            omega (arith, length-drop (fitting l x) x, r .short, r .lent .wide)
+        less more = omega (arith, length-drop (fitting l x) x, fitting-full l x (omega arith), r .short, r .lent .wide)
 
     pub taken-of : (l : Line) (x : Bytes) → Lent R l → TakenSome l x
     taken-of l x r = taken-turn l x r (λ more m q. taken-within (suc (length (drop (fitting l x) x))) m (drop (fitting l x) x) q (omega arith))

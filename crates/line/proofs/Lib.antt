@@ -1,4 +1,5 @@
 pub mod Lines
 pub mod Hosted
+pub mod Sparing
 pub mod Promise
 pub mod OneOutcome

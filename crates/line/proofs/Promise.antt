@@ -8,10 +8,12 @@ use Rattle.frame.specs.Frame.{Rule, fixt, fix42, longest}
 use Rattle.frame.specs.Reading.{refusal, Reads}
 use Rattle.frame.specs.Mark.{MarkOk}
 use Rattle.frame.proofs.Marks.{fixt-ok, fix42-ok}
+use Rattle.frame.proofs.Pieces.{nothing-drained}
 use Rattle.frame.proofs.Promise as Frame
 use Rattle.line.specs.Line.{Line, line, pending, dropped, Hosted}
 use Rattle.line.specs.Promise.{Within, Promise, FixtNumbers}
 use Rattle.line.proofs.Hosted.{pending-fits, dropped-fits, hosted-fed, hosted-kept, hosted-lent, hosted-of, hosted-one}
+use Rattle.line.proofs.Sparing.{hosted-sparing-fed, hosted-sparing-of, hosted-sparing-one, hosted-sparing-roomy}
 
 module _ (R : Rule) (ok : MarkOk (R .mark)) where
   held-short : (l : Line) (d : ℕ) → Reads R (pending l) (refusal 1 d) → dropped l d .held ≤ longest R - 1
@@ -35,6 +37,14 @@ module _ (R : Rule) (ok : MarkOk (R .mark)) where
               goes-on = λ r H. hosted-lent R ok r H;
               some-room = λ l d r A. omega (arith, held-short l d A, dropped-fits l d (r .within), r .wide);
               much-room = λ l d w A. omega (arith, held-short l d A, dropped-fits l d w);
+            };
+        readings-spared =
+            record {
+              in-pieces = λ H. hosted-sparing-fed R ok (omega arith) (nothing-drained R ok) H;
+              ends = λ l xs r.
+                  let w = hosted-sparing-of R ok l xs r in
+                  record { it = (w .0, w .1 .0); is = w .1 .1; same = λ o u F G. let e = hosted-sparing-one R refl F G in ap₂ (λ x y. (x, y)) (e .0) (e .1) };
+              goes-on = λ r H. hosted-sparing-roomy R ok r H;
             };
         pending-rest = record { held = held-short; hosted = λ H. hosted-short H };
       }

@@ -2,10 +2,10 @@
 use Prim.Native.Nat.{ℕ, _+_, _-_, _≤_, _<_}
 use mathlib.Core.Path.{_≡_}
 use mathlib.Core.List.{List, [], _∷_, _++_}
-use mathlib.Core.Bool.{cond}
+use mathlib.Core.Bool.{true, false, cond}
 use lib.Dec.{leb}
 use lib.ListN.{length, take, drop}
-use Rattle.bytes.specs.Bytes.{Bytes}
+use Rattle.bytes.specs.Bytes.{Bytes, byte, has}
 use Rattle.frame.specs.Frame.{Rule}
 use Rattle.frame.specs.Reading.{frame, refusal, Reads}
 
@@ -63,3 +63,15 @@ pub data Taken (R : Rule) : Line → Bytes → List Bytes → Line → Type 0 wh
 pub data Hosted (R : Rule) : Line → List Bytes → List (List Bytes) → Line → Type 0 where
   end : {l : Line} → Hosted R l [] [] l
   piece : {l l′ l″ : Line} {x : Bytes} {xs fs : List Bytes} {fss : List (List Bytes)} → Taken R l x fs l′ → Hosted R l′ xs fss l″ → Hosted R l (x ∷ xs) (fs ∷ fss) l″
+
+-- The loop of docs/HOST.md spares readings: a good frame ends with `|`, so the host works off what it put only where that holds one or fills the
+-- buffer. For one piece,
+pub data TakenSparing (R : Rule) : Line → Bytes → List Bytes → Line → Type 0 where
+  unread : {l : Line} {x : Bytes} → length x < room l → has x (byte "|") ≡ false → TakenSparing R l x [] (put l x)
+  read : {l l′ : Line} {x : Bytes} {fs : List Bytes} → length x < room l → has x (byte "|") ≡ true → Worked R (put l x) fs l′ → TakenSparing R l x fs l′
+  full : {l l′ l″ : Line} {x : Bytes} {fs gs : List Bytes} → room l ≤ length x → Worked R (put l x) fs l′ → TakenSparing R l′ (drop (fitting l x) x) gs l″ → TakenSparing R l x (fs ++ gs) l″
+
+-- and for a row of pieces, with the frames that came out while each was taken.
+pub data HostedSparing (R : Rule) : Line → List Bytes → List (List Bytes) → Line → Type 0 where
+  end : {l : Line} → HostedSparing R l [] [] l
+  piece : {l l′ l″ : Line} {x : Bytes} {xs fs : List Bytes} {fss : List (List Bytes)} → TakenSparing R l x fs l′ → HostedSparing R l′ xs fss l″ → HostedSparing R l (x ∷ xs) (fs ∷ fss) l″

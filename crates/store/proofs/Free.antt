@@ -11,7 +11,7 @@ use lib.ListN.{length, getD}
 use borrow.Author.Count.{below-more}
 use borrow.Author.Tests.{eqb-true, ltb-true, ltb-false, ne-eqb, eq-eqb}
 use Rattle.bytes.specs.Bytes.{has}
-use Rattle.bytes.proofs.Tests.{or-last}
+use Rattle.bytes.proofs.Tests.{has-at}
 use Rattle.store.specs.Store.{Table, numbers, placeOf, full, least, lowest}
 use Rattle.store.specs.code.Lowest.{LowestOf}
 
@@ -65,11 +65,6 @@ lowest-under (x ∷ l) n h = go (eqb x n) refl h
     go : (b : Bool) → eqb x n ≡ b → (b || has l n) ≡ true → least x l ≤ n
     go true e h = let a = least-under x l .0 in let m = eqb-true x n e in omega (arith, a, m)
     go false e h = least-under x l .1 n h
-
-has-at : (l : List ℕ) (i : ℕ) → i < length l → has l (getD l i 0) ≡ true
-has-at [] i h = absurd (omega (arith, h))
-has-at (x ∷ l) zero h = ap (λ (b : Bool). b || has l x) (eq-eqb x x refl)
-has-at (x ∷ l) (suc i) h = or-last (eqb x (getD l i 0)) (has l (getD l i 0)) (has-at l i (omega (arith, h)))
 
 lowest-is : (l : List ℕ) (i : ℕ) → LowestOf l (length l) i → lowest l ≡ getD l i 0
 lowest-is [] i L = let a = L .among in absurd (omega (arith, a))
