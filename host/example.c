@@ -419,7 +419,8 @@ static void read_frames(struct line *line, uint64_t time)
     line->held = fixgw_drop(line->bytes, LINE_ROOM, line->held, found[0]);
 }
 
-/* A good frame ends with a byte 1, so bytes without one end none, and there is nothing to look for before the next. */
+/* Reads only when what was put holds a byte 1, with which every good frame ends, or has filled the buffer: docs/HOST.md,
+   "Bytes of the line", has why nothing is lost by that. */
 static void take_read(struct line *line, uint64_t time, const uint8_t *piece, size_t len)
 {
     line->reads++;

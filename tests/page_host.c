@@ -1,7 +1,19 @@
 /* A venue around the host of docs/HOST.md (page.c, as it is printed): one peer, MM for GW, a disk that can fail, and a
-   clock that the test sets. It plays lines and prints what went out; tests/pages knows what that must be. */
-#include "page.c"
+   clock that the test sets. It plays lines, counts readings and prints what went out; tests/pages knows what that must
+   be. */
+#include <fixgw.h>
 #include <stdio.h>
+
+static unsigned long readings;
+
+static uint32_t counted_read(const uint8_t *bytes, size_t len, uint64_t out[2])
+{
+    readings++;
+    return fixgw_read(bytes, len, out);
+}
+
+#define fixgw_read counted_read
+#include "page.c"
 
 static struct peer peer;
 static uint64_t now = 1704187800000000, step_of_clock;
@@ -73,6 +85,9 @@ static size_t frame_of(uint8_t *to, const char *body)
 }
 
 #define NOISE 9000
+#define HEADER(type, sender, number) "35=" type "|49=" sender "|56=GW|34=" number "|52=20240102-09:30:00|"
+#define LOGON(sender, number) HEADER("A", sender, number) "98=0|108=30|1137=9|"
+#define ORDER(number) HEADER("F", "MM", number) "11=C|41=O|54=1|48=133215|22=8|60=20240102-09:30:00|"
 
 /* One connection: noise of so many bytes, then the messages; the peer ends its side at once or stays. */
 static void play(const char *what, size_t noise, const char *const *bodies, int stays)
@@ -99,6 +114,30 @@ static void play(const char *what, size_t noise, const char *const *bodies, int 
            (unsigned long)peer.session.words[FIXGW_WORD_NEXT_OUT],
            (unsigned long)peer.session.words[FIXGW_WORD_STATUS], had_line, peer.has_line);
     close(pair[1]);
+}
+
+/* A Logon behind noise, both in single bytes: where the answer comes, and how often that was read. */
+static void play_bytes(const char *what, size_t noise)
+{
+    static uint8_t bytes[NOISE + 1024], came[1024];
+    int pair[2], goes_on = 1;
+    ssize_t got = -1;
+    size_t at = 0, len;
+    fixgw_session_new(&peer.session, (const uint8_t *)"GW", 2, (const uint8_t *)"MM", 2);
+    memset(bytes, 'x', noise);
+    len = noise + frame_of(bytes + noise, LOGON("MM", "1"));
+    socketpair(AF_UNIX, SOCK_STREAM, 0, pair);
+    struct line line = { .socket = pair[0], .heard = now };
+    readings = 0;
+    while (goes_on && got <= 0 && at < len) {
+        goes_on = take_bytes(&line, bytes + at++, 1);
+        got = recv(pair[1], came, sizeof came, MSG_DONTWAIT);
+    }
+    printf("%s: %s, %lu bytes to come, %lu readings\n", what, goes_on ? "on" : "off", (unsigned long)(len - at), readings);
+    print_bytes(came, got > 0 ? (size_t)got : 0);
+    printf("\n");
+    close(pair[1]);
+    hang_up(&line);
 }
 
 /* One trade on a line that is up. */
@@ -130,10 +169,6 @@ static void play_trades(void)
     disk_fails = 0;
 }
 
-#define HEADER(type, sender, number) "35=" type "|49=" sender "|56=GW|34=" number "|52=20240102-09:30:00|"
-#define LOGON(sender, number) HEADER("A", sender, number) "98=0|108=30|1137=9|"
-#define ORDER(number) HEADER("F", "MM", number) "11=C|41=O|54=1|48=133215|22=8|60=20240102-09:30:00|"
-
 int main(void)
 {
     static const char *const talk[] = {
@@ -164,5 +199,7 @@ int main(void)
     now += 60000000;
     play("asked for again", 0, asking, 0);
     play("begun anew", 0, anew, 0);
+    play_bytes("byte by byte", 0);
+    play_bytes("byte by byte, behind noise", NOISE);
     return 0;
 }
