@@ -1,9 +1,8 @@
-/* The cost of reading, verdict, step, tick, report and replay, each beside plain C that does the same.
-   One line a section: NUMBER|WHAT|BYTES|MESSAGES|SIDE|REPEATS|NANOSECONDS. */
+/* The cost of the library's calls, each beside plain C that does the same.
+   One line a section: NUMBER|WHAT|BYTES|MESSAGES|SIDE|REPEATS|NANOSECONDS|SERIES. */
 #include "bench.h"
 
 enum {
-    LINE_ROOM = 4096,
     TURNS = 5,
     MARK_OF_COUNTER = 0x7fe00000            /* close() of this begins a section for a counting emulator, + n ends it */
 };
@@ -13,7 +12,7 @@ uint64_t sink;
 /* ---- What is read ------------------------------------------------------------------------------------------------ */
 
 struct bytes report;
-static struct bytes heartbeat, request, greatest, test_request, noise, marks, torn, stream;
+static struct bytes heartbeat, request, greatest, test_request, noise, marks, torn, stream, greatest_stream;
 
 static void add(struct bytes *to, const char *text)
 {
@@ -70,6 +69,13 @@ static void make_repeated(struct bytes *bytes, const char *text)
         add(bytes, text);
 }
 
+static void make_stream(struct bytes *to, const struct bytes *frame, size_t count)
+{
+    to->each = frame->len;
+    for (; count > 0; count--, to->len += frame->len)
+        memcpy(to->at + to->len, frame->at, frame->len);
+}
+
 static void make_all(void)
 {
     make_frame(&heartbeat, HEADER("0"));
@@ -81,66 +87,110 @@ static void make_all(void)
     make_repeated(&noise, "0123456789 abcdefghijklmnopqrstuvwxyz|=.,-");
     make_repeated(&marks, "8=FIXT.1.1|9=");
     make_repeated(&torn, "8=FIXT.1.1|9=2048|35=0|49=MM|");
-    for (size_t i = 0; i < 100; i++) {
-        memcpy(stream.at + stream.len, request.at, request.len);
-        stream.len += request.len;
-    }
+    make_stream(&stream, &request, 100);
+    make_stream(&greatest_stream, &greatest, 10);
 }
 
 /* ---- What is measured -------------------------------------------------------------------------------------------- */
 
-enum kind { NOTHING, READ, VERDICT, STEP, TICK, STREAM, REPORT, REPORT_VALUES, REPORT_FULL, REPLAY_REPORT, REPLAY_FILL };
+enum kind { NOTHING, READ, VERDICT, STEP, TICK, REPORT, REPORT_VALUES, REPORT_FULL, REPLAY_REPORT, REPLAY_FILL, CALL, FIELD };
 enum side { OURS, PLAIN };
 
 struct row {
     const char *what;
     enum kind kind;
     const struct bytes *bytes;
-    size_t parts;                           /* 0: all; else so many tenths, or messages of the stream */
     uint64_t repeats;
+    run *ours, *plain;                      /* of a CALL, and of a FIELD on the body */
+    const uint8_t *store;                   /* what is lent */
+    const char *series;                     /* the rows with ever more bytes that it is one of */
+    size_t len, messages;                   /* so many bytes, or messages of a stream; both 0: all, which is one message */
 };
 
+#define ON(what, kind, bytes, repeats) { what, kind, &bytes, repeats, 0, 0, no_reports, "", 0, 0 }
+#define FULL(what, kind, bytes, repeats) { what, kind, &bytes, repeats, 0, 0, full_store, "", 0, 0 }
+#define BY(what, name, bytes, repeats) { what, CALL, &bytes, repeats, name##_ours, name##_plain, no_reports, "", 0, 0 }
+#define STREAM(what, name, bytes, series, messages, repeats) \
+    { what, CALL, &bytes, repeats, name##_ours, name##_plain, no_reports, series, 0, messages }
+#define LENGTH(what, kind, bytes, series, len, repeats) { what, kind, &bytes, repeats, 0, 0, no_reports, series, len, 0 }
+#define PIECE(what, len, repeats) { what, CALL, &noise, repeats, piece_ours, piece_plain, no_reports, "piece", len, 0 }
+#define FIELDS(what, bytes, repeats) \
+    { what, FIELD, &bytes, repeats, first_field_ours, first_field_plain, no_reports, "first field", 0, 0 }
+
 static const struct row rows[] = {
-    { "nothing", NOTHING, &heartbeat, 0, 1000 },
-    { "read, Heartbeat", READ, &heartbeat, 0, 2000 },
-    { "read, AD with two parties", READ, &request, 0, 2000 },
-    { "read, body of 2,048", READ, &greatest, 0, 500 },
-    { "read, noise of 20,000", READ, &noise, 1, 50 },
-    { "read, noise of 200,000", READ, &noise, 10, 5 },
-    { "read, marks of 20,000", READ, &marks, 1, 50 },
-    { "read, marks of 200,000", READ, &marks, 10, 5 },
-    { "read, torn messages of 20,000", READ, &torn, 1, 50 },
-    { "read, torn messages of 200,000", READ, &torn, 10, 5 },
-    { "stream byte by byte, 10 AD", STREAM, &stream, 10, 5 },
-    { "stream byte by byte, 100 AD", STREAM, &stream, 100, 1 },
-    { "verdict, Heartbeat", VERDICT, &heartbeat, 0, 2000 },
-    { "verdict, AD with two parties", VERDICT, &request, 0, 2000 },
-    { "verdict, body of 2,048", VERDICT, &greatest, 0, 500 },
-    { "step, Heartbeat", STEP, &heartbeat, 0, 2000 },
-    { "step, AD with two parties", STEP, &request, 0, 2000 },
-    { "step, body of 2,048", STEP, &greatest, 0, 500 },
-    { "step, Test Request and its answer", STEP, &test_request, 0, 2000 },
-    { "tick, Heartbeat out", TICK, &heartbeat, 0, 2000 },
-    { "verdict, AE with two parties", VERDICT, &report, 0, 2000 },
-    { "report, AE with two parties", REPORT, &report, 0, 2000 },
-    { "report-values, AE with two parties", REPORT_VALUES, &report, 0, 2000 },
-    { "report, the same into a full store", REPORT_FULL, &report, 0, 50 },
-    { "replay, that report, full store", REPLAY_REPORT, &report, 0, 500 },
-    { "replay, gap fill, full store", REPLAY_FILL, &report, 0, 500 },
+    ON("nothing", NOTHING, heartbeat, 1000),
+    ON("read, Heartbeat", READ, heartbeat, 2000),
+    ON("read, AD with two parties", READ, request, 2000),
+    ON("read, body of 2,048", READ, greatest, 500),
+    BY("longest frame byte by byte, read after each", stream, greatest, 2),
+    BY("longest frame byte by byte, read behind a byte 1", sparing, greatest, 10),
+    ON("verdict, Heartbeat", VERDICT, heartbeat, 2000),
+    ON("verdict, AD with two parties", VERDICT, request, 2000),
+    ON("verdict, body of 2,048", VERDICT, greatest, 500),
+    ON("step, Heartbeat", STEP, heartbeat, 2000),
+    ON("step, AD with two parties", STEP, request, 2000),
+    ON("step, body of 2,048", STEP, greatest, 500),
+    ON("step, Test Request and its answer", STEP, test_request, 2000),
+    BY("step, Logon and its answer", waiting_step, logon, 2000),
+    BY("step, Logon with 141=Y and its answer", waiting_step, reset_logon, 200),
+    BY("step, Logout and its answer", active_step, logout, 2000),
+    BY("step, Heartbeat with a finding: Reject out", active_step, unclean, 2000),
+    BY("step, Heartbeat too high: Resend Request out", active_step, too_high, 2000),
+    ON("tick, Heartbeat out", TICK, heartbeat, 2000),
+    BY("logout, Logout out", logout, logout_out, 2000),
+    BY("test request, Test Request out", test_request, test_request_out, 2000),
+    BY("write, Heartbeat", message, heartbeat_out, 2000),
+    BY("write, Logon", message, logon_out, 2000),
+    BY("write, Reject with all values", message, reject_out, 2000),
+    ON("verdict, AE with two parties", VERDICT, report, 2000),
+    ON("report, AE with two parties", REPORT, report, 2000),
+    ON("report-values, AE with two parties", REPORT_VALUES, report, 2000),
+    FULL("report, the same into a full store", REPORT_FULL, report, 50),
+    FULL("replay, that report, full store", REPLAY_REPORT, report, 500),
+    FULL("replay, gap fill, full store", REPLAY_FILL, gap_fill, 500),
+    ON("replay, gap fill, empty store", REPLAY_FILL, gap_fill_of_all, 500),
+    LENGTH("read, noise of 2,000", READ, noise, "noise", 2000, 500),
+    LENGTH("read, noise of 20,000", READ, noise, "noise", 20000, 50),
+    LENGTH("read, noise of 200,000", READ, noise, "noise", 200000, 5),
+    LENGTH("read, marks of 2,000", READ, marks, "marks", 2000, 500),
+    LENGTH("read, marks of 20,000", READ, marks, "marks", 20000, 50),
+    LENGTH("read, marks of 200,000", READ, marks, "marks", 200000, 5),
+    LENGTH("read, torn messages of 2,000", READ, torn, "torn", 2000, 500),
+    LENGTH("read, torn messages of 20,000", READ, torn, "torn", 20000, 50),
+    LENGTH("read, torn messages of 200,000", READ, torn, "torn", 200000, 5),
+    STREAM("stream byte by byte, 1 AD", stream, stream, "AD", 1, 50),
+    STREAM("stream byte by byte, 10 AD", stream, stream, "AD", 10, 5),
+    STREAM("stream byte by byte, 100 AD", stream, stream, "AD", 100, 1),
+    STREAM("stream, read behind a byte 1, 1 AD", sparing, stream, "sparing AD", 1, 100),
+    STREAM("stream, read behind a byte 1, 10 AD", sparing, stream, "sparing AD", 10, 10),
+    STREAM("stream, read behind a byte 1, 100 AD", sparing, stream, "sparing AD", 100, 1),
+    STREAM("longest frames byte by byte, 1", stream, greatest_stream, "longest", 1, 2),
+    STREAM("longest frames byte by byte, 10", stream, greatest_stream, "longest", 10, 1),
+    STREAM("longest frames, read behind a byte 1, 1", sparing, greatest_stream, "sparing longest", 1, 10),
+    STREAM("longest frames, read behind a byte 1, 10", sparing, greatest_stream, "sparing longest", 10, 1),
+    PIECE("put and drop, 20", 20, 2000),
+    PIECE("put and drop, 200", 200, 2000),
+    PIECE("put and drop, 2,000", 2000, 500),
+    LENGTH("verdict, 2 fields more", VERDICT, few_fields, "verdict", 0, 2000),
+    LENGTH("verdict, 20 fields more", VERDICT, some_fields, "verdict", 0, 500),
+    LENGTH("verdict, 200 fields more", VERDICT, many_fields, "verdict", 0, 100),
+    FIELDS("first field, behind 2 more", few_fields, 2000),
+    FIELDS("first field, behind 20 more", some_fields, 500),
+    FIELDS("first field, behind 200 more", many_fields, 100),
 };
 
 enum { ROWS = sizeof rows / sizeof rows[0] };
 
 static size_t length_of(const struct row *row)
 {
-    if (row->parts == 0)
-        return row->bytes->len;
-    return row->parts * (row->kind == STREAM ? request.len : LONG / 10);
+    if (row->messages > 0)
+        return row->messages * row->bytes->each;
+    return row->len > 0 ? row->len : row->bytes->len;
 }
 
 static size_t messages_of(const struct row *row)
 {
-    return row->kind == STREAM ? row->parts : 1;
+    return row->messages > 0 ? row->messages : 1;
 }
 
 static void read_ours(const uint8_t *bytes, size_t len)
@@ -182,8 +232,8 @@ struct plain_session plain_of(const struct fixgw_session *session)
 }
 
 /* The records of the calls that are measured; before each, what a call may change is set back. */
-static struct fixgw_session our_record;
-static struct plain_session plain_record;
+static ALIGNED struct fixgw_session our_record;
+static ALIGNED struct plain_session plain_record;
 struct plain_session plain_active;
 
 static void make_records(void)
@@ -210,7 +260,7 @@ struct plain_session *set_back_plain(const struct plain_session *to)
     return &plain_record;
 }
 
-uint8_t our_store[FIXGW_STORE], plain_store[FIXGW_STORE];
+ALIGNED uint8_t our_store[FIXGW_STORE], plain_store[FIXGW_STORE];
 const uint8_t no_reports[FIXGW_STORE];
 static const uint8_t *lent = no_reports;
 static bool is_changed;                     /* whether a call may have changed the stores since */
@@ -225,7 +275,7 @@ void lend(const uint8_t store[FIXGW_STORE])
 
 static void step_ours(const uint8_t *frame, size_t len)
 {
-    static uint8_t reply[FIXGW_LEAST_REPLY_ROOM];
+    static ALIGNED uint8_t reply[FIXGW_LEAST_REPLY_ROOM];
     uint64_t out[2];
     uint32_t refusal = fixgw_session_step(set_back(&active), frame, len, CALL_TIME, reply, sizeof reply, our_store,
                                           sizeof our_store, out);
@@ -234,7 +284,7 @@ static void step_ours(const uint8_t *frame, size_t len)
 
 static void step_plain(const uint8_t *frame, size_t len)
 {
-    static uint8_t reply[FIXGW_LEAST_REPLY_ROOM];
+    static ALIGNED uint8_t reply[FIXGW_LEAST_REPLY_ROOM];
     uint64_t out[2];
     uint32_t refusal = plain_step(set_back_plain(&plain_active), frame, len, CALL_TIME, reply, sizeof reply, plain_store,
                                   sizeof plain_store, out);
@@ -243,51 +293,16 @@ static void step_plain(const uint8_t *frame, size_t len)
 
 static void tick_ours(void)
 {
-    static uint8_t reply[FIXGW_LEAST_REPLY_ROOM];
+    static ALIGNED uint8_t reply[FIXGW_LEAST_REPLY_ROOM];
     uint64_t out[1];
     sink += fixgw_session_tick(set_back(&active), CALL_TIME, reply, sizeof reply, out) + out[0];
 }
 
 static void tick_plain(void)
 {
-    static uint8_t reply[FIXGW_LEAST_REPLY_ROOM];
+    static ALIGNED uint8_t reply[FIXGW_LEAST_REPLY_ROOM];
     uint64_t out[1];
     sink += plain_tick(set_back_plain(&plain_active), CALL_TIME, reply, sizeof reply, out) + out[0];
-}
-
-static void stream_ours(const uint8_t *bytes, size_t len)
-{
-    static uint8_t line[LINE_ROOM];
-    uint64_t held = 0, out[2];
-    for (size_t i = 0; i < len; i++) {
-        held += fixgw_put(line, sizeof line, held, bytes + i, 1);
-        while (fixgw_read(line, held, out) == FIXGW_OK) {
-            sink += out[1];
-            held = fixgw_drop(line, sizeof line, held, out[0] + out[1]);
-        }
-        held = fixgw_drop(line, sizeof line, held, out[0]);
-    }
-}
-
-static size_t dropped(uint8_t *line, size_t held, size_t n)
-{
-    if (n > 0)
-        memmove(line, line + n, held - n);
-    return held - n;
-}
-
-static void stream_plain(const uint8_t *bytes, size_t len)
-{
-    static uint8_t line[LINE_ROOM];
-    size_t held = 0, skip, found;
-    for (size_t i = 0; i < len; i++) {
-        line[held++] = bytes[i];
-        while ((found = plain_read(line, held, &skip)) > 0) {
-            sink += found;
-            held = dropped(line, held, skip + found);
-        }
-        held = dropped(line, held, skip);
-    }
 }
 
 static void run_once(const struct row *row, enum side side)
@@ -298,7 +313,8 @@ static void run_once(const struct row *row, enum side side)
     case READ: (side == OURS ? read_ours : read_plain)(bytes, len); break;
     case VERDICT: (side == OURS ? verdict_ours : verdict_plain)(bytes + row->bytes->body, row->bytes->body_len); break;
     case STEP: (side == OURS ? step_ours : step_plain)(bytes, len); break;
-    case STREAM: (side == OURS ? stream_ours : stream_plain)(bytes, len); break;
+    case CALL: (side == OURS ? row->ours : row->plain)(bytes, len); break;
+    case FIELD: (side == OURS ? row->ours : row->plain)(bytes + row->bytes->body, row->bytes->body_len); break;
     case TICK: (side == OURS ? tick_ours : tick_plain)(); break;
     case REPORT: (side == OURS ? report_ours : report_plain)(); break;
     case REPORT_FULL: (side == OURS ? report_full_ours : report_full_plain)(); break;
@@ -327,7 +343,7 @@ static void check_read(const struct row *row)
     size_t len = length_of(row), skip, found = plain_read(row->bytes->at, len, &skip);
     uint32_t refusal = fixgw_read(row->bytes->at, len, out);
     insist(refusal == (found ? FIXGW_OK : FIXGW_REFUSED_NO_FRAME_YET) && out[0] == skip && out[1] == found, row->what);
-    insist(found == (row->parts ? 0 : len), row->what);
+    insist(found == (row->len > 0 ? 0 : len), row->what);
 }
 
 static void check_verdict(const struct row *row)
@@ -352,8 +368,7 @@ struct pair pair_on(const struct fixgw_session *session, const char *what)
 
 static bool refusal_met[FIXGW_REFUSED_STORE + 1], reply_met[256];   /* by the type of a first reply */
 
-/* The type of the first message of a reply, which has one byte; 0 for no reply. */
-static uint8_t first_type(const uint8_t *reply, size_t len)
+uint8_t first_type(const uint8_t *reply, size_t len)
 {
     uint64_t found[2], body[2];
     if (fixgw_read(reply, len, found) || fixgw_body(reply + found[0], found[1], body))
@@ -390,8 +405,8 @@ static void check_step_on(const char *what, const struct fixgw_session *session,
     check_pair(&pair, refusal, plain_refusal, out[1]);
 }
 
-static void check_step(const char *what, const struct fixgw_session *session, const struct bytes *frame, size_t len,
-                       uint64_t time, size_t room)
+void check_step(const char *what, const struct fixgw_session *session, const struct bytes *frame, size_t len, uint64_t time,
+                size_t room)
 {
     check_step_on(what, session, frame, len, time, room, FIXGW_STORE);
 }
@@ -495,6 +510,7 @@ static void check_sessions(void)
         lend(full_store);
         check_bodies(&records[i]);
         check_calls(&records[i]);
+        check_messages(&records[i]);
         check_replays(&records[i]);
         check_report_on("a report into a full store", &records[i]);
         lend(no_reports);
@@ -503,13 +519,31 @@ static void check_sessions(void)
     }
     for (size_t i = 0; i < sizeof refusals; i++)
         insist(refusal_met[refusals[i]], "the refusals of a session");
-    for (const char *type = "02345A"; *type; type++)        /* of a replay's messages the gap fill alone */
+    for (const char *type = "012345A"; *type; type++)        /* of a replay's messages the gap fill alone */
         insist(reply_met[(uint8_t)*type], "the replies of a session");
-    for (size_t i = 0; i < BODIES; i++)
+    for (size_t i = 0; i < BODIES; i++) {
         check_values(bodies[i]);
+        check_first_field(bodies[i]);
+    }
     check_report_bodies();
     check_places();
     check_stores();
+}
+
+/* In single bytes: what is measured, and bytes that hold no frame, with a frame behind them. */
+static void check_lines(void)
+{
+    static struct bytes mixed;
+    const struct bytes *parts[] = { &noise, &heartbeat, &marks, &request, &torn, &greatest, &heartbeat };
+    check_streams(stream.at, 10 * stream.each);
+    check_streams(greatest_stream.at, 2 * greatest_stream.each);
+    for (size_t i = 0; i < sizeof parts / sizeof parts[0]; i++) {
+        size_t len = parts[i]->len < 5000 ? parts[i]->len : 5000;
+        memcpy(mixed.at + mixed.len, parts[i]->at, len);
+        mixed.len += len;
+    }
+    check_streams(mixed.at, mixed.len);
+    check_pieces();
 }
 
 static void check_all(void)
@@ -526,6 +560,10 @@ static void check_all(void)
             check_tick(row->what, &active, CALL_TIME, ROOM);
     }
     check_sessions();
+    check_lines();
+    check_fields();
+    check_replies();
+    check_writer();
 }
 
 /* ---- Measuring --------------------------------------------------------------------------------------------------- */
@@ -543,7 +581,7 @@ static uint64_t time_of(size_t section, uint64_t repeats)
 {
     const struct row *row = &rows[section / 2];
     enum side side = section % 2 ? PLAIN : OURS;
-    lend(row->kind == REPORT_FULL || row->kind == REPLAY_REPORT || row->kind == REPLAY_FILL ? full_store : no_reports);
+    lend(row->store);
     uint64_t began = nanoseconds();
     close(MARK_OF_COUNTER);
     for (uint64_t i = 0; i < repeats; i++)
@@ -561,9 +599,9 @@ static void measure(size_t section, uint64_t repeats, uint64_t turns)
         uint64_t time = time_of(section, repeats);
         best = time < best ? time : best;
     }
-    printf("%lu|%s|%lu|%lu|%s|%lu|%lu\n", (unsigned long)section, row->what, (unsigned long)length_of(row),
+    printf("%lu|%s|%lu|%lu|%s|%lu|%lu|%s\n", (unsigned long)section, row->what, (unsigned long)length_of(row),
            (unsigned long)messages_of(row), section % 2 ? "plain" : "ours", (unsigned long)repeats,
-           (unsigned long)best);
+           (unsigned long)best, row->series);
 }
 
 static uint64_t number_of(const char *text)
@@ -578,6 +616,9 @@ static uint64_t number_of(const char *text)
 int main(int count, char **words)
 {
     make_all();
+    make_bodies();
+    make_replies();
+    make_drafts();
     make_records();
     make_draft();
     make_stores();

@@ -6,7 +6,7 @@
 #include "fixgw.h"
 #include "plain.h"
 
-enum { LONG = 200000 };                     /* bytes of the long rows; the short ones have a tenth */
+enum { LONG = 200000 };                     /* bytes of the longest rows */
 
 #define CALL_TIME 1704187800000000u         /* 20240102-09:30:00.000000 */
 #define NUMBERED(type, number) "35=" type "|49=MM|56=GW|34=" number "|52=20240102-09:30:00.000000|"
@@ -19,10 +19,17 @@ enum { LONG = 200000 };                     /* bytes of the long rows; the short
 #define REPORT_SIDE "552=1|54=1|1427=EX-20240102-000001|"
 #define REPORT_PARTIES "453=2|448=MEMBERFIRM|447=D|452=1|448=TRADER-0000007|447=D|452=12|"
 
+/* At a fixed place in their line of the cache, as memchr's way depends on it. */
+#define ALIGNED _Alignas(64)
+
 struct bytes {
-    uint8_t at[LONG + 8];
+    ALIGNED uint8_t at[LONG + 8];
     size_t len, body, body_len;             /* of a frame also where its body lies */
+    size_t each;                            /* of frames in a row the length of one */
 };
+
+/* One side of what is measured, on the bytes of its row. */
+typedef void run(const uint8_t *bytes, size_t len);
 
 extern struct bytes report;
 extern uint64_t sink;                       /* so that no call is left out as useless */
@@ -61,6 +68,52 @@ struct pair {
 
 struct pair pair_on(const struct fixgw_session *session, const char *what);
 void check_pair(const struct pair *pair, uint32_t refusal, uint32_t plain_refusal, size_t reply_len);
+void check_step(const char *what, const struct fixgw_session *session, const struct bytes *frame, size_t len, uint64_t time,
+                size_t room);
+
+/* The type of the first message of a reply, which has one byte; 0 for no reply. */
+uint8_t first_type(const uint8_t *reply, size_t len);
+
+/* ---- A line (bench_stream.c) ------------------------------------------------------------------------------------- */
+
+run stream_ours, stream_plain;              /* read behind each byte */
+run sparing_ours, sparing_plain;            /* read behind a byte 1 alone */
+run piece_ours, piece_plain;                /* put and dropped */
+
+/* The bytes one by one, all ways; pieces of all kinds. */
+void check_streams(const uint8_t *bytes, size_t len);
+void check_pieces(void);
+
+/* ---- Fields (bench_fields.c) ------------------------------------------------------------------------------------- */
+
+extern struct bytes few_fields, some_fields, many_fields;
+
+void make_bodies(void);
+run first_field_ours, first_field_plain;    /* on a body */
+
+/* One body in text; bodies of all kinds. */
+void check_first_field(const char *text);
+void check_fields(void);
+
+/* ---- Replies (bench_replies.c) ----------------------------------------------------------------------------------- */
+
+extern struct bytes logon, reset_logon, logout, unclean, too_high, logout_out, test_request_out;
+
+void make_replies(void);
+run active_step_ours, active_step_plain, waiting_step_ours, waiting_step_plain;
+run logout_ours, logout_plain, test_request_ours, test_request_plain;
+
+/* Logouts and Test Requests of all kinds on one record; the steps and calls that are measured. */
+void check_messages(const struct fixgw_session *session);
+void check_replies(void);
+
+/* ---- The writer (bench_write.c) ---------------------------------------------------------------------------------- */
+
+extern struct bytes heartbeat_out, logon_out, reject_out;
+
+void make_drafts(void);
+run message_ours, message_plain;
+void check_writer(void);
 
 /* ---- Reports (bench_report.c) ------------------------------------------------------------------------------------ */
 
@@ -86,6 +139,7 @@ void each_report_body(void (*check)(const char *text));
 /* ---- Stores (bench_store.c) -------------------------------------------------------------------------------------- */
 
 extern uint8_t full_store[FIXGW_STORE];
+extern struct bytes gap_fill, gap_fill_of_all;
 
 void make_stores(void);
 void report_full_ours(void);

@@ -1,7 +1,7 @@
 /* Reports, written and read back, on both sides. */
 #include "bench.h"
 
-static struct fixgw_report_draft draft;
+static ALIGNED struct fixgw_report_draft draft;
 
 static void give(struct fixgw_report_draft *to, uint32_t tag, const char *text)
 {
@@ -42,7 +42,7 @@ void make_draft(void)
 
 uint64_t report_on(struct fixgw_session *session, uint8_t store[FIXGW_STORE])
 {
-    static uint8_t reply[FIXGW_REPORT_MOST];
+    static ALIGNED uint8_t reply[FIXGW_REPORT_MOST];
     uint64_t out[1];
     uint32_t refusal = fixgw_session_report(session, &draft, CALL_TIME, reply, sizeof reply, store, FIXGW_STORE, out);
     return refusal + out[0];
@@ -50,7 +50,7 @@ uint64_t report_on(struct fixgw_session *session, uint8_t store[FIXGW_STORE])
 
 uint64_t plain_report_on(struct plain_session *session, uint8_t store[FIXGW_STORE])
 {
-    static uint8_t reply[FIXGW_REPORT_MOST];
+    static ALIGNED uint8_t reply[FIXGW_REPORT_MOST];
     uint64_t out[1];
     uint32_t refusal = plain_report(session, draft.values, draft.text, draft.text_len, CALL_TIME, reply, sizeof reply,
                                     store, FIXGW_STORE, out);
@@ -113,7 +113,7 @@ void check_report_on(const char *what, const struct fixgw_session *session)
 
 void fill_store(uint8_t store[FIXGW_STORE], uint64_t first, uint64_t last)
 {
-    static uint8_t reply[FIXGW_REPORT_MOST];
+    static ALIGNED uint8_t reply[FIXGW_REPORT_MOST];
     uint64_t out[1];
     struct fixgw_session session = active;
     for (session.words[FIXGW_WORD_NEXT_OUT] = first; session.words[FIXGW_WORD_NEXT_OUT] <= last;)

@@ -4,15 +4,20 @@
 /* The store that is measured: the last 64 of these reports, so that the lowest number stands in its midst. */
 enum { FIRST = 16, NEXT = 100, TAKEN = NEXT - FIRST - FIXGW_STORE_PLACES };
 
-uint8_t full_store[FIXGW_STORE];
+ALIGNED uint8_t full_store[FIXGW_STORE];
+struct bytes gap_fill, gap_fill_of_all;
 
 static const struct fixgw_session storing = RECORD(2, 2, FIXGW_ACTIVE, 2, NEXT, 30, 0);
 static const struct fixgw_session repeating = RECORD(2, 2, FIXGW_ACTIVE, 2, NEXT, 30, 0, 70, 99);
 static const struct fixgw_session filling = RECORD(2, 2, FIXGW_ACTIVE, 2, NEXT, 30, 0, 1, 99);
 static struct plain_session plain_storing, plain_repeating, plain_filling;
 
+#define GAP_FILL(next) "35=4|49=GW|56=MM|34=1|43=Y|52=20240102-09:30:00.000000|122=20240102-09:30:00.000000|123=Y|36=" next "|"
+
 void make_stores(void)
 {
+    make_frame(&gap_fill, GAP_FILL("36"));
+    make_frame(&gap_fill_of_all, GAP_FILL("100"));
     fill_store(full_store, FIRST, NEXT - 1);
     plain_storing = plain_of(&storing);
     plain_repeating = plain_of(&repeating);
@@ -39,18 +44,20 @@ void report_full_plain(void)
     sink += plain_report_on(set_back_plain(&plain_storing), plain_store);
 }
 
-static void replay_ours(const struct fixgw_session *session)
+static ALIGNED uint8_t our_reply[FIXGW_LEAST_REPLY_ROOM];
+
+static uint64_t replay_ours(const struct fixgw_session *session)
 {
-    static uint8_t reply[FIXGW_LEAST_REPLY_ROOM];
     uint64_t out[1];
-    uint32_t refusal = fixgw_session_replay(set_back(session), CALL_TIME, reply, sizeof reply, our_store,
+    uint32_t refusal = fixgw_session_replay(set_back(session), CALL_TIME, our_reply, sizeof our_reply, our_store,
                                             sizeof our_store, out);
     sink += refusal + out[0];
+    return out[0];
 }
 
 static void replay_plain(const struct plain_session *session)
 {
-    static uint8_t reply[FIXGW_LEAST_REPLY_ROOM];
+    static ALIGNED uint8_t reply[FIXGW_LEAST_REPLY_ROOM];
     uint64_t out[1];
     uint32_t refusal = plain_replay(set_back_plain(session), CALL_TIME, reply, sizeof reply, plain_store,
                                     sizeof plain_store, out);
@@ -188,6 +195,13 @@ void check_places(void)
     insist(kept > 0 && empty > 0, "the places of a store");
 }
 
+/* The gap fill that is measured, on the store that is lent. */
+static void check_gap_fill(const struct bytes *message)
+{
+    insist(!check_replay("the gap fill", &filling, CALL_TIME, FIXGW_LEAST_REPLY_ROOM, FIXGW_STORE), "the gap fill");
+    insist(replay_ours(&filling) == message->len && memcmp(our_reply, message->at, message->len) == 0, "the gap fill");
+}
+
 /* The same number twice, in places that are full and in one that is not, and the calls that are measured. */
 void check_stores(void)
 {
@@ -208,5 +222,7 @@ void check_stores(void)
     insist(memcmp(our_store + FIXGW_STORE_PLACE * TAKEN, full_store + FIXGW_STORE_PLACE * TAKEN, FIXGW_STORE_PLACE) != 0,
            "the place of the lowest number");
     insist(check_replay("the report again", &repeating, CALL_TIME, FIXGW_LEAST_REPLY_ROOM, FIXGW_STORE), "the report");
-    insist(!check_replay("the gap fill", &filling, CALL_TIME, FIXGW_LEAST_REPLY_ROOM, FIXGW_STORE), "the gap fill");
+    check_gap_fill(&gap_fill);
+    lend(no_reports);
+    check_gap_fill(&gap_fill_of_all);
 }

@@ -12,11 +12,20 @@ typedef __UINT64_TYPE__ uint64_t;
 void *memchr(const void *, int, size_t);
 int memcmp(const void *, const void *, size_t);
 void *memcpy(void *, const void *, size_t);
+void *memmove(void *, const void *, size_t);
 void *memset(void *, int, size_t);
 
 /* One reading of s[0..n): the length of the leftmost good frame, with the number of bytes skipped before it; or 0,
    which is refusal 1, with the number of bytes to drop. */
 size_t plain_read(const uint8_t *s, size_t n, size_t *skip_or_drop);
+
+/* How many bytes of a piece are put behind the first `held` of a line buffer; how many are held once n of them are dropped
+   from its front. */
+uint64_t plain_put(uint8_t *buf, size_t room, uint64_t held, const uint8_t *piece, size_t n);
+uint64_t plain_drop(uint8_t *buf, size_t room, uint64_t held, uint64_t n);
+
+/* The first field of a tag in a body: 0 or refusal 10; out is {1, start, end} of its value, or {0, 0, 0}. */
+uint32_t plain_first_field(const uint8_t *body, size_t n, uint32_t tag, uint64_t out[3]);
 
 /* The verdict on one body: 0 clean, 1 no body (refusal 10), else 2 + reason + 256 * tag. */
 uint32_t plain_verdict(const uint8_t *body, size_t n);
@@ -42,6 +51,11 @@ uint32_t plain_step(struct plain_session *session, const uint8_t *frame, size_t 
                     size_t room, uint8_t *store, size_t store_size, uint64_t out[2]);
 uint32_t plain_tick(struct plain_session *session, uint64_t time, uint8_t *buf, size_t room, uint64_t out[1]);
 
+/* The venue's Logout, and its Test Request with this 112: 0 or a refusal; out is {message length}. */
+uint32_t plain_logout(struct plain_session *session, uint64_t time, uint8_t *buf, size_t room, uint64_t out[1]);
+uint32_t plain_test_request(struct plain_session *session, const uint8_t *id, size_t id_size, uint64_t time, uint8_t *buf,
+                            size_t room, uint64_t out[1]);
+
 enum { PLAIN_PARTIES = 8, PLAIN_WORDS = 82 };
 
 /* A report: 0 or a refusal; out is {report length}. The values lie as the library's: eleven of three words {given, a,
@@ -59,5 +73,12 @@ void plain_keep(const struct plain_session *session, uint8_t *store, const uint8
 
 /* The values of a report's body: 0 or refusal 10; out is {0, 0, 0} or {1, reason, tag}. */
 uint32_t plain_report_values(const uint8_t *body, size_t n, uint64_t values[PLAIN_WORDS], uint64_t out[3]);
+
+enum { PLAIN_SLOTS = 21 };
+
+/* Writes one of the seven administrative messages: 0 or a refusal; out is {message length}. The values lie as the library's:
+   three words {given, a, b} for each of 21 tags, numbers in a, others from a to b in the text. */
+uint32_t plain_write(const uint8_t *type, size_t type_size, const uint64_t values[3 * PLAIN_SLOTS], const uint8_t *text,
+                     size_t text_size, uint8_t *buf, size_t room, uint64_t out[1]);
 
 #endif

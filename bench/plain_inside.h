@@ -13,6 +13,8 @@
 #define LEAST_ROOM 600
 #define TRAILER_SIZE 7
 #define END_OF_TIME 253402300800000000u
+#define LEAST_BODY 5
+#define GREATEST_BODY 2048
 
 enum { WAITING, ACTIVE, CLOSED };
 
@@ -63,6 +65,22 @@ static inline int in_range(const struct plain_session *session)
 static inline int is_used_up(const struct plain_session *session)
 {
     return session->expected > LAST_USABLE || session->next_out > LAST_USABLE;
+}
+
+/* ---- Bytes ------------------------------------------------------------------------------------------------------- */
+
+static inline int is_body(const uint8_t *s, size_t n)
+{
+    return n >= LEAST_BODY && n <= GREATEST_BODY && memcmp(s, "35=", 3) == 0 && s[n - 1] == BAR;
+}
+
+/* For what is short: no way out, so that the compiler takes sixteen bytes at once. */
+static inline int has_bar(const uint8_t *s, size_t n)
+{
+    unsigned bars = 0;
+    for (size_t i = 0; i < n; i++)
+        bars |= s[i] == BAR;
+    return bars != 0;
 }
 
 /* ---- Writing ----------------------------------------------------------------------------------------------------- */
@@ -154,6 +172,12 @@ static inline uint8_t *put_ids(uint8_t *to, const struct plain_session *session,
     to = PUT(to, "35=");
     *to++ = (uint8_t)type;
     return put_comp_ids(to, session, number);
+}
+
+/* Mark, length with its `|`, body and trailer. A body that is written has two or three digits of length. */
+static inline size_t frame_size(size_t body)
+{
+    return MARK_SIZE + (body < 100 ? 2 : 3) + 1 + body + TRAILER_SIZE;
 }
 
 /* The frame around a body, which ends with `|`; where it ends. */

@@ -151,12 +151,6 @@ static uint32_t refusal_of_report(const struct plain_session *session, uint64_t 
     return is_used_up(session) ? USED_UP : 0;
 }
 
-/* Mark, length with its `|`, body and trailer. A body has at most three digits. */
-static size_t frame_size(size_t body)
-{
-    return MARK_SIZE + (body < 100 ? 2 : 3) + 1 + body + TRAILER_SIZE;
-}
-
 uint32_t plain_report(struct plain_session *session, const uint64_t values[PLAIN_WORDS], const uint8_t *text,
                       size_t text_size, uint64_t time, uint8_t *buf, size_t room, uint8_t *store, size_t store_size,
                       uint64_t out[1])
