@@ -23,7 +23,7 @@ struct look {
 };
 
 /* The first mark that lies in s[from..n) whole, or n. No two marks overlap. */
-static size_t next_mark(const uint8_t *s, size_t from, size_t n)
+static size_t scan_for_mark(const uint8_t *s, size_t from, size_t n)
 {
     while (from + MARK_SIZE <= n) {
         const uint8_t *rare = memchr(s + from + MARK_RARE, MARK[MARK_RARE], n - from - (MARK_SIZE - 1));
@@ -35,6 +35,14 @@ static size_t next_mark(const uint8_t *s, size_t from, size_t n)
         from = at + 1;
     }
     return n;
+}
+
+/* The same where as a rule one stands at once. */
+static size_t next_mark(const uint8_t *s, size_t from, size_t n)
+{
+    if (from + MARK_SIZE <= n && memcmp(s + from, MARK, MARK_SIZE) == 0)
+        return from;
+    return scan_for_mark(s, from, n);
 }
 
 /* Modulo 256 is what a byte holds. */
@@ -63,10 +71,10 @@ static struct look look_at_body(const uint8_t *s, size_t n, size_t p, size_t bod
 {
     struct look look = { DEAD, 0, body };
     size_t there = n - body;
-    if (memcmp(s + body, "35=", there < 3 ? there : 3) != 0)
+    if (there >= 3 ? memcmp(s + body, "35=", 3) != 0 : memcmp(s + body, "35=", there) != 0)
         return look;
     size_t limit = there < size ? n : body + size;
-    look.next = next_mark(s, body, limit);
+    look.next = scan_for_mark(s, body, limit);
     if (look.next < limit)
         return look;                                        /* a second mark, before anything is taken at its word */
     look.next = limit - body < MARK_SIZE ? body : limit - (MARK_SIZE - 1);
