@@ -25,29 +25,47 @@ static inline uint32_t number(const uint8_t *s, size_t n)
     return value;
 }
 
+/* Eight bytes as they lie. */
+static inline uint64_t word(const void *s)
+{
+    uint64_t word;
+    memcpy(&word, s, sizeof word);
+    return word;
+}
+
+/* Whether eight bytes have a form: a digit where the form has a 0, and its own byte elsewhere. Of a digit
+   and '0' the bits apart are a number up to 9, of another byte a greater one: past 15, or past 15 with 6 put to it. */
+static inline int is_formed(const uint8_t *s, const char form[8])
+{
+    uint64_t digits = 0, apart = word(s) ^ word(form);
+    for (size_t i = 0; i < 8; i++)
+        ((uint8_t *)&digits)[i] = form[i] == '0';
+    return !((apart & ~(15 * digits)) | ((apart + 6 * digits) & (16 * digits)));
+}
+
 static inline uint32_t calendar(const uint8_t *s)
 {
     static const uint8_t days[13] = { 0, 31, 29, 31, 30, 31, 30, 31, 31, 30, 31, 30, 31 };
     uint32_t year = number(s, 4), month = number(s + 4, 2), day = number(s + 6, 2);
     if (year == 0 || month == 0 || month > 12 || day == 0 || day > days[month])
         return 5;
-    int leap = year % 4 == 0 && (year % 100 != 0 || year % 400 == 0);
-    return month == 2 && day == 29 && !leap ? 5 : 0;
+    if (month != 2 || day != 29)
+        return 0;
+    return year % 4 == 0 && (year % 100 != 0 || year % 400 == 0) ? 0 : 5;
 }
 
 static inline uint32_t check_date(const uint8_t *s, size_t n)
 {
-    return n != 8 || !all_digits(s, 8) ? 6 : calendar(s);
+    return n != 8 || !is_formed(s, "00000000") ? 6 : calendar(s);
 }
 
 static inline uint32_t check_time(const uint8_t *s, size_t n)
 {
     if (n != 17 && n != 21 && n != 24)
         return 6;
-    if (s[8] != '-' || s[11] != ':' || s[14] != ':' || !all_digits(s, 8) || !all_digits(s + 9, 2)
-        || !all_digits(s + 12, 2) || !all_digits(s + 15, 2))
+    if (!is_formed(s, "00000000") || s[8] != '-' || !is_formed(s + 9, "00:00:00"))
         return 6;
-    if (n > 17 && (s[17] != '.' || !all_digits(s + 18, n - 18)))
+    if ((n == 21 && !is_formed(s + 13, "0:00.000")) || (n == 24 && !is_formed(s + 16, "0.000000")))
         return 6;
     if (number(s + 9, 2) > 23 || number(s + 12, 2) > 59 || number(s + 15, 2) > 60)
         return 5;
