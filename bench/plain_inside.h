@@ -180,19 +180,45 @@ static inline size_t frame_size(size_t body)
     return MARK_SIZE + (body < 100 ? 2 : 3) + 1 + body + TRAILER_SIZE;
 }
 
-/* The frame around a body, which ends with `|`; where it ends. */
-static inline uint8_t *put_frame(uint8_t *front, const uint8_t *body, size_t size)
+/* The trailer behind a frame's body; where it ends. */
+static inline uint8_t *put_trailer(const uint8_t *front, uint8_t *to)
 {
-    uint8_t *to = PUT(front, MARK);
-    to = put_number(to, size);
-    *to++ = BAR;
-    to = put(to, body, size);
     uint8_t sum = plain_sum(front, (size_t)(to - front));
     to = PUT(to, "10=");
     *to++ = (uint8_t)('0' + sum / 100);
     to = put_pair(to, sum % 100);
     *to++ = BAR;
     return to;
+}
+
+/* The frame around a body, which ends with `|`; where it ends. */
+static inline uint8_t *put_frame(uint8_t *front, const uint8_t *body, size_t size)
+{
+    uint8_t *to = PUT(front, MARK);
+    to = put_number(to, size);
+    *to++ = BAR;
+    return put_trailer(front, put(to, body, size));
+}
+
+/* Where the body of a message is put straight away, with room for two digits of length before it. */
+static inline uint8_t *body_in(uint8_t *front)
+{
+    return front + MARK_SIZE + sizeof "50|" - 1;
+}
+
+/* The frame around a body that stands there and ends at `end`; a long one makes room for a digit more. */
+static inline uint8_t *put_around(uint8_t *front, uint8_t *end)
+{
+    uint8_t *body = body_in(front), *to = PUT(front, MARK);
+    size_t size = (size_t)(end - body);
+    if (size >= 100) {
+        memmove(body + 1, body, size);
+        *to++ = (uint8_t)('0' + size / 100);
+        end++;
+    }
+    to = put_pair(to, (uint32_t)size % 100);
+    *to = BAR;
+    return put_trailer(front, end);
 }
 
 #endif

@@ -29,32 +29,30 @@ struct call {
 
 /* ---- Writing ----------------------------------------------------------------------------------------------------- */
 
-#define BODY_ROOM 256                       /* the longest body is a Heartbeat's with 112, 145 bytes */
-
-/* 35, 49, 56, 34 with the next number, and 52. */
-static inline uint8_t *put_header(uint8_t *to, struct call *call, char type)
+/* 35, 49, 56, 34 with the next number, and 52, where the next message goes. */
+static inline uint8_t *put_header(struct call *call, char type)
 {
-    to = put_ids(to, call->session, type, call->session->next_out++);
+    uint8_t *to = put_ids(body_in(call->reply), call->session, type, call->session->next_out++);
     to = PUT(to, "\00152=");
     return put_time(to, call->time);
 }
 
-static inline void send_body(struct call *call, uint8_t *body, uint8_t *end)
+static inline void send_body(struct call *call, uint8_t *end)
 {
     *end++ = BAR;
-    call->reply = put_frame(call->reply, body, (size_t)(end - body));
+    call->reply = put_around(call->reply, end);
     call->session->last_sent = call->time;
 }
 
 /* With 112, where there is one. */
 static inline void send_with_id(struct call *call, char type, struct value id)
 {
-    uint8_t body[BODY_ROOM], *to = put_header(body, call, type);
+    uint8_t *to = put_header(call, type);
     if (id.at) {
         to = PUT(to, "\001112=");
         to = put(to, id.at, id.size);
     }
-    send_body(call, body, to);
+    send_body(call, to);
 }
 
 static inline void send_heartbeat(struct call *call, struct value id)
@@ -69,11 +67,11 @@ static inline void send_test_request(struct call *call, struct value id)
 
 static inline void send_resend_request(struct call *call)
 {
-    uint8_t body[BODY_ROOM], *to = put_header(body, call, '2');
+    uint8_t *to = put_header(call, '2');
     to = PUT(to, "\0017=");
     to = put_number(to, call->session->expected);
     to = PUT(to, "\00116=0");
-    send_body(call, body, to);
+    send_body(call, to);
 }
 
 static inline uint8_t *put_type(uint8_t *to, uint8_t type)
@@ -87,7 +85,7 @@ static inline uint8_t *put_type(uint8_t *to, uint8_t type)
 
 static inline void send_reject(struct call *call, uint32_t reason, uint32_t tag)
 {
-    uint8_t body[BODY_ROOM], *to = put_header(body, call, '3');
+    uint8_t *to = put_header(call, '3');
     to = PUT(to, "\00145=");
     to = put_number(to, call->n);
     if (tag) {
@@ -98,27 +96,27 @@ static inline void send_reject(struct call *call, uint32_t reason, uint32_t tag)
         to = put_type(to, call->type);
     to = PUT(to, "\001373=");
     to = put_number(to, reason);
-    send_body(call, body, to);
+    send_body(call, to);
 }
 
 static inline void send_logout(struct call *call, uint64_t status)
 {
-    uint8_t body[BODY_ROOM], *to = put_header(body, call, '5');
+    uint8_t *to = put_header(call, '5');
     to = PUT(to, "\0011409=");
     to = put_number(to, status);
-    send_body(call, body, to);
+    send_body(call, to);
     closed(call->session, 0);
 }
 
 static inline void send_logon(struct call *call, int reset)
 {
-    uint8_t body[BODY_ROOM], *to = put_header(body, call, 'A');
+    uint8_t *to = put_header(call, 'A');
     to = PUT(to, "\00198=0\001108=");
     to = put_number(to, call->session->heartbeat);
     to = PUT(to, "\0011137=9");
     if (reset)
         to = PUT(to, "\001141=Y");
-    send_body(call, body, to);
+    send_body(call, to);
 }
 
 #endif

@@ -10,11 +10,11 @@
 /* ---- One place --------------------------------------------------------------------------------------------------- */
 
 /* The number that a report would have here; 0 for no number. */
-static uint32_t number_at(const uint8_t *digits)
+static inline uint32_t number_at(const uint8_t *digits)
 {
     uint32_t total = 0;
     size_t i = 0;
-    if (digits[0] == '0')
+    if ((uint8_t)(digits[0] - '1') > 8)
         return 0;
     for (; i < MOST_DIGITS && is_digit(digits[i]); i++)
         total = 10 * total + (uint32_t)(digits[i] - '0');
@@ -222,15 +222,35 @@ static size_t put_again(const struct plain_session *session, const uint8_t *plac
 
 static size_t put_gap_fill(const struct plain_session *session, uint64_t next, uint64_t time, uint8_t *buf)
 {
-    uint8_t body[AGAIN_ROOM], *to = put_ids(body, session, '4', session->at);
+    uint8_t *to = put_ids(body_in(buf), session, '4', session->at);
     to = PUT(to, "\00143=Y\00152=");
+    const uint8_t *stamp = to;
     to = put_time(to, time);
     to = PUT(to, "\001122=");
-    to = put_time(to, time);
+    to = put(to, stamp, STAMP_SIZE);
     to = PUT(to, "\001123=Y\00136=");
     to = put_number(to, next);
     *to++ = BAR;
-    return (size_t)(put_frame(buf, body, (size_t)(to - body)) - buf);
+    return (size_t)(put_around(buf, to) - buf);
+}
+
+/* Where the run of numbers ends that begins at the place of a replay: before the lowest report behind it, else at the last
+   number asked for. The lowest is held to its form first; one that does not stand is left out. */
+static uint64_t end_of_run(const struct plain_session *session, const uint8_t *store, uint32_t numbers[PLAIN_PLACES])
+{
+    uint32_t next = (uint32_t)session->at + 1;
+    for (;;) {
+        uint32_t least = (uint32_t)session->to + 1 - next;
+        size_t lowest = PLAIN_PLACES;
+        for (size_t i = 0; i < PLAIN_PLACES; i++)
+            if (numbers[i] - next < least) {
+                least = numbers[i] - next;
+                lowest = i;
+            }
+        if (lowest == PLAIN_PLACES || held(store + PLAIN_PLACE * lowest, session))
+            return next + least - 1;
+        numbers[lowest] = 0;
+    }
 }
 
 /* The message at the place of a replay, and the last number that it covers. */
@@ -238,17 +258,14 @@ static size_t put_next(const struct plain_session *session, const uint8_t *store
                        uint64_t *last)
 {
     const uint8_t *digits = store + NUMBER_PLACE + session->ours_size + session->peer_size;
-    uint32_t numbers[PLAIN_PLACES];
-    *last = session->at;
+    uint32_t numbers[PLAIN_PLACES], at = (uint32_t)session->at;
+    *last = at;
     for (size_t i = 0; i < PLAIN_PLACES; i++) {
         numbers[i] = number_at(digits + PLAIN_PLACE * i);
-        if (numbers[i] == session->at && held(store + PLAIN_PLACE * i, session))
+        if (numbers[i] == at && held(store + PLAIN_PLACE * i, session))
             return put_again(session, store + PLAIN_PLACE * i, time, buf);
     }
-    *last = session->to;
-    for (size_t i = 0; i < PLAIN_PLACES; i++)
-        if (session->at < numbers[i] && numbers[i] <= *last && held(store + PLAIN_PLACE * i, session))
-            *last = numbers[i] - 1;
+    *last = end_of_run(session, store, numbers);
     return put_gap_fill(session, *last + 1, time, buf);
 }
 
