@@ -205,17 +205,18 @@ static const uint8_t PLACE_OF[GREATEST_TAG + 1] = {
 struct group {
     uint16_t count_tag;
     uint8_t first;                          /* its first member's place */
-    uint64_t members;
-    uint16_t required[4];                   /* tags, in group order, up to a 0 */
+    uint64_t members, required;
+    uint16_t order[4];                      /* the required tags in group order, up to a 0 */
 };
 
 #define PARTY_MEMBERS (BIT(P448) | BIT(P447) | BIT(P452))
 #define DATE_MEMBERS (BIT(P75) | BIT(P60))
+#define COUNTS (BIT(P453) | BIT(P580) | BIT(P552))
 #define SIDE_MEMBERS (BIT(P54) | BIT(P1427) | BIT(P453))
 
-static const struct group PARTIES = { 453, P448, PARTY_MEMBERS, { 448, 447, 452 } };
-static const struct group DATES = { 580, P75, DATE_MEMBERS, { 75 } };
-static const struct group SIDES = { 552, P54, SIDE_MEMBERS, { 54 } };
+static const struct group PARTIES = { 453, P448, PARTY_MEMBERS, PARTY_MEMBERS, { 448, 447, 452 } };
+static const struct group DATES = { 580, P75, DATE_MEMBERS, BIT(P75), { 75 } };
+static const struct group SIDES = { 552, P54, SIDE_MEMBERS, BIT(P54), { 54 } };
 
 struct message {
     uint16_t bit;
@@ -265,9 +266,14 @@ static const struct message *message_of(const uint8_t *type)
 
 static uint32_t check_number(const struct entry *entry, const uint8_t *s, size_t n)
 {
-    if (n > 9 || !all_digits(s, n) || (s[0] == '0' && n > 1))
+    uint32_t value = 0;
+    if (n > 9 || (s[0] == '0' && n > 1))
         return 6;
-    uint32_t value = number(s, n);
+    for (size_t i = 0; i < n; i++) {                        /* few digits: not worth a vector */
+        if (!is_digit(s[i]))
+            return 6;
+        value = 10 * value + (uint32_t)(s[i] - '0');
+    }
     return value < entry->least || value > entry->greatest ? 5 : 0;
 }
 
@@ -334,7 +340,9 @@ static uint32_t missing(const uint16_t *order, uint64_t seen)
 
 static uint32_t missing_member(const struct open *in)
 {
-    return in->instances ? missing(in->group->required, in->instance) : 0;
+    if (in->instances == 0 || !(in->group->required & ~in->instance))
+        return 0;
+    return missing(in->group->order, in->instance);
 }
 
 static uint32_t end_of_group(struct walk *walk)
@@ -348,11 +356,12 @@ static uint32_t end_of_group(struct walk *walk)
     return 0;
 }
 
-static void open_group(struct walk *walk, const struct group *group, const struct field *field)
+/* By the place and the value of a count, which has one digit by its kind. */
+static void open_group(struct walk *walk, unsigned place, uint8_t count)
 {
     walk->around[walk->depth++] = walk->in;
-    walk->in.group = group;
-    walk->in.count = number(field->value, (size_t)(field->end - field->value));
+    walk->in.group = place == P453 ? &PARTIES : place == P580 ? &DATES : &SIDES;
+    walk->in.count = (uint32_t)(count - '0');
     walk->in.instances = 0;
     walk->in.instance = 0;
 }
@@ -382,7 +391,7 @@ static uint32_t step_8(const struct open *in, unsigned place, uint32_t tag)
     return in->instance & BIT(place) ? finding(13, tag) : 0;
 }
 
-static void take_member(struct open *in, unsigned place)
+static inline void take_member(struct open *in, unsigned place)
 {
     if (place == in->group->first) {
         in->instances++;
@@ -391,7 +400,7 @@ static void take_member(struct open *in, unsigned place)
     in->instance |= BIT(place);
 }
 
-static void take(struct walk *walk, unsigned place, const struct field *field)
+static inline void take(struct walk *walk, unsigned place, struct field field)
 {
     if (walk->members & BIT(place))
         take_member(&walk->in, place);
@@ -400,34 +409,31 @@ static void take(struct walk *walk, unsigned place, const struct field *field)
         if (place >= HEADER_PLACES)
             walk->past_header = 1;
     }
-    switch (place) {
-    case P453: open_group(walk, &PARTIES, field); break;
-    case P580: open_group(walk, &DATES, field); break;
-    case P552: open_group(walk, &SIDES, field); break;
-    }
+    if (COUNTS & BIT(place))
+        open_group(walk, place, *field.value);
 }
 
 /* Steps 2 to 5 where the tag has no place: malformed, unknown, or one of 8, 9 and 10. */
-static uint32_t without_place(const struct walk *walk, const struct field *field)
+static inline uint32_t without_place(const struct walk *walk, struct field field)
 {
-    uint32_t tag = field->tag;
+    uint32_t tag = field.tag;
     if (tag == 0)
         return finding(0, 0);
     if (tag >= 8 && tag <= 10)
-        return finding(field->value == field->end ? 4 : 13, tag);
+        return finding(field.value == field.end ? 4 : 13, tag);
     return walk->message->bit & APPLICATION ? finding(3, tag) : 0;
 }
 
-static uint32_t at_field(struct walk *walk, const struct field *field)
+static inline uint32_t at_field(struct walk *walk, struct field field)
 {
-    uint32_t tag = field->tag;
+    uint32_t tag = field.tag;
     unsigned place = tag <= GREATEST_TAG ? PLACE_OF[tag] : NONE;
     uint32_t found = step_1(walk, place);
     if (__builtin_expect(found != 0, 0))                    /* else the compiler takes all that follows to be rare */
         return found;
     if (place == NONE)
         return without_place(walk, field);
-    if (field->value == field->end)
+    if (field.value == field.end)
         return finding(4, tag);
     if (walk->seen & BIT(place))
         return finding(13, tag);
@@ -440,8 +446,8 @@ static uint32_t at_field(struct walk *walk, const struct field *field)
         if (found)
             return found;
     }
-    size_t size = (size_t)(field->end - field->value);
-    uint32_t reason = check_value(&ENTRIES[place], walk->message->bit, field->value, size);
+    size_t size = (size_t)(field.end - field.value);
+    uint32_t reason = check_value(&ENTRIES[place], walk->message->bit, field.value, size);
     if (reason)
         return finding(reason, tag);
     take(walk, place, field);
@@ -486,7 +492,7 @@ uint32_t plain_verdict(const uint8_t *body, size_t n)
     const uint8_t *end = body + n;
     for (const uint8_t *p = body; p < end;) {
         struct field field = next_field(p, end);
-        uint32_t found = at_field(&walk, &field);
+        uint32_t found = at_field(&walk, field);
         if (found)
             return found;
         p = field.end + 1;
