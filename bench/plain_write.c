@@ -62,8 +62,8 @@ static const struct message *message_of(const uint8_t *type, size_t size)
 static uint32_t given_in(const uint64_t values[3 * PLAIN_SLOTS])
 {
     uint32_t given = 0;
-    for (size_t slot = 0; slot < PLAIN_SLOTS; slot++)
-        given |= (uint32_t)(values[3 * slot] != 0) << slot;
+    for (size_t slot = PLAIN_SLOTS; slot-- > 0;)
+        given = 2 * given + (values[3 * slot] != 0);
     return given;
 }
 
