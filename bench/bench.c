@@ -559,6 +559,7 @@ static void check_all(void)
         if (row->kind == TICK)
             check_tick(row->what, &active, CALL_TIME, ROOM);
     }
+    check_readings(&greatest);
     check_sessions();
     check_lines();
     check_fields();

@@ -74,6 +74,14 @@ void check_step(const char *what, const struct fixgw_session *session, const str
 /* The type of the first message of a reply, which has one byte; 0 for no reply. */
 uint8_t first_type(const uint8_t *reply, size_t len);
 
+/* ---- Readings (bench_read.c) ------------------------------------------------------------------------------------- */
+
+/* A frame's sum as it must be. */
+void mend_sum(uint8_t *frame, size_t len);
+
+/* Frames of all kinds, and each front of this one. */
+void check_readings(const struct bytes *longest);
+
 /* ---- A line (bench_stream.c) ------------------------------------------------------------------------------------- */
 
 run stream_ours, stream_plain;              /* read behind each byte */

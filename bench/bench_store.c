@@ -135,15 +135,6 @@ static void check_body(const char *text)
         check_place(frame.at, frame.len, 0);
 }
 
-/* The frame with its sum as it must be. */
-static void mend_sum(uint8_t *frame, size_t len)
-{
-    uint8_t sum = plain_sum(frame, len - 7);
-    frame[len - 4] = (uint8_t)('0' + sum / 100);
-    frame[len - 3] = (uint8_t)('0' + sum / 10 % 10);
-    frame[len - 2] = (uint8_t)('0' + sum % 10);
-}
-
 /* One byte changed in many ways, the sum mended or not; cut, moved, with a byte behind it. */
 static void check_bytes(void)
 {
