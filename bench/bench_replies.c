@@ -132,9 +132,10 @@ void check_messages(const struct fixgw_session *session)
     check_logout("a Logout past all time", session, FIXGW_END_OF_TIME, ROOM - 1);
     check_logout("a Logout without room", session, CALL_TIME, ROOM - 1);
     check_logout("a Logout without a buffer", session, 0, 0);
-    for (size_t from = 0; from < sizeof id; from++)
-        for (size_t len = 0; len < sizeof id - from; len++)
-            check_test_request(session, id + from, len, CALL_TIME, ROOM);
+    for (size_t len = 0; len < sizeof id; len++) {
+        check_test_request(session, id, len, CALL_TIME, ROOM);
+        check_test_request(session, id + sizeof id - 1 - len, len, CALL_TIME, ROOM);
+    }
     check_test_request(session, id, 3, 0, ROOM);
     check_test_request(session, id, 3, FIXGW_END_OF_TIME - 1, ROOM);
     check_test_request(session, id, 0, FIXGW_END_OF_TIME, ROOM - 1);
