@@ -59,6 +59,10 @@ decimal-numeral j n h k =
     let D = last-is (suc n) n (omega arith) in
     record { some-digit = D .some-digit; few = last-short j (suc n) n k; whole = D .whole; no-zero = D .no-zero h }
 
+pub some-digit : (n : ℕ) → 1 ≤ length (decimal n)
+unfolding decimal
+some-digit n = last-is (suc n) n (omega arith) .some-digit
+
 pub decimal-worth : (n : ℕ) → value (decimal n) ≡ n
 unfolding decimal
 decimal-worth n = last-is (suc n) n (omega arith) .worth
@@ -74,7 +78,7 @@ last-fuel (suc j) (suc k) n h g = go (ltb n 10) refl (λ (l : 10 ≤ n). last-fu
     go true e f = refl
     go false e f = ap (λ (l : Bytes). l ++ ((48 + n % 10) ∷ [])) (f (ltb-false n 10 e))
 
-decimal-more : (v d : ℕ) → 1 ≤ v → d < 10 → decimal (v * 10 + d) ≡ decimal v ++ ((48 + d) ∷ [])
+pub decimal-more : (v d : ℕ) → 1 ≤ v → d < 10 → decimal (v * 10 + d) ≡ decimal v ++ ((48 + d) ∷ [])
 unfolding decimal
 decimal-more v d h k =
     let q : (v * 10 + d) / 10 ≡ v = omega arith in

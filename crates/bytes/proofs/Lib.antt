@@ -4,4 +4,5 @@ pub mod Search
 pub mod Words
 pub mod Numerals
 pub mod Decimals
+pub mod Rightmost
 pub mod OneOutcome

@@ -1,5 +1,5 @@
 -- Numbers in decimal digits, over the greatest number of digits: what a numeral is, part by part, what digits are worth, and what digits that were read make.
-use Prim.Native.Nat.{ℕ, zero, suc, _+_, _-_, _*_, _^_, _≤_, _<_}
+use Prim.Native.Nat.{ℕ, zero, suc, _+_, _-_, _*_, _%_, _^_, _≤_, _<_}
 use native.Mathlib.Nat.{zero-add, add-zero, add-suc, suc-add, pow-le-pow-right}
 use native.Mathlib.Decide.{decLt}
 use native.Mathlib.Numerals.{add-one}
@@ -10,7 +10,7 @@ use mathlib.Core.Bool.{Bool, true, false, not, _&&_, false≢true, and-false}
 use lib.Dec.{eqb, leb}
 use lib.ListN.{length, take, drop, getD, length-drop}
 use lib.Seq.{getD-take, getD-drop, take-all}
-use borrow.Author.Tests.{le-leb, leb-true, eq-eqb, ne-eqb, eqb-true, eqb-false}
+use borrow.Author.Tests.{le-leb, lt-leb, leb-true, eq-eqb, ne-eqb, eqb-true, eqb-false}
 use Rattle.bytes.specs.Bytes.{Bytes, fix, starts, all, digit, digits, within, value, valueFrom, numeral, Digit}
 use Rattle.bytes.specs.code.Leaf.{Number}
 use Rattle.bytes.proofs.Tests.{both, both-true}
@@ -57,6 +57,36 @@ numeral-means n l h =
     zero-first : (k : Bytes) → getD k 0 0 ≡ 48 → not (starts (fix "0") k) ≡ true → 1 ≤ length k → ⊥
     zero-first [] e g s = omega arith
     zero-first (d ∷ k) e g s = false≢true (sym (ap (λ (b : Bool). not (b && true)) (eq-eqb 48 d (sym e))) ∙ g)
+
+-- a digit is a byte that is at most 9 above `0`, the difference taken modulo 256
+pub above-zero : (b r : ℕ) → (r + 48) % 2 ^ 8 ≡ b → r ≤ 9 → Digit b × (r ≡ b - 48)
+above-zero b r e h = ((omega arith, omega arith), omega arith)
+
+pub not-above : (b r : ℕ) → (r + 48) % 2 ^ 8 ≡ b → r < 256 → 9 < r → Digit b → ⊥
+not-above b r e h k d = omega arith
+
+pub digit-by : (b r : ℕ) → (r + 48) % 2 ^ 8 ≡ b → r < 256 → digit b ≡ leb r 9
+digit-by b r e h = go (decLt 9 r)
+  where
+    go : Dec (9 < r) → digit b ≡ leb r 9
+    go (yes k) = rw (lt-leb r 9 k) (not-digit (digit b) refl)
+      where
+        not-digit : (c : Bool) → digit b ≡ c → c ≡ false
+        not-digit true p = absurd (not-above b r e h k (digit-is b p))
+        not-digit false p = refl
+    go (no k) = is-digit b (above-zero b r e (omega arith) .0) ∙ sym (le-leb r 9 (omega arith))
+
+-- the digits that were read where no more bytes are left
+pub read-to-end : (s : Bytes) (p left n v c : ℕ) → length s ≤ p + left → left ≤ n → Number s p left v c → Number s p n v c
+read-to-end s p left n v c h k N =
+    record {
+      within = N .within;
+      few = omega (arith, N .few);
+      digits = N .digits;
+      worth = N .worth;
+      small = N .small;
+      stop = λ l m. N .stop (omega arith) m;
+    }
 
 -- the digits that were read
 pub read-digits : (s : Bytes) (p n v c : ℕ) → Number s p n v c → all digit (take c (drop p s)) ≡ true

@@ -20,7 +20,16 @@ none-further s a i n x f g q h k e = go (decLt q i)
         let w : q ≡ i + (q - i) = omega arith in
         g (q - i) (omega arith) (ap (λ (z : ℕ). getD s z 0) (sym w) ∙ e)
 
--- the same from i to the end e
+-- the same of one place
+pub none-one : (s : Bytes) (a i j x : ℕ) → j ≡ i + 1 → ((q : ℕ) → q < i → a ≤ q → getD s q 0 ≡ x → ⊥) → (getD s i 0 ≡ x → ⊥)
+    → (q : ℕ) → q < j → a ≤ q → getD s q 0 ≡ x → ⊥
+none-one s a i j x w f g q h k e = go (decLt q i)
+  where
+    go : Dec (q < i) → ⊥
+    go (yes l) = f q l k e
+    go (no l) = let v : i ≡ q = omega arith in g (ap (λ (z : ℕ). getD s z 0) v ∙ e)
+
+-- the same from i to e
 pub none-to-end : (s : Bytes) (a i e x : ℕ) → ((q : ℕ) → q < i → a ≤ q → getD s q 0 ≡ x → ⊥) → ((q : ℕ) → q < e → i ≤ q → getD s q 0 ≡ x → ⊥)
     → (q : ℕ) → q < e → a ≤ q → getD s q 0 ≡ x → ⊥
 none-to-end s a i e x f g q h k w = go (decLt q i)

@@ -93,6 +93,11 @@ lastDigits (suc k) n = let longer = lastDigits k (n / 10) ++ ((code "0" + n % 10
 unfoldable pub decimal : ℕ → Bytes
 decimal n = lastDigits (suc n) n
 
+-- the last k digits of a number, with zeros in front: padded 2 7 is "07"
+abbrev pub padded : ℕ → ℕ → Bytes
+padded zero n = []
+padded (suc k) n = padded k (n / 10) ++ ((code "0" + n % 10) ∷ [])
+
 -- the bytes l stand in s from p on
 abbrev pub At : Bytes → ℕ → Bytes → Type 0
 At s p l = (p + length l ≤ length s) × (take (length l) (drop p s) ≡ l)

@@ -4,7 +4,7 @@ ghost use mathlib.Core.Path.{_≡_};
 ghost use Prim.Native.Nat.{_+_, _-_, _≤_, _<_};
 ghost use lib.ListN.{length};
 ghost use Rattle.bytes.specs.Bytes.{has};
-ghost use Rattle.bytes.specs.code.Leaf.{FirstByte, Calm, Free, NextStart, Around, Searched};
+ghost use Rattle.bytes.specs.code.Leaf.{FirstByte, Calm, CalmTo, NextStart, Around, Searched};
 
 // Whether a byte stands among others.
 pub fn has(s: &[u8], x: u8) -> bool
@@ -21,7 +21,7 @@ pub fn has(s: &[u8], x: u8) -> bool
 }
 
 // Whether none of the n bytes from i on is x. The loop has no way out, so the compiler compares sixteen bytes at once.
-fn calm(s: &[u8], i: usize, n: usize, x: u8) -> bool
+pub fn calm(s: &[u8], i: usize, n: usize, x: u8) -> bool
     requires { ⌜ i + n ≤ length (now s) ⌝ }
     ensures { λ r. ⌜ Calm (now (s .entry)) i n x r ⌝ }
 {
@@ -36,12 +36,27 @@ fn calm(s: &[u8], i: usize, n: usize, x: u8) -> bool
     none
 }
 
-// The first place from a on at which x stands before e, or e: byte by byte.
-fn byte_from(s: &[u8], a: usize, e: usize, x: u8) -> usize
+// The first place from a on at which x stands before e, or e: byte by byte, four to a turn.
+pub fn byte_from(s: &[u8], a: usize, e: usize, x: u8) -> usize
     requires { ⌜ (a ≤ e) × (e ≤ length (now s)) ⌝ }
     ensures { λ r. ⌜ FirstByte (now (s .entry)) a e x r ⌝ }
 {
     let mut i = a;
+    while 4 <= e - i {
+        if s[i] == x {
+            return i;
+        }
+        if s[i + 1] == x {
+            return i + 1;
+        }
+        if s[i + 2] == x {
+            return i + 2;
+        }
+        if s[i + 3] == x {
+            return i + 3;
+        }
+        i += 4;
+    }
     while i < e {
         if s[i] == x {
             return i;
@@ -51,39 +66,43 @@ fn byte_from(s: &[u8], a: usize, e: usize, x: u8) -> usize
     i
 }
 
-// Whether x stands nowhere in the last bytes before e, from i on, fewer than sixteen: told by the last sixteen, where there are as many behind a.
-fn tail_free(s: &[u8], a: usize, i: usize, e: usize, x: u8) -> bool
-    requires { ⌜ ((a ≤ i) × (e - i ≤ 16)) × ((i ≤ e) × (e ≤ length (now s))) ⌝ }
-    ensures { λ r. ⌜ Free (now (s .entry)) i e x r ⌝ }
+// Goes on from a by n bytes at a time, as long as so many are left before e and x is not among them.
+fn calm_to(s: &[u8], a: usize, e: usize, x: u8, n: usize) -> usize
+    requires { ⌜ (0 < n) × ((a ≤ e) × (e ≤ length (now s))) ⌝ }
+    ensures { λ r. ⌜ CalmTo (now (s .entry)) a e x r ⌝ }
 {
-    if e - a < 16 {
-        return false;
+    let mut i = a;
+    while n <= e - i {
+        if !calm(s, i, n, x) {
+            return i;
+        }
+        i += n;
     }
-    calm(s, e - 16, 16, x)
+    i
 }
 
-// The first place from a on at which x stands before e, or e: sixty-four bytes at a time, and then sixteen, as long as x is not among them.
+// The first place from a on at which x stands before e, or e. Sixteen bytes are looked at first, since x may be near; then blocks, the long ones
+// first. Of the last bytes, fewer than sixteen, the last sixteen before e tell whether x is among them.
 fn find_byte(s: &[u8], a: usize, e: usize, x: u8) -> usize
     requires { ⌜ (a ≤ e) × (e ≤ length (now s)) ⌝ }
     ensures { λ r. ⌜ FirstByte (now (s .entry)) a e x r ⌝ }
 {
-    let mut i = a;
-    while 64 <= e - i {
-        if !calm(s, i, 64, x) {
-            return byte_from(s, i, e, x);
-        }
-        i += 64;
+    if e - a < 16 {
+        return byte_from(s, a, e, x);
     }
-    while 16 <= e - i {
-        if !calm(s, i, 16, x) {
-            return byte_from(s, i, e, x);
-        }
-        i += 16;
+    if !calm(s, a, 16, x) {
+        return byte_from(s, a, e, x);
     }
-    if tail_free(s, a, i, e, x) {
+    let b = calm_to(s, a + 16, e, x, 128);
+    let c = calm_to(s, b, e, x, 32);
+    let d = calm_to(s, c, e, x, 16);
+    if 16 <= e - d {
+        return byte_from(s, d, e, x);
+    }
+    if calm(s, e - 16, 16, x) {
         return e;
     }
-    byte_from(s, i, e, x)
+    byte_from(s, d, e, x)
 }
 
 // The next place from p on at which a row of bytes with the fifth byte x may begin: p itself in the usual case, which is therefore looked at first. The

@@ -1,6 +1,6 @@
 // Bytes as numbers: decimal digits read, and the sum of bytes.
 ghost use mathlib.Core.Path.{_≡_};
-ghost use Prim.Native.Nat.{_%_, _≤_};
+ghost use Prim.Native.Nat.{_+_, _%_, _≤_};
 ghost use lib.ListN.{length};
 ghost use Rattle.bytes.specs.Bytes.{sum};
 ghost use Rattle.bytes.specs.code.Leaf.{digitLimit, Number, Digits};
@@ -11,28 +11,34 @@ pub struct Num {
     pub count: usize,
 }
 
-// The decimal digits of s from at on, at most `most` of them.
+// The decimal digits of s from at on, at most n of them, where n bytes are left: no end is looked for. A digit is a byte that is at most 9 above `0`.
+pub fn row(s: &[u8], at: usize, n: usize) -> Num
+    requires { ⌜ (at + n ≤ length (now s)) × (n ≤ digitLimit) ⌝ }
+    ensures { λ r. ⌜ Number (now (s .entry)) at n (r .value) (r .count) ⌝ }
+{
+    let mut v: usize = 0;
+    let mut c: usize = 0;
+    while c < n {
+        let d = std::num::wrapping_sub_u8(s[at + c], 48);
+        if 9 < d {
+            return Num { value: v, count: c };
+        }
+        v = v * 10 + (d as usize);
+        c += 1;
+    }
+    Num { value: v, count: c }
+}
+
+// The same where fewer bytes may be left.
 pub fn number(s: &[u8], at: usize, most: usize) -> Num
     requires { ⌜ (at ≤ length (now s)) × (most ≤ digitLimit) ⌝ }
     ensures { λ r. ⌜ Number (now (s .entry)) at most (r .value) (r .count) ⌝ }
 {
-    let mut v: usize = 0;
-    let mut c: usize = 0;
-    while c < most {
-        if at + c == s.len() {
-            return Num { value: v, count: c };
-        }
-        let d = s[at + c];
-        if d < 48 {
-            return Num { value: v, count: c };
-        }
-        if 57 < d {
-            return Num { value: v, count: c };
-        }
-        v = v * 10 + ((d - 48) as usize);
-        c += 1;
+    let left = s.len() - at;
+    if left < most {
+        return row(s, at, left);
     }
-    Num { value: v, count: c }
+    row(s, at, most)
 }
 
 // The same for any place and any limit: no digits behind the end, and none above a limit of 12.

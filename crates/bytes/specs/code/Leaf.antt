@@ -64,9 +64,11 @@ pub record FirstByte (s : Bytes) (a e x r : ℕ) : Type 0 where
 abbrev pub Calm : Bytes → ℕ → ℕ → ℕ → Bool → Type 0
 Calm s i n x r = r ≡ true → (k : ℕ) → k < n → getD s (i + k) 0 ≡ x → ⊥
 
--- whether x stands nowhere from i to e; nothing is said where the answer is no
-abbrev pub Free : Bytes → ℕ → ℕ → ℕ → Bool → Type 0
-Free s i e x r = r ≡ true → (q : ℕ) → q < e → i ≤ q → getD s q 0 ≡ x → ⊥
+-- x stands nowhere from a to r, a place before e or e itself
+pub record CalmTo (s : Bytes) (a e x r : ℕ) : Type 0 where
+  pub low : a ≤ r
+  pub high : r ≤ e
+  pub none : (q : ℕ) → q < r → a ≤ q → getD s q 0 ≡ x → ⊥
 
 -- the next place from p on at which a row of bytes with the fifth byte x may begin: at none before it, since four bytes behind stands another byte
 pub record NextStart (s : Bytes) (p x r : ℕ) : Type 0 where

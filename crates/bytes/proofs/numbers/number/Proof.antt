@@ -1,76 +1,12 @@
--- `number`: the digits so far are digits, and v is what they are worth.
-use denote.Ref.{now}
-use borrow.Author.Count.{below-more}
+-- `number`: where fewer bytes are left than digits are allowed, the end is the limit.
 use borrow.Author.Needs.{needs}
 use native.Mathlib.Omega.{arith}
-use Prim.Native.Nat.{ℕ, _+_, _-_, _≤_, _<_, _^_}
-use mathlib.Core.Path.{_≡_}
-use lib.ListN.{length, take, drop, getD}
-use Rattle.bytes.specs.Bytes.{value, Digit}
-use Rattle.bytes.specs.code.Leaf.{digitLimit}
-use Rattle.bytes.proofs.Lists.{value-more, pow-more, few-digits}
+use Rattle.bytes.proofs.Numerals.{read-to-end}
 use Rattle.bytes.proofs.numbers.number.Statement.{statement}
 use Rattle.bytes.proofs.numbers.number.Tie as tie
 
-abbrev Inv-loop : tie.InvT-loop
-Inv-loop s at most v₀ c₀ v c =
-    (at + c ≤ length s) × ((c ≤ most) × (((k : ℕ) → k < c → Digit (getD s (at + k) 0)) × ((v ≡ value (take c (drop at s))) × (v < 10 ^ c))))
-
-abbrev μ-loop : tie.MeasureT-loop
-μ-loop s at most v₀ c₀ v c = most - c
-
-returns : tie.Need-returns Inv-loop μ-loop
-returns c = let l = c .before .before .loop in let h = few-digits digitLimit (l .c) (l .v) (omega arith) (l .inv .1 .1 .1 .1) in search needs
-
-returns-2 : tie.Need-returns-2 Inv-loop μ-loop
-returns-2 c = let l = c .before .before .before .before .loop in let h = few-digits digitLimit (l .c) (l .v) (omega arith) (l .inv .1 .1 .1 .1) in search needs
-
-returns-3 : tie.Need-returns-3 Inv-loop μ-loop
-returns-3 c = let l = c .before .before .before .before .before .loop in let h = few-digits digitLimit (l .c) (l .v) (omega arith) (l .inv .1 .1 .1 .1) in search needs
-
-mul-v : tie.Need-mul-v Inv-loop μ-loop
-mul-v c = let l = c .before .before .before .before .before .loop in omega (arith, few-digits (digitLimit - 1) (l .c) (l .v) (omega arith) (l .inv .1 .1 .1 .1))
-
-add-v : tie.Need-add-v Inv-loop μ-loop
-add-v c = let l = c .before .before .before .before .before .loop in omega (arith, few-digits (digitLimit - 1) (l .c) (l .v) (omega arith) (l .inv .1 .1 .1 .1))
-
-loop-again : tie.Need-loop-again Inv-loop μ-loop
-loop-again c =
-    let l = c .before .before .before .before .before .loop in
-    let a = c .before .before .before .before .before .before .args in (
-      omega arith,
-      (
-        omega arith,
-        (
-          below-more _ _ (l .inv .1 .1 .0) (omega arith),
-          (
-            cc (value-more (now (a .s)) (a .at) (l .c) (omega arith)),
-            omega (arith, pow-more 10 (l .c)),
-          ),
-        ),
-      ),
-    )
-
-returns-4 : tie.Need-returns-4 Inv-loop μ-loop
-returns-4 c = let l = c .before .loop in let h = few-digits digitLimit (l .c) (l .v) (omega arith) (l .inv .1 .1 .1 .1) in search needs
+returns : tie.Need-returns
+returns c = read-to-end _ _ _ _ _ _ (omega arith) (omega arith) (c .row .ensures)
 
 pub number-spec : {M : Type 1} → statement M
-number-spec =
-    tie.close
-    (tie.spec
-    Inv-loop
-    μ-loop
-    (λ c. search needs)
-    (λ c. search needs)
-    returns
-    (λ c. search needs)
-    (λ c. search needs)
-    returns-2
-    returns-3
-    mul-v
-    (λ c. search needs)
-    add-v
-    (λ c. search needs)
-    (λ c. search needs)
-    loop-again
-    returns-4)
+number-spec = tie.close (tie.spec (λ c. search needs) (λ c κs. search needs) returns (λ c κs. search needs) (λ c. search needs))
