@@ -23,6 +23,17 @@ at-drop s p l a =
 pub agree : (r t l v : Bytes) (i : ℕ) → r ++ t ≡ l ++ v → i < length r → i < length l → getD r i 0 ≡ getD l i 0
 agree r t l v i e h k = sym (List·getD-append r t 0 i h) ∙ ap (λ (x : Bytes). getD x i 0) e ∙ List·getD-append l v 0 i k
 
+-- where s ends within lit, what is matched of lit's front is matched of lit
+pub matched-front : (s : Bytes) (p : ℕ) (lit : Bytes) (n m : ℕ) → n ≤ length lit → p + n ≡ length s → Matched s p (take n lit) m → Matched s p lit m
+matched-front s p lit n m h e M =
+    let k : length (take n lit) ≡ n = length-take-le n lit h in
+    record {
+      within = M .within;
+      most = omega (arith, M .most);
+      same = λ i l. M .same i l ∙ getD-take n lit i 0 (omega (arith, M .most));
+      stop = λ l q w. let j : m < n = omega arith in M .stop (omega arith) q (w ∙ sym (getD-take n lit m 0 j));
+    }
+
 -- what of lit stands at p, where s ends before lit does
 pub rest-is : (s : Bytes) (p : ℕ) (lit : Bytes) (m : ℕ) → Matched s p lit m → p + m ≡ length s → drop p s ≡ take m lit
 rest-is s p lit m M e =

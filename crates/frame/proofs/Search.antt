@@ -1,9 +1,10 @@
 -- One reading's outcome, from what a search from the left has seen: no position behind it is live.
+use denote.Enum.Declared.{tagOf}
 use Prim.Native.Nat.{ℕ, zero, suc, _+_, _-_, _≤_, _<_}
 use native.Mathlib.Decide.{decLt}
 use native.Mathlib.Omega.{arith}
 use mathlib.Core.Path.{_≡_, refl, sym, ap, _∙_, subst}
-use mathlib.Core.Logic.{inl, inr}
+use mathlib.Core.Logic.{_⊎_, inl, inr}
 use mathlib.Core.List.{List, []}
 use lib.ListN.{length, take, drop, getD}
 use Rattle.bytes.specs.Bytes.{Bytes}
@@ -11,12 +12,32 @@ use Rattle.bytes.specs.code.Leaf.{NextStart}
 use Rattle.bytes.proofs.Lists.{part-length}
 use Rattle.frame.specs.Frame.{Rule, GoodAt, Live}
 use Rattle.frame.specs.Reading.{frame, Leftmost, Unfinished, Reads, answered, Handed}
-use Rattle.frame.specs.code.Walk.{Open, Ended, Past}
+use Rattle.frame.specs.code.Walk.{Open, Ended, Past, Stepped, Told}
+use Rattle.frame.specs.declared.parts.Step.{Step}
+use Rattle.frame.specs.declared.parts.Step.the-variants.{On, Whole, Short, Wrong}
 use Rattle.frame.specs.Mark.{MarkOk}
 use Rattle.frame.proofs.Good.{good-at-length, good-live, open-none}
 use Rattle.frame.proofs.AtMark.{live-byte}
+use Rattle.frame.proofs.parts.Step.{the-type}
 
 module _ (R : Rule) (s : Bytes) where
+  -- a part that is not as it should be tells of the candidate, and so does the last one
+  pub told-at : (p : ℕ) (Seen : ℕ → ℕ → Type 0) (x : Step) → (tagOf the-type x ≡ 1) ⊎ ((tagOf the-type x ≡ 2) ⊎ (tagOf the-type x ≡ 3)) → Stepped R s p Seen x → Told R s p x
+  told-at p Seen (On a n) (inl k) h = absurd (omega arith)
+  told-at p Seen (On a n) (inr (inl k)) h = absurd (omega arith)
+  told-at p Seen (On a n) (inr (inr k)) h = absurd (omega arith)
+  told-at p Seen (Whole e) k h = h
+  told-at p Seen Short k h = h
+  told-at p Seen (Wrong n) k h = h
+
+  pub told-open : (p : ℕ) (x : Step) → (tagOf the-type x ≡ 2) ⊎ (tagOf the-type x ≡ 0) → Told R s p x → Open R s p
+  told-open p (On a n) k h = absurd h
+  told-open p (Whole e) (inl k) h = absurd (omega arith)
+  told-open p (Whole e) (inr k) h = absurd (omega arith)
+  told-open p Short k h = h
+  told-open p (Wrong n) (inl k) h = absurd (omega arith)
+  told-open p (Wrong n) (inr k) h = absurd (omega arith)
+
   -- no position before p is live
   abbrev pub Dead : ℕ → Type 0
   Dead p = (q : ℕ) → q < p → Live R s q → ⊥

@@ -3,7 +3,6 @@ mod parts;
 
 use bytes::next_start;
 use bytes::number;
-use parts::Part;
 use parts::Step;
 use parts::look;
 ghost use Rattle.frame.specs.Frame.{ruleOf, fixt, Whether, BodyOf};
@@ -37,24 +36,18 @@ fn read_with<'a>(s: &'a [u8], mark: &[u8], at: &mut usize) -> &'a [u8]
             *at = n;
             break 'positions &s[..0];
         }
-        let mut part = Part::Mark;
-        'parts: loop {
-            match look(s, q, part, mark) {
-                Step::Next(next) => {
-                    part = next;
-                }
-                Step::Whole(e) => {
-                    *at = q;
-                    break 'positions &s[q..e];
-                }
-                Step::Short => {
-                    *at = q;
-                    break 'positions &s[..0];
-                }
-                Step::Wrong(next) => {
-                    p = next;
-                    break 'parts;
-                }
+        match look(s, q, mark) {
+            Step::Whole(e) => {
+                *at = q;
+                break 'positions &s[q..e];
+            }
+            Step::Wrong(next) => {
+                p = next;
+                continue 'positions;
+            }
+            Step::Short | Step::On(_, _) => {
+                *at = q;
+                break 'positions &s[..0];
             }
         }
     };

@@ -13,22 +13,12 @@ ghost use lib.ListN.{length};
 ghost use Rattle.bytes.specs.code.Leaf.{wordAt};
 ghost use Rattle.frame.specs.Frame.{ruleOf, trailer};
 ghost use Rattle.frame.specs.Mark.{MarkOk};
-ghost use Rattle.frame.specs.code.Walk.{Seen, Stepped};
-
-// The part that is to be looked at next.
-pub enum Part {
-    Mark,
-    // Behind the mark, at this place.
-    Size(usize),
-    // Behind the length's `|`, at this place; the body is this many bytes.
-    Fields(usize, usize),
-    // Behind the body, at this place.
-    Tail(usize),
-}
+ghost use Rattle.frame.specs.code.Walk.{MarkSeen, SizeSeen, BodySeen, Stepped, Told};
 
 // What looking at a part finds.
 pub enum Step {
-    Next(Part),
+    // The part is as it should be: the place behind it, and of the body length what it is worth.
+    On(usize, usize),
     // The frame is good and ends here.
     Whole(usize),
     // The bytes run out: the position is live.
@@ -41,17 +31,17 @@ pub enum Step {
 fn step_mark(s: &[u8], p: usize, mark: &[u8]) -> Step
     requires { ⌜ MarkOk (now mark) ⌝ }
     requires { ⌜ p ≤ length (now s) ⌝ }
-    ensures { λ r. ⌜ Stepped (ruleOf (now (mark .entry))) (now (s .entry)) p Part.Mark r ⌝ }
+    ensures { λ r. ⌜ Stepped (ruleOf (now (mark .entry))) (now (s .entry)) p (λ a n. MarkSeen (ruleOf (now (mark .entry))) (now (s .entry)) p a) r ⌝ }
 {
     let n = mark.len();
     if n <= s.len() - p {
         if stands(s, p, mark) {
-            return Step::Next(Part::Size(p + n));
+            return Step::On(p + n, 0);
         }
         return Step::Wrong(p + 1);
     }
-    let m = matched(s, p, mark);
-    if p + m == s.len() {
+    let rest = s.len() - p;
+    if matched(s, p, &mark[..rest]) == rest {
         return Step::Short;
     }
     Step::Wrong(p + 1)
@@ -60,8 +50,8 @@ fn step_mark(s: &[u8], p: usize, mark: &[u8]) -> Step
 // "the body length, 1 to 4 digits, no leading zero, value 5 to 2,048; `|`"
 fn step_size(s: &[u8], p: usize, a: usize, mark: &[u8]) -> Step
     requires { ⌜ MarkOk (now mark) ⌝ }
-    requires { ⌜ Seen (ruleOf (now mark)) (now s) p (Part.Size a) ⌝ }
-    ensures { λ r. ⌜ Stepped (ruleOf (now (mark .entry))) (now (s .entry)) p (Part.Size a) r ⌝ }
+    requires { ⌜ MarkSeen (ruleOf (now mark)) (now s) p a ⌝ }
+    ensures { λ r. ⌜ Stepped (ruleOf (now (mark .entry))) (now (s .entry)) p (SizeSeen (ruleOf (now (mark .entry))) (now (s .entry)) p) r ⌝ }
 {
     let n = number(s, a, 4);
     let count = n.count;
@@ -88,14 +78,14 @@ fn step_size(s: &[u8], p: usize, a: usize, mark: &[u8]) -> Step
     if value < 5 {
         return Step::Wrong(a);
     }
-    Step::Next(Part::Fields(e + 1, value))
+    Step::On(e + 1, value)
 }
 
 // "a body of that many bytes that begins `35=` and ends with `|`", with no second mark in it
 fn step_fields(s: &[u8], p: usize, a: usize, n: usize, mark: &[u8]) -> Step
     requires { ⌜ MarkOk (now mark) ⌝ }
-    requires { ⌜ Seen (ruleOf (now mark)) (now s) p (Part.Fields a n) ⌝ }
-    ensures { λ r. ⌜ Stepped (ruleOf (now (mark .entry))) (now (s .entry)) p (Part.Fields a n) r ⌝ }
+    requires { ⌜ SizeSeen (ruleOf (now mark)) (now s) p a n ⌝ }
+    ensures { λ r. ⌜ Stepped (ruleOf (now (mark .entry))) (now (s .entry)) p (λ e k. BodySeen (ruleOf (now (mark .entry))) (now (s .entry)) p e) r ⌝ }
 {
     let m = matched(s, a, b"35=");
     let end = s.len();
@@ -120,7 +110,7 @@ fn step_fields(s: &[u8], p: usize, a: usize, n: usize, mark: &[u8]) -> Step
     if q < e {
         return Step::Wrong(q);
     }
-    Step::Next(Part::Tail(e))
+    Step::On(e, 0)
 }
 
 // `|`, `10=`, the three digits and `|`, as one number.
@@ -136,8 +126,8 @@ fn trailer_word(v: u8) -> u64
 // "then `10=`, three digits, `|`. The three digits are the sum of all bytes before `10=`, modulo 256."
 fn step_tail(s: &[u8], p: usize, a: usize, mark: &[u8]) -> Step
     requires { ⌜ MarkOk (now mark) ⌝ }
-    requires { ⌜ Seen (ruleOf (now mark)) (now s) p (Part.Tail a) ⌝ }
-    ensures { λ r. ⌜ Stepped (ruleOf (now (mark .entry))) (now (s .entry)) p (Part.Tail a) r ⌝ }
+    requires { ⌜ BodySeen (ruleOf (now mark)) (now s) p a ⌝ }
+    ensures { λ r. ⌜ Told (ruleOf (now (mark .entry))) (now (s .entry)) p r ⌝ }
 {
     let v = checksum(&s[p..a]);
     if 7 <= s.len() - a {
@@ -154,16 +144,23 @@ fn step_tail(s: &[u8], p: usize, a: usize, mark: &[u8]) -> Step
     Step::Wrong(a + 1 - mark.len())
 }
 
-// The part in hand of a candidate at p.
-pub fn look(s: &[u8], p: usize, x: Part, mark: &[u8]) -> Step
+// The parts of a candidate at p, one behind the other.
+pub fn look(s: &[u8], p: usize, mark: &[u8]) -> Step
     requires { ⌜ MarkOk (now mark) ⌝ }
-    requires { ⌜ Seen (ruleOf (now mark)) (now s) p x ⌝ }
-    ensures { λ r. ⌜ Stepped (ruleOf (now (mark .entry))) (now (s .entry)) p x r ⌝ }
+    requires { ⌜ p ≤ length (now s) ⌝ }
+    ensures { λ r. ⌜ Told (ruleOf (now (mark .entry))) (now (s .entry)) p r ⌝ }
 {
-    match x {
-        Part::Mark => step_mark(s, p, mark),
-        Part::Size(a) => step_size(s, p, a, mark),
-        Part::Fields(a, n) => step_fields(s, p, a, n, mark),
-        Part::Tail(a) => step_tail(s, p, a, mark),
-    }
+    let start = step_mark(s, p, mark);
+    let Step::On(a, _) = start else {
+        return start;
+    };
+    let size = step_size(s, p, a, mark);
+    let Step::On(b, n) = size else {
+        return size;
+    };
+    let fields = step_fields(s, p, b, n, mark);
+    let Step::On(e, _) = fields else {
+        return fields;
+    };
+    step_tail(s, p, e, mark)
 }

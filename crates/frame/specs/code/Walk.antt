@@ -6,17 +6,8 @@ use mathlib.Core.List.{_∷_, _++_}
 use lib.ListN.{length, drop}
 use Rattle.bytes.specs.Bytes.{Bytes, value, At}
 use Rattle.frame.specs.Frame.{Rule, Length, Body, GoodAt, Live, front}
-use Rattle.frame.specs.declared.parts.Part.{Part}
-use Rattle.frame.specs.declared.parts.Part.the-variants.{Mark, Size, Fields, Tail}
 use Rattle.frame.specs.declared.parts.Step.{Step}
-use Rattle.frame.specs.declared.parts.Step.the-variants.{Next, Whole, Short, Wrong}
-
--- parts still to come
-abbrev pub rank : Part → ℕ
-rank Mark = 3
-rank (Size a) = 2
-rank (Fields a n) = 1
-rank (Tail a) = 0
+use Rattle.frame.specs.declared.parts.Step.the-variants.{On, Whole, Short, Wrong}
 
 -- the mark stands at p, and a is behind it
 pub record MarkSeen (R : Rule) (s : Bytes) (p a : ℕ) : Type 0 where
@@ -42,13 +33,6 @@ pub record BodySeen (R : Rule) (s : Bytes) (p a : ℕ) : Type 0 where
   pub inner : Body (value digits) body
   pub free : (q : ℕ) → At body q (R .mark) → ⊥
 
--- what has been seen of a frame that begins at p, before the part in hand
-abbrev pub Seen : Rule → Bytes → ℕ → Part → Type 0
-Seen R s p Mark = p ≤ length s
-Seen R s p (Size a) = MarkSeen R s p a
-Seen R s p (Fields a n) = SizeSeen R s p a n
-Seen R s p (Tail a) = BodySeen R s p a
-
 -- live, and not yet whole
 pub record Open (R : Rule) (s : Bytes) (p : ℕ) : Type 0 where
   pub live : Live R s p
@@ -66,8 +50,13 @@ pub record Past (R : Rule) (s : Bytes) (p n : ℕ) : Type 0 where
   pub to : n ≤ length s
   pub none : (q : ℕ) → q < n → p ≤ q → Live R s q → ⊥
 
-abbrev pub Stepped : Rule → Bytes → ℕ → Part → Step → Type 0
-Stepped R s p x (Next y) = Seen R s p y × (rank y < rank x)
-Stepped R s p x (Whole e) = Ended R s p e
-Stepped R s p x Short = Open R s p
-Stepped R s p x (Wrong n) = Past R s p n
+-- what looking at a part of a candidate at p answers; Seen says what is known behind the part
+abbrev pub Stepped : Rule → Bytes → ℕ → (ℕ → ℕ → Type 0) → Step → Type 0
+Stepped R s p Seen (On a n) = Seen a n
+Stepped R s p Seen (Whole e) = Ended R s p e
+Stepped R s p Seen Short = Open R s p
+Stepped R s p Seen (Wrong n) = Past R s p n
+
+-- and behind the last part: there is no further one
+abbrev pub Told : Rule → Bytes → ℕ → Step → Type 0
+Told R s p x = Stepped R s p (λ a n. ⊥) x

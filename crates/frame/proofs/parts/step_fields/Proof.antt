@@ -67,7 +67,7 @@ returns-7 c =
     let R = ruleOf (now (a .mark)) in
     let s = now (a .s) in
     let S = c .before .before .before .before .before .before .before .before .before .before .pre .1 in
-    (fields-next R s (a .p) (a .a) (a .n) S (omega arith) _ (c .before .before .before .before .before .before .matched .ensures) (omega arith) (λ i. omega (arith, c .before .before .before .before .before .before .before .before .before .shared-slice-known .given i)) (c .before .before .if5 .left) (none-at-all s (a .a) (a .a + a .n) (now (a .mark)) (omega arith) _ (c .before .holds2 .ensures) (λ l. omega (arith, c .if6 .left))), omega arith)
+    fields-next R s (a .p) (a .a) (a .n) S (omega arith) _ (c .before .before .before .before .before .before .matched .ensures) (omega arith) (λ i. omega (arith, c .before .before .before .before .before .before .before .before .before .shared-slice-known .given i)) (c .before .before .if5 .left) (none-at-all s (a .a) (a .a + a .n) (now (a .mark)) (omega arith) _ (c .before .holds2 .ensures) (λ l. omega (arith, c .if6 .left)))
 
 pub step-fields-spec : {M : Type 1} → statement M
 step-fields-spec =

@@ -95,7 +95,7 @@ returns-8 c =
     let v = c .before .before .before .before .before .before .before .before .number .result .value in
     let k = c .before .before .before .before .before .before .before .before .number .result .count in
     let D = c .before .before .before .before .before .before .before .before .number .ensures in
-    (size-next R s (a .p) (a .a) S v k D (omega arith) (c .before .before .before .before .before .if3 .left) (omega arith) (omega arith) (omega arith) (c .before .if6 .left), omega arith)
+    size-next R s (a .p) (a .a) S v k D (omega arith) (c .before .before .before .before .before .if3 .left) (omega arith) (omega arith) (omega arith) (c .before .if6 .left)
 
 pub step-size-spec : {M : Type 1} → statement M
 step-size-spec =
