@@ -2,93 +2,136 @@
 use crate::Heads;
 use crate::Place;
 use crate::part::bar;
+use bytes::wide;
 ghost use mathlib.Core.Path.{_≡_};
-ghost use mathlib.Core.List.{[], _∷_};
-ghost use mathlib.Core.Bool.{cond, _&&_};
-ghost use Prim.Native.Nat.{_≤_};
-ghost use lib.ListN.{length, drop};
-ghost use Rattle.bytes.specs.Bytes.{starts};
-ghost use Rattle.fields.specs.First.{Heading, orElse, isMet};
+ghost use mathlib.Core.Bool.{cond};
+ghost use Prim.Native.Nat.{_+_, _≤_};
+ghost use lib.ListN.{length};
+ghost use Rattle.fields.specs.First.{Heading, orElse};
+ghost use Rattle.fields.specs.code.Header.{TagAt, placeOf, missing, Noted};
 
-// Whether the bytes from a place on begin with two digits and `=`.
-fn is_tag(s: &[u8], at: usize, a: u8, b: u8) -> bool
+// Where a value stands; start 0 where its field was not met.
+struct Spot {
+    start: usize,
+    end: usize,
+}
+
+struct Spots {
+    number: Spot,
+    sender: Spot,
+    target: Spot,
+}
+
+// The two bytes before the third byte of a part as one number, where that byte is `=`; else 0.
+fn tag_at(s: &[u8], at: usize) -> u64
     requires { ⌜ at ≤ length (now s) ⌝ }
-    ensures { λ r. ⌜ r ≡ starts (a ∷ b ∷ 61 ∷ []) (drop at (now (s .entry))) ⌝ }
+    ensures { λ r. ⌜ TagAt (now (s .entry)) at r ⌝ }
 {
     if s.len() - at < 3 {
-        return false;
+        return 0;
     }
-    if s[at] != a {
-        return false;
+    if s[at + 2] != 61 {
+        return 0;
     }
-    if s[at + 1] != b {
-        return false;
-    }
-    s[at + 2] == 61
+    wide(s[at]) * 256 + wide(s[at + 1])
 }
 
 // The first place of a tag stays; a later one is not looked at.
-fn noted(old: Place, hit: bool, start: usize, end: usize) -> Place
-    ensures { λ r. ⌜ r ≡ orElse old (cond hit (Place.At start end) Place.Absent) ⌝ }
+fn kept(old: Spot, start: usize, end: usize) -> Spot
+    requires { ⌜ 1 ≤ start ⌝ }
+    ensures { λ r. ⌜ placeOf r ≡ orElse (placeOf old) (Place.At start end) ⌝ }
 {
-    match old {
-        Place::At { start: _, end: _ } => old,
-        Place::Absent => {
-            if hit {
-                return Place::At { start, end };
-            }
-            Place::Absent
-        }
+    if old.start == 0 {
+        return Spot { start, end };
     }
+    old
 }
 
-fn is_met(p: Place) -> bool
-    ensures { λ b. ⌜ b ≡ isMet p ⌝ }
+// A part's value, noted if its tag is 34, 49 or 56: the two digits as one number.
+fn noted(f: Spots, tag: u64, start: usize, end: usize) -> Spots
+    requires { ⌜ 1 ≤ start ⌝ }
+    ensures { λ g. ⌜ Noted f tag start end g ⌝ }
 {
-    match p {
-        Place::At { start: _, end: _ } => true,
-        Place::Absent => false,
+    let number = f.number;
+    let sender = f.sender;
+    let target = f.target;
+    if tag == 13108 {
+        return Spots {
+            number: kept(number, start, end),
+            sender,
+            target,
+        };
     }
+    if tag == 13369 {
+        return Spots {
+            number,
+            sender: kept(sender, start, end),
+            target,
+        };
+    }
+    if tag == 13622 {
+        return Spots {
+            number,
+            sender,
+            target: kept(target, start, end),
+        };
+    }
+    f
 }
 
-fn all_met(a: Place, b: Place, c: Place) -> bool
-    ensures { λ r. ⌜ r ≡ isMet a && (isMet b && isMet c) ⌝ }
+// Where the pass goes on: at the next part, or at the end where none of the three is missing.
+fn onward(f: Spots, next: usize, n: usize) -> usize
+    ensures { λ r. ⌜ r ≡ cond (missing f) next n ⌝ }
 {
-    if !is_met(a) {
-        return false;
+    if f.target.start == 0 {
+        return next;
     }
-    if !is_met(b) {
-        return false;
+    if f.sender.start == 0 {
+        return next;
     }
-    is_met(c)
+    if f.number.start == 0 {
+        return next;
+    }
+    n
+}
+
+fn place_of(p: Spot) -> Place
+    ensures { λ r. ⌜ r ≡ placeOf p ⌝ }
+{
+    if p.start == 0 {
+        return Place::Absent;
+    }
+    Place::At {
+        start: p.start,
+        end: p.end,
+    }
 }
 
 // One pass, up to the last of the three.
 pub fn heads_of(body: &[u8]) -> Heads
     ensures { λ h. ⌜ Heading (now (body .entry)) h ⌝ }
 {
-    let mut number = Place::Absent;
-    let mut sender = Place::Absent;
-    let mut target = Place::Absent;
+    let none = Spot { start: 0, end: 0 };
+    let mut f = Spots {
+        number: none,
+        sender: none,
+        target: none,
+    };
     let mut at: usize = 0;
     while at < body.len() {
         let end = bar(body, at);
+        let tag = tag_at(body, at);
         let start = at + 3;
-        number = noted(number, is_tag(body, at, 51, 52), start, end);
-        sender = noted(sender, is_tag(body, at, 52, 57), start, end);
-        target = noted(target, is_tag(body, at, 53, 54), start, end);
-        if all_met(number, sender, target) {
-            return Heads {
-                number,
-                sender,
-                target,
-            };
-        }
-        at = end + 1;
+        let next = end + 1;
+        f = noted(f, tag, start, end);
+        at = onward(f, next, body.len());
     }
+    let number = f.number;
+    let sender = f.sender;
+    let target = f.target;
     Heads {
-        number,
-        sender,
-        target,
+        number: place_of(number),
+        sender: place_of(sender),
+        target: place_of(target),
     }
 }

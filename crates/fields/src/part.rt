@@ -1,5 +1,6 @@
 // The parts of a body: where one ends, what it is, and whether bytes are a body.
 use crate::Item;
+use bytes::calm;
 use bytes::digits;
 ghost use mathlib.Core.Path.{_≡_};
 ghost use Prim.Native.Nat.{_≤_};
@@ -9,8 +10,8 @@ ghost use Rattle.fields.specs.Field.{isBody};
 ghost use Rattle.fields.specs.Item.{Cut};
 ghost use Rattle.fields.specs.code.Scan.{Ends};
 
-// The place of the first `|` from at on, or the length: byte by byte.
-fn near_bar(s: &[u8], at: usize) -> usize
+// The place of the first `|` from at on, or the length.
+pub fn bar(s: &[u8], at: usize) -> usize
     requires { ⌜ at ≤ length (now s) ⌝ }
     ensures { λ r. ⌜ Ends (now (s .entry)) at r ⌝ }
 {
@@ -24,28 +25,29 @@ fn near_bar(s: &[u8], at: usize) -> usize
     i
 }
 
-// The same, four bytes to a turn: a value's bytes are most of what a body is.
-pub fn bar(s: &[u8], at: usize) -> usize
+// The same from a field's `=` on. Most values are short: eight bytes are looked at one by one, then sixteen at once as long as no `|` is among them.
+fn value_end(s: &[u8], at: usize) -> usize
     requires { ⌜ at ≤ length (now s) ⌝ }
     ensures { λ r. ⌜ Ends (now (s .entry)) at r ⌝ }
 {
-    let mut i = at;
-    while 3 < s.len() - i {
-        if s[i] == 1 {
-            return i;
-        }
-        if s[i + 1] == 1 {
-            return i + 1;
-        }
-        if s[i + 2] == 1 {
-            return i + 2;
-        }
-        if s[i + 3] == 1 {
-            return i + 3;
-        }
-        i += 4;
+    if s.len() - at < 8 {
+        return bar(s, at);
     }
-    near_bar(s, i)
+    let mut k = 0;
+    while k < 8 {
+        if s[at + k] == 1 {
+            return at + k;
+        }
+        k += 1;
+    }
+    let mut i = at + 8;
+    while 16 <= s.len() - i {
+        if !calm(s, i, 16, 1) {
+            return bar(s, i);
+        }
+        i += 16;
+    }
+    bar(s, i)
 }
 
 // The part that begins at a place of any bytes. Its tag's digits are read once, and the search for `|` goes on behind them.
@@ -58,7 +60,7 @@ pub fn item_at(body: &[u8], at: usize) -> Item
     let read = digits(body, at, 5);
     let tag = read.value as u32;
     let mark = at + read.count;
-    let end = bar(body, mark);
+    let end = value_end(body, mark);
     let next = end + 1;
     let whole = Item::Malformed {
         start: at,
