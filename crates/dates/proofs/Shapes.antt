@@ -1,18 +1,19 @@
--- The shapes of days and times: a shape joined of two, of letters alone, and followed two digits or one byte at a time as the code does.
-use Prim.Native.Nat.{ℕ, zero, suc, _+_, _-_, _*_, _≤_}
+-- The shapes of days and times: a shape joined of two, of letters alone, and compared one byte at a time as the code does.
+use Prim.Native.Nat.{ℕ, zero, suc, _+_, _≤_, _<_}
+use native.Mathlib.Nat.{not-suc-le-zero}
+use native.Mathlib.Numerals.{add-one}
 use native.Mathlib.Omega.{arith}
-use mathlib.Core.Path.{_≡_, refl, ap}
+use mathlib.Core.Path.{_≡_, refl, sym, ap, _∙_}
 use mathlib.Core.List.{[], _∷_, _++_}
-use mathlib.Core.Bool.{Bool, true, false, cond, _&&_, and-false}
+use mathlib.Core.Bool.{Bool, true, false, cond, not, _&&_, and-true, and-false, false≢true}
 use lib.Dec.{eqb, leb, eqb·suc-suc, eqb·zero-suc, eqb·suc-zero}
-use lib.ListN.{length, take, drop, getD}
-use lib.Seq.{drop-cons}
-use borrow.Author.Tests.{ne-eqb}
-use Rattle.bytes.specs.Bytes.{Bytes, all, digit}
+use lib.ListN.{length, take, drop, getD, length-drop}
+use lib.Seq.{drop-cons, getD-drop, take-all}
+use Rattle.bytes.specs.Bytes.{Bytes, all, digit, Digit}
 use Rattle.bytes.proofs.Tests.{both}
 use Rattle.bytes.proofs.Numerals.{digit-is}
 use Rattle.dates.specs.Date.{like}
-use Rattle.dates.specs.code.Scan.{twoOf, digitsThen, byteThen}
+use Rattle.dates.specs.code.Scan.{standsFor}
 
 -- n bytes from place i on, one by one
 abbrev pub bytesFrom : ℕ → ℕ → Bytes → Bytes
@@ -55,25 +56,58 @@ like-letters (x ∷ s) (y ∷ v) h =
     go false true = refl
     go false false = refl
 
--- two digits that the shape has, and what follows
-pub two-step : (a b : ℕ) (f : ℕ → ℕ) (r : Bool) (g : ℕ) → ((a - 48) * 10 + (b - 48) ≤ 99 → f ((a - 48) * 10 + (b - 48)) ≡ cond r g 6)
-    → digitsThen (twoOf a b) (f (twoOf a b)) ≡ cond (digit a && (digit b && r)) g 6
-two-step a b f r g h = go (digit a) (digit b) refl refl
-  where
-    go : (c d : Bool) → digit a ≡ c → digit b ≡ d
-        → digitsThen (cond (c && d) ((a - 48) * 10 + (b - 48)) 100) (f (cond (c && d) ((a - 48) * 10 + (b - 48)) 100)) ≡ cond (c && (d && r)) g 6
-    go true true p q =
-        let A = digit-is a p in
-        let B = digit-is b q in
-        let l : (a - 48) * 10 + (b - 48) ≤ 99 = omega arith in
-        rw (ne-eqb ((a - 48) * 10 + (b - 48)) 100 (λ e. omega arith)) (h l)
-    go true false p q = refl
-    go false d p q = refl
+-- a shape whose beginning is known
+pub like-rest : (s t v : Bytes) → like s (take (length s) v) ≡ true → like (s ++ t) v ≡ like t (drop (length s) v)
+like-rest s t v h = like-append s t v ∙ ap (λ (b : Bool). b && like t (drop (length s) v)) h
 
--- one byte that the shape has, and what follows
-pub byte-step : (x b f : ℕ) (r : Bool) (g : ℕ) → f ≡ cond r g 6 → byteThen x b f ≡ cond (eqb x b && r) g 6
-byte-step x b f r g h = go (eqb x b)
+-- the beginning of a shape
+pub like-front : (s t v : Bytes) → like (s ++ t) v ≡ true → like s (take (length s) v) ≡ true
+like-front s t v h = both (like s (take (length s) v)) (like t (drop (length s) v)) (sym (like-append s t v) ∙ h) .0
+
+-- where the shape has a letter there is a digit
+pub like-digit : (s v : Bytes) → like s v ≡ true → (i : ℕ) → leb 65 (getD s i 0) ≡ true → Digit (getD v i 0)
+like-digit [] v h i l = absurd (false≢true l)
+like-digit (x ∷ s) [] h i l = absurd (false≢true h)
+like-digit (x ∷ s) (y ∷ v) h zero l = digit-is y (both (digit y) (like s v) (rw l at h) .0)
+like-digit (x ∷ s) (y ∷ v) h (suc i) l = like-digit s v (both (cond (leb 65 x) (digit y) (eqb y x)) (like s v) h .1) i l
+
+-- one byte more
+like-step : (s v : Bytes) (k : ℕ) → k < length s → k < length v
+    → like (take (suc k) s) (take (suc k) v) ≡ (like (take k s) (take k v) && standsFor (getD s k 0) (getD v k 0))
+like-step [] v k h g = absurd (not-suc-le-zero h)
+like-step (x ∷ s) [] k h g = absurd (not-suc-le-zero g)
+like-step (x ∷ s) (y ∷ v) zero h g = and-true (standsFor x y)
+like-step (x ∷ s) (y ∷ v) (suc k) h g = go (standsFor x y) (like-step s v k (omega arith) (omega arith))
   where
-    go : (c : Bool) → cond c f 6 ≡ cond (c && r) g 6
-    go true = h
-    go false = refl
+    go : (c : Bool) → like (take (suc k) s) (take (suc k) v) ≡ (like (take k s) (take k v) && standsFor (getD s k 0) (getD v k 0))
+        → (c && like (take (suc k) s) (take (suc k) v)) ≡ ((c && like (take k s) (take k v)) && standsFor (getD s k 0) (getD v k 0))
+    go true e = e
+    go false e = refl
+
+like-more : (s v : Bytes) (at k : ℕ) → k < length s → at + length s ≤ length v
+    → like (take (k + 1) s) (take (k + 1) (drop at v)) ≡ (like (take k s) (take k (drop at v)) && standsFor (getD s k 0) (getD v (at + k) 0))
+like-more s v at k h g =
+    rw (add-one k)
+    (like-step s (drop at v) k h (omega (arith, length-drop at v))
+    ∙ ap (λ (y : ℕ). like (take k s) (take k (drop at v)) && standsFor (getD s k 0) y) (getD-drop at v k 0))
+
+-- the flag behind one byte: put down where it doesn't fit, kept where it does
+pub flag-down : (f b g : Bool) → not b ≡ true → g ≡ false → g ≡ (f && b)
+flag-down f true g n e = absurd (false≢true n)
+flag-down f false g n e = e ∙ sym (and-false f)
+
+pub flag-kept : (f b g : Bool) → not b ≡ false → g ≡ f → g ≡ (f && b)
+flag-kept f true g n e = e ∙ sym (and-true f)
+flag-kept f false g n e = absurd (false≢true (sym n))
+
+pub flag-next : (s v : Bytes) (at k : ℕ) (f b g : Bool) → k < length s → at + length s ≤ length v
+    → f ≡ like (take k s) (take k (drop at v)) → b ≡ standsFor (getD s k 0) (getD v (at + k) 0) → g ≡ (f && b)
+    → g ≡ like (take (k + 1) s) (take (k + 1) (drop at v))
+flag-next s v at k f b g h i p q e =
+    e ∙ ap (λ (x : Bool). x && b) p ∙ ap (λ (x : Bool). like (take k s) (take k (drop at v)) && x) q ∙ sym (like-more s v at k h i)
+
+-- all bytes of the shape
+pub flag-whole : (s v : Bytes) (at k : ℕ) (f : Bool) → k ≤ length s → length s ≤ k → f ≡ like (take k s) (take k (drop at v)) → f ≡ like s (take (length s) (drop at v))
+flag-whole s v at k f h g p =
+    let e : k ≡ length s = omega arith in
+    p ∙ ap (λ (l : Bytes). like l (take k (drop at v))) (take-all k s g) ∙ ap (λ (n : ℕ). like s (take n (drop at v))) e

@@ -1,146 +1,150 @@
--- Days and times as the code goes through them are those of the words: shape, calendar and clock.
-use Prim.Native.Nat.{ℕ, _+_, _-_, _*_, _≤_, _<_}
+-- Days and times by their shapes: what the bytes that were compared say, and the numbers that calendar and clock are asked with.
+use Prim.Native.Nat.{ℕ, _+_, _*_, _%_, _^_, _≤_, _<_}
+use native.Mathlib.Numerals.{add-one}
 use native.Mathlib.Omega.{arith}
 use mathlib.Core.Path.{_≡_, refl, sym, ap, _∙_}
-use mathlib.Core.List.{[], _∷_, _++_}
-use mathlib.Core.Bool.{Bool, true, false, cond, _&&_, _||_}
-use lib.Dec.{eqb}
-use lib.ListN.{length, take, drop, getD, drop-of-length-le, length-drop}
-use lib.Seq.{drop-cons, drop-drop, take-all}
-use borrow.Author.Tests.{eq-eqb, ne-eqb, eqb-true, eqb-false}
-use Rattle.bytes.specs.Bytes.{Bytes, fix, all, digit, value}
-use Rattle.dates.specs.Date.{like, isTime, goodDay, goodClock, dayFound, timeFound}
-use Rattle.dates.specs.code.Scan.{twoOf, twoAt, digitsThen, byteThen, calendarOf, hoursOf, dayOf, clockOf, fractionOf}
-use Rattle.dates.proofs.Shapes.{bytes-are, like-append, like-long, like-letters, two-step, byte-step}
+use mathlib.Core.List.{[], _∷_}
+use mathlib.Core.Bool.{Bool, true, false, cond, not, _&&_, _||_, and-true, or-false, false≢true}
+use lib.Dec.{leb}
+use lib.ListN.{length, take, drop, getD, length-drop}
+use lib.Seq.{take-all, take-take, getD-take}
+use borrow.Author.Tests.{not-true, not-false}
+use Rattle.bytes.specs.Bytes.{Bytes, fix, value, digit}
+use Rattle.dates.specs.Date.{like, isTime, goodDay, goodClock, number-at, dayFound, timeFound}
+use Rattle.dates.specs.code.Scan.{Digits, TwoAt, calendarOf, hoursOf}
+use Rattle.dates.proofs.Shapes.{bytes-are, like-append, like-long, like-rest, like-front, like-digit}
 
--- three numbers, each written otherwise
-alike : (f : ℕ → ℕ → ℕ → ℕ) {x y z k l m : ℕ} → x ≡ k → y ≡ l → z ≡ m → f x y z ≡ f k l m
-alike f p q r = rw (p, q, r)
+-- two digits where the shape of the first n bytes has letters
+pub letters : (s v : Bytes) (i : ℕ) → like s (take (length s) v) ≡ true → i + 1 < length s → leb 65 (getD s i 0) ≡ true → leb 65 (getD s (i + 1) 0) ≡ true → Digits v i
+letters s v i h k a b =
+    (rw (getD-take (length s) v i 0 (omega arith)) at (like-digit s (take (length s) v) h i a), rw (getD-take (length s) v (i + 1) 0 k) at (like-digit s (take (length s) v) h (i + 1) b))
 
-two-value : (a b : ℕ) → (a - 48) * 10 + (b - 48) ≡ value (a ∷ b ∷ [])
-two-value a b = omega arith
-
-four-value : (a b c d : ℕ) → ((a - 48) * 10 + (b - 48)) * 100 + ((c - 48) * 10 + (d - 48)) ≡ value (a ∷ b ∷ c ∷ d ∷ [])
-four-value a b c d = omega arith
+-- the number of two digits by how far each is above `0`
+pub two-is : (v : Bytes) (i a b : ℕ) → i + 2 ≤ length v → Digits v i → (a + 48) % 2 ^ 8 ≡ getD v i 0 → a < 256 → (b + 48) % 2 ^ 8 ≡ getD v (i + 1) 0 → b < 256 → TwoAt v i (a * 10 + b)
+two-is v i a b h D e k f l =
+    record {
+      is = rw (bytes-are i 2 v h) (omega (arith, ap (λ (n : ℕ). getD v n 0) (add-one i)));
+      small = omega arith;
+    }
 
 -- THE DAY
-day-bytes : (a b c d e f g h : ℕ)
-    → digitsThen (twoOf a b) (digitsThen (twoOf c d) (digitsThen (twoOf e f) (digitsThen (twoOf g h) (calendarOf (twoOf a b * 100 + twoOf c d) (twoOf e f) (twoOf g h)))))
-    ≡ cond (like (fix "YYYYMMDD") (a ∷ b ∷ c ∷ d ∷ e ∷ f ∷ g ∷ h ∷ [])) (calendarOf (value (a ∷ b ∷ c ∷ d ∷ [])) (value (e ∷ f ∷ [])) (value (g ∷ h ∷ []))) 6
-day-bytes a b c d e f g h =
-    two-step a b (λ y. digitsThen (twoOf c d) (digitsThen (twoOf e f) (digitsThen (twoOf g h) (calendarOf (y * 100 + twoOf c d) (twoOf e f) (twoOf g h))))) _ _
-    (λ p. two-step c d (λ y. digitsThen (twoOf e f) (digitsThen (twoOf g h) (calendarOf (((a - 48) * 10 + (b - 48)) * 100 + y) (twoOf e f) (twoOf g h)))) _ _
-    (λ q. two-step e f (λ m. digitsThen (twoOf g h) (calendarOf (((a - 48) * 10 + (b - 48)) * 100 + ((c - 48) * 10 + (d - 48))) m (twoOf g h))) _ _
-    (λ r. two-step g h (λ n. calendarOf (((a - 48) * 10 + (b - 48)) * 100 + ((c - 48) * 10 + (d - 48))) ((e - 48) * 10 + (f - 48)) n) true _
-    (λ s. alike calendarOf (four-value a b c d) (two-value e f) (two-value g h)))))
+pub day-means : (v : Bytes) (a b m d : ℕ) → 8 ≤ length v → a ≡ number-at 0 2 v → b ≡ number-at 2 2 v → m ≡ number-at 4 2 v → d ≡ number-at 6 2 v
+    → calendarOf (a * 100 + b) m d ≡ cond (goodDay v) 0 5
+unfolding goodDay
+day-means v a b m d h p q r s = rw (p ∙ ap value (bytes-are 0 2 v (omega arith)), q ∙ ap value (bytes-are 2 2 v (omega arith)), r, s, ← year) refl
+  where
+    year : number-at 0 4 v ≡ value (getD v 0 0 ∷ getD v 1 0 ∷ []) * 100 + value (getD v 2 0 ∷ getD v 3 0 ∷ [])
+    year = rw (bytes-are 0 4 v (omega arith)) (omega arith)
 
--- what the first eight bytes say
-pub day-means : (v : Bytes) → 8 ≤ length v → dayOf v ≡ cond (like (fix "YYYYMMDD") (take 8 v)) (cond (goodDay v) 0 5) 6
-unfolding dayOf twoAt goodDay
-day-means v h =
-    rw (bytes-are 0 8 v h, bytes-are 0 4 v (omega arith), bytes-are 4 2 v (omega arith), bytes-are 6 2 v (omega arith))
-    (day-bytes (getD v 0 0) (getD v 1 0) (getD v 2 0) (getD v 3 0) (getD v 4 0) (getD v 5 0) (getD v 6 0) (getD v 7 0))
-
-pub day-judged : (v : Bytes) → length v ≡ 8 → dayOf v ≡ dayFound v
+pub day-unformed : (v : Bytes) (b : Bool) → length v ≡ 8 → b ≡ like (fix "YYYYMMDD") (take 8 v) → not b ≡ true → 6 ≡ dayFound v
 unfolding dayFound
-day-judged v h = day-means v (omega arith) ∙ ap (λ (l : Bytes). cond (like (fix "YYYYMMDD") l) (cond (goodDay v) 0 5) 6) (take-all 8 v (omega arith))
+day-unformed v b h p n = rw (ap (like (fix "YYYYMMDD")) (sym (take-all 8 v (omega arith))) ∙ sym p ∙ not-true b n)
+
+pub day-judged : (v : Bytes) (b : Bool) (r : ℕ) → length v ≡ 8 → b ≡ like (fix "YYYYMMDD") (take 8 v) → not b ≡ false → r ≡ cond (goodDay v) 0 5 → r ≡ dayFound v
+unfolding dayFound
+day-judged v b r h p n e = rw (ap (like (fix "YYYYMMDD")) (sym (take-all 8 v (omega arith))) ∙ sym p ∙ not-false b n) e
 
 pub day-long : (v : Bytes) → (length v ≡ 8 → ⊥) → 6 ≡ dayFound v
 unfolding dayFound
 day-long v n = rw (like-long (fix "YYYYMMDD") v (λ e. n (sym e)))
 
--- THE TIME OF DAY
-clock-bytes : (x a b y c d z e f : ℕ)
-    → byteThen x 45 (digitsThen (twoOf a b) (byteThen y 58 (digitsThen (twoOf c d) (byteThen z 58 (digitsThen (twoOf e f) (hoursOf (twoOf a b) (twoOf c d) (twoOf e f)))))))
-    ≡ cond (like (fix "-HH:MM:SS") (x ∷ a ∷ b ∷ y ∷ c ∷ d ∷ z ∷ e ∷ f ∷ [])) (hoursOf (value (a ∷ b ∷ [])) (value (c ∷ d ∷ [])) (value (e ∷ f ∷ []))) 6
-clock-bytes x a b y c d z e f =
-    byte-step x 45 _ _ _
-    (two-step a b (λ h. byteThen y 58 (digitsThen (twoOf c d) (byteThen z 58 (digitsThen (twoOf e f) (hoursOf h (twoOf c d) (twoOf e f)))))) _ _
-    (λ p. byte-step y 58 _ _ _
-    (two-step c d (λ m. byteThen z 58 (digitsThen (twoOf e f) (hoursOf ((a - 48) * 10 + (b - 48)) m (twoOf e f)))) _ _
-    (λ q. byte-step z 58 _ _ _
-    (two-step e f (λ s. hoursOf ((a - 48) * 10 + (b - 48)) ((c - 48) * 10 + (d - 48)) s) true _
-    (λ r. alike hoursOf (two-value a b) (two-value c d) (two-value e f)))))))
-
--- what the nine bytes behind the day say
-pub clock-means : (v : Bytes) → 17 ≤ length v → clockOf v ≡ cond (like (fix "-HH:MM:SS") (take 9 (drop 8 v))) (cond (goodClock v) 0 5) 6
-unfolding clockOf twoAt goodClock
-clock-means v h =
-    rw (bytes-are 8 9 v h, bytes-are 9 2 v (omega arith), bytes-are 12 2 v (omega arith), bytes-are 15 2 v (omega arith))
-    (clock-bytes (getD v 8 0) (getD v 9 0) (getD v 10 0) (getD v 11 0) (getD v 12 0) (getD v 13 0) (getD v 14 0) (getD v 15 0) (getD v 16 0))
-
--- DAY AND TIME, with what stands behind the seconds
-stamp-like : (x v : Bytes) → like (fix "YYYYMMDD" ++ (fix "-HH:MM:SS" ++ x)) v ≡ (like (fix "YYYYMMDD") (take 8 v) && (like (fix "-HH:MM:SS") (take 9 (drop 8 v)) && like x (drop 17 v)))
-stamp-like x v =
-    like-append (fix "YYYYMMDD") (fix "-HH:MM:SS" ++ x) v
-    ∙ ap (λ (b : Bool). like (fix "YYYYMMDD") (take 8 v) && b)
-    (like-append (fix "-HH:MM:SS") x (drop 8 v) ∙ ap (λ (l : Bytes). like (fix "-HH:MM:SS") (take 9 (drop 8 v)) && like x l) (drop-drop 9 8 v))
-
-time-formed : (v : Bytes) → isTime v ≡ (like (fix "YYYYMMDD") (take 8 v) && (like (fix "-HH:MM:SS") (take 9 (drop 8 v)) && fractionOf v))
-unfolding fractionOf
-time-formed v =
-    rw (stamp-like [] v, stamp-like (fix ".sss") v, stamp-like (fix ".ssssss") v)
-    (go (like (fix "YYYYMMDD") (take 8 v)) (like (fix "-HH:MM:SS") (take 9 (drop 8 v))) _ _ _)
-  where
-    go : (d c f g h : Bool) → ((d && (c && f)) || ((d && (c && g)) || ((d && (c && h)) || false))) ≡ (d && (c && (f || (g || (h || false)))))
-    go true true f g h = refl
-    go true false f g h = refl
-    go false c f g h = refl
+-- THE TIME
+pub time-means : (v : Bytes) (h m s : ℕ) → h ≡ number-at 9 2 v → m ≡ number-at 12 2 v → s ≡ number-at 15 2 v → hoursOf h m s ≡ cond (goodClock v) 0 5
+unfolding goodClock
+time-means v h m s p q r = rw (p, q, r)
 
 pub time-short : (v : Bytes) → length v < 17 → 6 ≡ timeFound v
 unfolding timeFound
 time-short v h =
     rw (like-long (fix "YYYYMMDD-HH:MM:SS") v (λ e. omega arith), like-long (fix "YYYYMMDD-HH:MM:SS.sss") v (λ e. omega arith), like-long (fix "YYYYMMDD-HH:MM:SS.ssssss") v (λ e. omega arith))
 
-pub time-judged : (v : Bytes) → 17 ≤ length v
-    → timeFound v ≡ cond (fractionOf v) (cond (eqb (dayOf v) 6) 6 (cond (eqb (clockOf v) 6) 6 (cond (eqb (dayOf v) 5) 5 (clockOf v)))) 6
+pub time-unformed : (v : Bytes) (b : Bool) → b ≡ isTime v → not b ≡ true → 6 ≡ timeFound v
 unfolding timeFound
-time-judged v h =
-    rw (time-formed v, day-means v (omega arith), clock-means v h)
-    (go (fractionOf v) (like (fix "YYYYMMDD") (take 8 v)) (like (fix "-HH:MM:SS") (take 9 (drop 8 v))) (goodDay v) (goodClock v))
+time-unformed v b p n = rw (sym p ∙ not-true b n)
+
+pub time-no-day : (v : Bytes) (b : Bool) (d : ℕ) → b ≡ isTime v → not b ≡ false → d ≡ cond (goodDay v) 0 5 → d ≡ 5 → 5 ≡ timeFound v
+unfolding timeFound
+time-no-day v b d p n q e = rw (sym p ∙ not-false b n) (go (goodDay v) (sym q ∙ e))
   where
-    go : (f d c g k : Bool) → _≡_ {A = ℕ} (cond (d && (c && f)) (cond (g && k) 0 5) 6)
-        (cond f (cond (eqb (cond d (cond g 0 5) 6) 6) 6 (cond (eqb (cond c (cond k 0 5) 6) 6) 6 (cond (eqb (cond d (cond g 0 5) 6) 5) 5 (cond c (cond k 0 5) 6)))) 6)
-    go false true true g k = refl
-    go false true false g k = refl
-    go false false c g k = refl
-    go true false c g k = refl
-    go true true false true k = refl
-    go true true false false k = refl
-    go true true true true true = refl
-    go true true true true false = refl
-    go true true true false true = refl
-    go true true true false false = refl
+    go : (g : Bool) → _≡_ {A = ℕ} (cond g 0 5) 5 → _≡_ {A = ℕ} 5 (cond (g && goodClock v) 0 5)
+    go true k = omega arith
+    go false k = refl
 
--- WHAT STANDS BEHIND THE SECONDS
-pub fraction-none : (v : Bytes) → length v ≡ 17 → true ≡ fractionOf v
-unfolding fractionOf
-fraction-none v h = rw (drop-of-length-le v {i = 17} (omega arith))
+pub time-judged : (v : Bytes) (b : Bool) (d r : ℕ) → b ≡ isTime v → not b ≡ false → d ≡ cond (goodDay v) 0 5 → (d ≡ 5 → ⊥) → r ≡ cond (goodClock v) 0 5 → r ≡ timeFound v
+unfolding timeFound
+time-judged v b d r p n q e c = rw (sym p ∙ not-false b n) (go (goodDay v) (λ k. e (q ∙ k)))
+  where
+    go : (g : Bool) → (_≡_ {A = ℕ} (cond g 0 5) 5 → ⊥) → r ≡ cond (g && goodClock v) 0 5
+    go true k = c
+    go false k = absurd (k refl)
 
-module _ (v : Bytes) (h : 17 < length v) where
-  pub fraction-other : (getD v 17 0 ≡ 46 → ⊥) → false ≡ fractionOf v
-  unfolding fractionOf
-  fraction-other n = rw (drop-cons v 17 0 h, ne-eqb (getD v 17 0) 46 n)
+-- all three shapes begin alike
+pub time-front : (v : Bytes) (b : Bool) → b ≡ isTime v → not b ≡ false → like (fix "YYYYMMDD-HH:MM:SS") (take 17 v) ≡ true
+time-front v b p n =
+    go _ _ _ _
+    (like-front (fix "YYYYMMDD-HH:MM:SS") [] v)
+    (like-front (fix "YYYYMMDD-HH:MM:SS") (fix ".sss") v)
+    (like-front (fix "YYYYMMDD-HH:MM:SS") (fix ".ssssss") v)
+    (sym p ∙ not-false b n)
+  where
+    go : (a b c d : Bool) → (a ≡ true → d ≡ true) → (b ≡ true → d ≡ true) → (c ≡ true → d ≡ true) → (a || (b || (c || false))) ≡ true → d ≡ true
+    go true b c d f g h e = f refl
+    go false true c d f g h e = g refl
+    go false false true d f g h e = h refl
+    go false false false d f g h e = absurd (false≢true e)
 
-  -- `.`, and as many digits as the length has room for
-  pub fraction-digits : getD v 17 0 ≡ 46 → fractionOf v ≡ cond (eqb (length v) 21) (all digit (drop 18 v)) (cond (eqb (length v) 24) (all digit (drop 18 v)) false)
-  unfolding fractionOf
-  fraction-digits e =
-      rw (drop-cons v 17 0 h, e, like-letters (fix "sss") (drop 18 v) refl, like-letters (fix "ssssss") (drop 18 v) refl, length-drop 18 v, behind 3, behind 6)
-      (go (eqb (length v) 21) (eqb (length v) 24) (all digit (drop 18 v)))
-    where
-      behind : (k : ℕ) → eqb (length v - 18) k ≡ eqb (length v) (18 + k)
-      behind k = at-place (eqb (length v) (18 + k)) refl
-        where
-          at-place : (b : Bool) → eqb (length v) (18 + k) ≡ b → eqb (length v - 18) k ≡ b
-          at-place true q = let n = eqb-true (length v) (18 + k) q in eq-eqb (length v - 18) k (omega arith)
-          at-place false q = let n = eqb-false (length v) (18 + k) q in ne-eqb (length v - 18) k (λ p. omega arith)
+pub time-wrong : (v : Bytes) (b : Bool) → b ≡ like (fix "YYYYMMDD-HH:MM:S") (take 16 v) → not b ≡ true → 6 ≡ timeFound v
+unfolding timeFound
+time-wrong v b p n =
+    rw (
+      like-append (fix "YYYYMMDD-HH:MM:S") (fix "S") v,
+      like-append (fix "YYYYMMDD-HH:MM:S") (fix "S.sss") v,
+      like-append (fix "YYYYMMDD-HH:MM:S") (fix "S.ssssss") v,
+      sym p ∙ not-true b n,
+    )
 
-      go : (a b d : Bool) → ((a && d) || ((b && d) || false)) ≡ cond a d (cond b d false)
-      go true true true = refl
-      go true true false = refl
-      go true false true = refl
-      go true false false = refl
-      go false true true = refl
-      go false true false = refl
-      go false false d = refl
+-- the day in front of a time
+pub time-day : (v : Bytes) (b : Bool) → b ≡ like (fix "YYYYMMDD-HH:MM:S") (take 16 v) → not b ≡ false → like (fix "YYYYMMDD") (take 8 v) ≡ true
+time-day v b p n = rw (take-take 8 16 v (omega arith)) at (like-front (fix "YYYYMMDD") (fix "-HH:MM:S") (take 16 v) (sym p ∙ not-false b n))
+
+-- WHAT STANDS BEHIND THE FIRST SIXTEEN BYTES, by the length
+module _ (v : Bytes) (h : like (fix "YYYYMMDD-HH:MM:S") (take 16 v) ≡ true) where
+  pub time-six : length v ≡ 24 → like (fix "S.ssssss") (take 8 (drop 16 v)) ≡ isTime v
+  time-six n =
+      rw (
+        like-long (fix "YYYYMMDD-HH:MM:SS") v (λ e. omega arith),
+        like-long (fix "YYYYMMDD-HH:MM:SS.sss") v (λ e. omega arith),
+        like-rest (fix "YYYYMMDD-HH:MM:S") (fix "S.ssssss") v h,
+        take-all 8 (drop 16 v) (omega (arith, length-drop 16 v)),
+      )
+      (sym (or-false _))
+
+  -- its last eight bytes begin with the minutes' second digit
+  pub time-three : length v ≡ 21 → like (fix "M:SS.sss") (take 8 (drop 13 v)) ≡ isTime v
+  time-three n =
+      let k : like (fix "YYYYMMDD-HH:M") (take 13 v) ≡ true = rw (take-take 13 16 v (omega arith)) at (like-front (fix "YYYYMMDD-HH:M") (fix "M:S") (take 16 v) h) in
+      rw (
+        like-long (fix "YYYYMMDD-HH:MM:SS") v (λ e. omega arith),
+        like-long (fix "YYYYMMDD-HH:MM:SS.ssssss") v (λ e. omega arith),
+        like-rest (fix "YYYYMMDD-HH:M") (fix "M:SS.sss") v k,
+        take-all 8 (drop 13 v) (omega (arith, length-drop 13 v)),
+      )
+      (sym (or-false _))
+
+  pub time-plain : length v ≡ 17 → digit (getD v 16 0) ≡ isTime v
+  time-plain n =
+      rw (
+        like-long (fix "YYYYMMDD-HH:MM:SS.sss") v (λ e. omega arith),
+        like-long (fix "YYYYMMDD-HH:MM:SS.ssssss") v (λ e. omega arith),
+        like-rest (fix "YYYYMMDD-HH:MM:S") (fix "S") v h,
+        sym (take-all 1 (drop 16 v) (omega (arith, length-drop 16 v))) ∙ bytes-are 16 1 v (omega arith),
+      )
+      (sym (or-false _ ∙ and-true _))
+
+  pub time-other : (length v ≡ 24 → ⊥) → (length v ≡ 21 → ⊥) → (length v ≡ 17 → ⊥) → false ≡ isTime v
+  time-other a b c =
+      rw (
+        like-long (fix "YYYYMMDD-HH:MM:SS") v (λ e. c (sym e)),
+        like-long (fix "YYYYMMDD-HH:MM:SS.sss") v (λ e. b (sym e)),
+        like-long (fix "YYYYMMDD-HH:MM:SS.ssssss") v (λ e. a (sym e)),
+      )

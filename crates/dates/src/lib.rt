@@ -1,11 +1,11 @@
 // Days and times: the shape of their bytes (6), and the calendar (5).
-use bytes::digits;
 ghost use mathlib.Core.Path.{_≡_};
-ghost use mathlib.Core.Bool.{cond};
+ghost use mathlib.Core.Bool.{true, cond};
 ghost use Prim.Native.Nat.{_+_, _≤_};
-ghost use lib.ListN.{length};
-ghost use Rattle.dates.specs.Date.{days, leap, dayFound, timeFound};
-ghost use Rattle.dates.specs.code.Scan.{TwoAt, calendarOf, clockOf, dayOf, hoursOf, fractionOf};
+ghost use lib.ListN.{length, take, drop};
+ghost use Rattle.bytes.specs.Bytes.{fix};
+ghost use Rattle.dates.specs.Date.{like, days, leap, isTime, goodDay, dayFound, timeFound};
+ghost use Rattle.dates.specs.code.Scan.{standsFor, Digits, TwoAt, calendarOf, hoursOf};
 
 // `YYYYMMDD-HH:MM:SS`, alone or with 3 or 6 decimals.
 pub fn judge_time(v: &[u8]) -> u32
@@ -14,21 +14,16 @@ pub fn judge_time(v: &[u8]) -> u32
     if v.len() < 17 {
         return 6;
     }
+    if !shaped(v, 0, b"YYYYMMDD-HH:MM:S") {
+        return 6;
+    }
     if !fraction(v) {
         return 6;
     }
-    let d = date(v);
-    if d == 6 {
-        return 6;
-    }
-    let c = clock(v);
-    if c == 6 {
-        return 6;
-    }
-    if d == 5 {
+    if date(v) == 5 {
         return 5;
     }
-    c
+    hours(two(v, 9), two(v, 12), two(v, 15))
 }
 
 // `YYYYMMDD`.
@@ -38,105 +33,72 @@ pub fn judge_day(v: &[u8]) -> u32
     if v.len() != 8 {
         return 6;
     }
+    if !shaped(v, 0, b"YYYYMMDD") {
+        return 6;
+    }
     date(v)
 }
 
-// The day that the first eight bytes write.
-fn date(v: &[u8]) -> u32
-    requires { ⌜ 8 ≤ length (now v) ⌝ }
-    ensures { λ r. ⌜ r ≡ dayOf (now (v .entry)) ⌝ }
-{
-    let c = two(v, 0);
-    if c == 100 {
-        return 6;
-    }
-    let y = two(v, 2);
-    if y == 100 {
-        return 6;
-    }
-    let m = two(v, 4);
-    if m == 100 {
-        return 6;
-    }
-    let d = two(v, 6);
-    if d == 100 {
-        return 6;
-    }
-    calendar(c * 100 + y, m, d)
-}
-
-// The time of day that the nine bytes from the eighth on write, `-` first.
-fn clock(v: &[u8]) -> u32
-    requires { ⌜ 17 ≤ length (now v) ⌝ }
-    ensures { λ r. ⌜ r ≡ clockOf (now (v .entry)) ⌝ }
-{
-    if v[8] != b'-' {
-        return 6;
-    }
-    let h = two(v, 9);
-    if h == 100 {
-        return 6;
-    }
-    if v[11] != b':' {
-        return 6;
-    }
-    let m = two(v, 12);
-    if m == 100 {
-        return 6;
-    }
-    if v[14] != b':' {
-        return 6;
-    }
-    let s = two(v, 15);
-    if s == 100 {
-        return 6;
-    }
-    hours(h, m, s)
-}
-
-// What stands behind the seconds: nothing, or `.` and 3 or 6 digits.
+// The rest of a time whose first 16 bytes are known: by its length, the last eight bytes or the last one.
 fn fraction(v: &[u8]) -> bool
-    requires { ⌜ 17 ≤ length (now v) ⌝ }
-    ensures { λ r. ⌜ r ≡ fractionOf (now (v .entry)) ⌝ }
+    requires { ⌜ (17 ≤ length (now v)) × (like (fix "YYYYMMDD-HH:MM:S") (take 16 (now v)) ≡ true) ⌝ }
+    ensures { λ r. ⌜ r ≡ isTime (now (v .entry)) ⌝ }
 {
     let n = v.len();
-    if n == 17 {
-        return true;
-    }
-    if v[17] != b'.' {
-        return false;
-    }
-    let d = digits(v, 18, 6);
-    let end = 18 + d.count;
-    if n == 21 {
-        return end == 21;
-    }
     if n == 24 {
-        return end == 24;
+        return shaped(v, 16, b"S.ssssss");
+    }
+    if n == 21 {
+        return shaped(v, 13, b"M:SS.sss");
+    }
+    if n == 17 {
+        return stands_for(b'S', v[16]);
     }
     false
 }
 
-// The number that two digits write, or 100 where one of the two bytes is no digit.
+// Bytes compared with a shape. The loop has no early exit, so all of them are compared at once.
+fn shaped(v: &[u8], at: usize, shape: &[u8]) -> bool
+    requires { ⌜ at + length (now shape) ≤ length (now v) ⌝ }
+    ensures { λ r. ⌜ r ≡ like (now (shape .entry)) (take (length (now (shape .entry))) (drop at (now (v .entry)))) ⌝ }
+{
+    let mut fits = true;
+    let mut k = 0;
+    while k < shape.len() {
+        if !stands_for(shape[k], v[at + k]) {
+            fits = false;
+        }
+        k += 1;
+    }
+    fits
+}
+
+// A letter of a shape stands for a digit, another byte for itself.
+fn stands_for(s: u8, x: u8) -> bool
+    ensures { λ r. ⌜ r ≡ standsFor s x ⌝ }
+{
+    if b'A' <= s {
+        return std::num::wrapping_sub_u8(x, 48) <= 9;
+    }
+    x == s
+}
+
+// The day that the first eight bytes write.
+fn date(v: &[u8]) -> u32
+    requires { ⌜ (8 ≤ length (now v)) × (like (fix "YYYYMMDD") (take 8 (now v)) ≡ true) ⌝ }
+    ensures { λ r. ⌜ r ≡ cond (goodDay (now (v .entry))) 0 5 ⌝ }
+{
+    calendar(two(v, 0) * 100 + two(v, 2), two(v, 4), two(v, 6))
+}
+
+// The number that two digits write.
 fn two(v: &[u8], i: usize) -> u32
-    requires { ⌜ i + 2 ≤ length (now v) ⌝ }
+    requires { ⌜ (i + 2 ≤ length (now v)) × Digits (now v) i ⌝ }
     ensures { λ r. ⌜ TwoAt (now (v .entry)) i r ⌝ }
 {
-    let a = v[i];
-    let b = v[i + 1];
-    if a < 48 {
-        return 100;
-    }
-    if 57 < a {
-        return 100;
-    }
-    if b < 48 {
-        return 100;
-    }
-    if 57 < b {
-        return 100;
-    }
-    ((a - 48) as u32) * 10 + ((b - 48) as u32)
+    let a = std::num::wrapping_sub_u8(v[i], 48);
+    let b = std::num::wrapping_sub_u8(v[i + 1], 48);
+    (a as u32) * 10 + (b as u32)
 }
 
 // A day of the Gregorian calendar.

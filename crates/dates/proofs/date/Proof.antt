@@ -1,72 +1,43 @@
 -- `date`: four times two digits, then the calendar.
 use borrow.Author.Needs.{needs}
-use borrow.Author.Tests.{eq-eqb, ne-eqb}
-use Rattle.dates.specs.code.Scan.{dayOf}
+use native.Mathlib.Omega.{arith}
+use mathlib.Core.Path.{refl, _∙_}
+use denote.Ref.{now}
+use Rattle.bytes.specs.Bytes.{fix}
+use Rattle.dates.proofs.Stamps.{letters, day-means}
 use Rattle.dates.proofs.date.Statement.{statement}
 use Rattle.dates.proofs.date.Tie as tie
 
+two-requires : tie.Need-two-requires
+two-requires c κs = let s = c .before in (omega arith, letters (fix "YYYYMMDD") (now (s .args .v)) 0 (s .pre .1) (omega arith) refl refl)
+
+two-requires-2 : tie.Need-two-requires-2
+two-requires-2 c κs = let s = c .before .before in (omega arith, letters (fix "YYYYMMDD") (now (s .args .v)) 2 (s .pre .1) (omega arith) refl refl)
+
+two-requires-3 : tie.Need-two-requires-3
+two-requires-3 c κs = let s = c .before .before .before in (omega arith, letters (fix "YYYYMMDD") (now (s .args .v)) 4 (s .pre .1) (omega arith) refl refl)
+
+two-requires-4 : tie.Need-two-requires-4
+two-requires-4 c κs = let s = c .before .before .before .before in (omega arith, letters (fix "YYYYMMDD") (now (s .args .v)) 6 (s .pre .1) (omega arith) refl refl)
+
 returns : tie.Need-returns
-unfolding dayOf
-returns c = rw (← c .before .two .ensures .is, eq-eqb _ _ (c .if1 .taken))
-
-returns-2 : tie.Need-returns-2
-unfolding dayOf
-returns-2 c = rw (← c .before .before .before .two .ensures .is, ne-eqb _ _ (c .before .before .if1 .left), ← c .before .two2 .ensures .is, eq-eqb _ _ (c .if2 .taken))
-
-returns-3 : tie.Need-returns-3
-unfolding dayOf
-returns-3 c =
-    rw (
-      ← c .before .before .before .before .before .two .ensures .is,
-      ne-eqb _ _ (c .before .before .before .before .if1 .left),
-      ← c .before .before .before .two2 .ensures .is,
-      ne-eqb _ _ (c .before .before .if2 .left),
-      ← c .before .two3 .ensures .is,
-      eq-eqb _ _ (c .if3 .taken),
-    )
-
-returns-4 : tie.Need-returns-4
-unfolding dayOf
-returns-4 c =
-    rw (
-      ← c .before .before .before .before .before .before .before .two .ensures .is,
-      ne-eqb _ _ (c .before .before .before .before .before .before .if1 .left),
-      ← c .before .before .before .before .before .two2 .ensures .is,
-      ne-eqb _ _ (c .before .before .before .before .if2 .left),
-      ← c .before .before .before .two3 .ensures .is,
-      ne-eqb _ _ (c .before .before .if3 .left),
-      ← c .before .two4 .ensures .is,
-      eq-eqb _ _ (c .if4 .taken),
-    )
-
-returns-5 : tie.Need-returns-5
-unfolding dayOf
-returns-5 c =
-    rw (
-      ← c .before .before .before .before .before .before .before .before .two .ensures .is,
-      ne-eqb _ _ (c .before .before .before .before .before .before .before .if1 .left),
-      ← c .before .before .before .before .before .before .two2 .ensures .is,
-      ne-eqb _ _ (c .before .before .before .before .before .if2 .left),
-      ← c .before .before .before .before .two3 .ensures .is,
-      ne-eqb _ _ (c .before .before .before .if3 .left),
-      ← c .before .before .two4 .ensures .is,
-      ne-eqb _ _ (c .before .if4 .left),
-    )
-    (c .calendar .ensures)
+returns c =
+    let d = c .before in
+    let m = d .before in
+    let b = m .before in
+    let a = b .before in
+    let s = a .before .before in
+    c .calendar .ensures ∙ day-means (now (s .args .v)) _ _ _ _ (s .pre .0) (a .two .ensures .is) (b .two2 .ensures .is) (m .two3 .ensures .is) (d .two4 .ensures .is)
 
 pub date-spec : {M : Type 1} → statement M
 date-spec =
     tie.close
     (tie.spec
-    (λ c κs. search needs)
-    returns
-    (λ c κs. search needs)
-    returns-2
-    (λ c κs. search needs)
-    returns-3
-    (λ c κs. search needs)
-    returns-4
+    two-requires
     (λ c. search needs)
+    two-requires-2
     (λ c. search needs)
+    two-requires-3
+    two-requires-4
     (λ c κs. search needs)
-    returns-5)
+    returns)
