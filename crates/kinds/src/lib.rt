@@ -94,7 +94,7 @@ pub fn judge(kind: Kind, v: &[u8]) -> u32
     }
 }
 
-fn judge_text(v: &[u8], most: usize) -> u32
+pub fn judge_text(v: &[u8], most: usize) -> u32
     ensures { λ r. ⌜ r ≡ judged (text most) (now (v .entry)) ⌝ }
 {
     let n = v.len();
@@ -107,7 +107,7 @@ fn judge_text(v: &[u8], most: usize) -> u32
     0
 }
 
-fn judge_number(v: &[u8], least: u32, most: u32) -> u32
+pub fn judge_number(v: &[u8], least: u32, most: u32) -> u32
     ensures { λ r. ⌜ r ≡ judged (number least to most) (now (v .entry)) ⌝ }
 {
     let read = read_number(v);
@@ -123,7 +123,7 @@ fn judge_number(v: &[u8], least: u32, most: u32) -> u32
     0
 }
 
-fn judge_flag(v: &[u8]) -> u32
+pub fn judge_flag(v: &[u8]) -> u32
     ensures { λ r. ⌜ r ≡ judged Y/N (now (v .entry)) ⌝ }
 {
     if is_one(v, b'Y') {
@@ -136,7 +136,7 @@ fn judge_flag(v: &[u8]) -> u32
 }
 
 // A decimal: its form, then its range.
-fn judge_decimal(v: &[u8]) -> u32
+pub fn judge_decimal(v: &[u8]) -> u32
     ensures { λ r. ⌜ r ≡ judged decimal (now (v .entry)) ⌝ }
 {
     match read_decimal(v) {
@@ -166,7 +166,7 @@ fn judge_choice(v: &[u8], list: Choice) -> u32
     }
 }
 
-fn judge_one(v: &[u8], x: u8) -> u32
+pub fn judge_one(v: &[u8], x: u8) -> u32
     ensures { λ r. ⌜ r ≡ judged (among ((x ∷ []) ∷ [])) (now (v .entry)) ⌝ }
 {
     if is_one(v, x) {
@@ -175,7 +175,7 @@ fn judge_one(v: &[u8], x: u8) -> u32
     5
 }
 
-fn judge_one_or_two(v: &[u8]) -> u32
+pub fn judge_one_or_two(v: &[u8]) -> u32
     ensures { λ r. ⌜ r ≡ judged (among (choices Choice.OneOrTwo)) (now (v .entry)) ⌝ }
 {
     if is_one(v, b'1') {
@@ -187,7 +187,7 @@ fn judge_one_or_two(v: &[u8]) -> u32
     5
 }
 
-fn judge_zero_or_54(v: &[u8]) -> u32
+pub fn judge_zero_or_54(v: &[u8]) -> u32
     ensures { λ r. ⌜ r ≡ judged (among (choices Choice.ZeroOr54)) (now (v .entry)) ⌝ }
 {
     if is_one(v, b'0') {
@@ -199,7 +199,7 @@ fn judge_zero_or_54(v: &[u8]) -> u32
     5
 }
 
-fn judge_zero_54_or_99(v: &[u8]) -> u32
+pub fn judge_zero_54_or_99(v: &[u8]) -> u32
     ensures { λ r. ⌜ r ≡ judged (among (choices Choice.ZeroOr54Or99)) (now (v .entry)) ⌝ }
 {
     if is_one(v, b'0') {
@@ -214,7 +214,7 @@ fn judge_zero_54_or_99(v: &[u8]) -> u32
     5
 }
 
-fn judge_match(v: &[u8]) -> u32
+pub fn judge_match(v: &[u8]) -> u32
     ensures { λ r. ⌜ r ≡ judged (among (choices Choice.Matches)) (now (v .entry)) ⌝ }
 {
     if is_one(v, b'2') {
@@ -232,7 +232,7 @@ fn judge_match(v: &[u8]) -> u32
     5
 }
 
-fn judge_role(v: &[u8]) -> u32
+pub fn judge_role(v: &[u8]) -> u32
     ensures { λ r. ⌜ r ≡ judged (among (choices Choice.Roles)) (now (v .entry)) ⌝ }
 {
     if is_one(v, b'1') {

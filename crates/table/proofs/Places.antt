@@ -1,24 +1,24 @@
 -- The places of the table: each tag of the dictionary has one, with its entry and its mark.
 use Prim.Native.Nat.{ℕ, zero, suc, _+_, _<_}
 use native.Mathlib.Omega.{arith}
-use borrow.Author.Tests.{eqb-true}
+use borrow.Author.Tests.{eqb-true, ltb-true}
 use mathlib.Core.Path.{_≡_, refl, ap, sym, _∙_, subst}
 use mathlib.Core.List.{List, [], _∷_, _++_, map}
 use mathlib.Core.Bool.{Bool, true, false, cond, not, _&&_, _||_, false≢true}
 use mathlib.Core.Logic.{inl, inr}
-use lib.Dec.{eqb}
-use lib.ListN.{length, getD, drop, length-map}
+use lib.Dec.{eqb, ltb}
+use lib.ListN.{length, getD, length-map}
 use Rattle.bytes.specs.Bytes.{Bytes, any, all, has, same}
 use Rattle.kinds.specs.Kind.{Kind, text, number_to_, Y/N, time, day, decimal, among}
 use Rattle.kinds.specs.Judged.{meaning}
 use Rattle.kinds.proofs.Values.{same-true}
 use Rattle.table.specs.Dictionary.{Group, №453, №580, №552, groups, theTen, header, fields, listed, kindIn, member, rowsOf, frameTag}
-use Rattle.table.specs.code.Held.{tagCount, allRows, tags, tagAt, Placed, index, bitOf, isNumeric, kindFor, written, sameAll, agree, rightIn, rightOf, right, entryOf, Table, Three, Right, Looked}
+use Rattle.table.specs.code.Held.{tagCount, allRows, tags, tagAt, Placed, index, bitOf, isNumeric, kindFor, written, sameAll, agree, rightIn, rightOf, right, entryOf, Table, slotOf, slotted, InSlots, OnlyPlace, Three, Right, Looked}
 use Rattle.table.specs.declared.MsgType.{MsgType}
 use Rattle.table.specs.declared.lines.Entry.{Entry}
 use Rattle.table.specs.declared.lines.Line.{Line}
 use Rattle.table.proofs.Lists.{agree-true, all-ten}
-use Rattle.bytes.proofs.Tests.{both, all-at, map-at, has-next}
+use Rattle.bytes.proofs.Tests.{both, all-at, map-at}
 
 pub tags-long : length tags ≡ tagCount
 unfolding allRows tags header fields №453 №580 №552
@@ -29,17 +29,38 @@ entry-tag t d i T h =
     let e : length t ≡ tagCount = sym (length-map t (λ (x : Line). x .0)) ∙ ap length (T .order) ∙ tags-long in
     sym (map-at (λ (x : Line). x .0) d 0 t i (omega arith)) ∙ ap (λ (l : List ℕ). getD l i 0) (T .order)
 
--- the search for a tag, at a place and past it
-pub place-here : (t : List Line) (d : Line) (i x : ℕ) → Table t → i < tagCount → getD t i d .0 ≡ x → Placed x i
-place-here t d i x T h e = record { within = omega arith; there = λ k. sym (entry-tag t d i T h) ∙ e; absent = λ k. absurd (omega arith) }
+-- the place of a tag by its slot
+slot-of : (l : List ℕ) (x p : ℕ) (ts : List ℕ) → slotted l p ts ≡ true → has ts x ≡ true → (k : ℕ) × ((getD l (slotOf x) 0 ≡ p + k) × (getD ts k 0 ≡ x))
+slot-of l x p [] h m = absurd (false≢true m)
+slot-of l x p (t ∷ ts) h m =
+    let w = both (eqb (getD l (slotOf t) 0) p) (slotted l (1 + p) ts) h in
+    go (eqb t x) refl m (eqb-true (getD l (slotOf t) 0) p (w .0)) (slot-of l x (1 + p) ts (w .1))
+  where
+    go : (b : Bool) → eqb t x ≡ b → (b || has ts x) ≡ true → getD l (slotOf t) 0 ≡ p
+        → (has ts x ≡ true → (k : ℕ) × ((getD l (slotOf x) 0 ≡ 1 + p + k) × (getD ts k 0 ≡ x)))
+        → (k : ℕ) × ((getD l (slotOf x) 0 ≡ p + k) × (getD (t ∷ ts) k 0 ≡ x))
+    go true e n f later =
+        let q = eqb-true t x e in
+        let g : p ≡ p + 0 = omega arith in
+        (0, (sym (ap (λ (y : ℕ). getD l (slotOf y) 0) q) ∙ f ∙ g, q))
+    go false e n f later = let r = later n in (suc (r .0), (omega (arith, r .1 .0), r .1 .1))
 
-pub place-next : (t : List Line) (d : Line) (i x : ℕ) → Table t → i < tagCount → (getD t i d .0 ≡ x → ⊥) → has (drop i tags) x ≡ has (drop (i + 1) tags) x
-place-next t d i x T h n =
-    has-next tags i x (omega (arith, tags-long)) (λ e. n (entry-tag t d i T h ∙ e))
+pub slot-place : (l : List ℕ) (x : ℕ) → InSlots l → OnlyPlace x (getD l (slotOf x) 0)
+slot-place l x S =
+    record {
+      small = ltb-true _ tagCount (all-at (λ (p : ℕ). ltb p tagCount) 0 l (S .small) (slotOf x) (omega (arith, S .long)));
+      only = λ h. let r = slot-of l x 0 tags (S .places) h in
+          let e : getD l (slotOf x) 0 ≡ r .0 = omega (arith, r .1 .0) in
+          ap tagAt e ∙ r .1 .1;
+    }
 
-pub place-none : (i x : ℕ) → i ≡ tagCount → has tags x ≡ has (drop i tags) x → Placed x i
-unfolding allRows tags header fields №453 №580 №552
-place-none i x e h = record { within = omega arith; there = λ k. absurd (omega arith); absent = λ k. h ∙ ap (λ (n : ℕ). has (drop n tags) x) e }
+-- its line has another tag: no line has this one
+pub no-place : {t : List Line} (d : Line) {x p : ℕ} → Table t → OnlyPlace x p → (getD t p d .0 ≡ x → ⊥) → has tags x ≡ false
+no-place {t} d {x} {p} T O n = go (has tags x) refl
+  where
+    go : (b : Bool) → has tags x ≡ b → b ≡ false
+    go true e = absurd (n (entry-tag t d p T (O .small) ∙ O .only e))
+    go false e = refl
 
 -- no two places have the same tag
 placeIn : List ℕ → ℕ → ℕ
@@ -157,6 +178,13 @@ right-is e h =
       counts-number = λ m b. or-not (bitOf (e .marks) 30) _ (four e h m .3) b;
     }
 
+-- the entry of a line
+pub line-looked : {t : List Line} (d : Line) {p : ℕ} → Table t → p < tagCount → {e : Entry} → e ≡ entryOf (getD t p d) → Looked e p
+line-looked {t} d {p} T small {e} h =
+    let n : length (map (λ (y : Line). y .0) t) ≡ tagCount = ap length (T .order) ∙ tags-long in
+    let R = right-is (entryOf (getD t p d)) (all-at (λ (l : Line). right (entryOf l)) d t (T .rights) p (omega (arith, small, length-map t (λ (y : Line). y .0)))) in
+    subst (λ (y : Entry). Looked y p) (sym h) (record { right = R; small = small; tagged = sym (entry-tag t d p T small) })
+
 module _ {t : List Line} (d : Line) {x p : ℕ} (T : Table t) (P : Placed x p) (n : p ≡ tagCount → ⊥) where
   small : p < tagCount
   small = omega (arith, P .within)
@@ -164,14 +192,5 @@ module _ {t : List Line} (d : Line) {x p : ℕ} (T : Table t) (P : Placed x p) (
   pub entry-is : {e : Entry} → e ≡ entryOf (getD t p d) → e .tag ≡ x
   entry-is h = ap (λ (e : Entry). e .tag) h ∙ entry-tag t d p T small ∙ P .there small
 
-  here : Looked (entryOf (getD t p d)) p
-  here =
-      let e : length (map (λ (y : Line). y .0) t) ≡ tagCount = ap length (T .order) ∙ tags-long in
-      record {
-        right = right-is (entryOf (getD t p d)) (all-at (λ (l : Line). right (entryOf l)) d t (T .rights) p (omega (arith, small, length-map t (λ (y : Line). y .0))));
-        small = small;
-        tagged = sym (entry-tag t d p T small);
-      }
-
   pub looked : {e : Entry} → e ≡ entryOf (getD t p d) → Looked e p
-  looked h = subst (λ (e : Entry). Looked e p) (sym h) here
+  looked h = line-looked d T small h

@@ -1,5 +1,5 @@
 -- How the code holds the dictionary. Only the code needs these: nothing here states document 01.
-use Prim.Native.Nat.{ℕ, _/_, _%_, _^_, _+_, _-_, _<_, _≤_}
+use Prim.Native.Nat.{ℕ, _/_, _%_, _^_, _+_, _-_, _*_, _<_, _≤_}
 use mathlib.Core.Path.{_≡_}
 use mathlib.Core.Logic.{_⊎_}
 use mathlib.Core.List.{List, [], _∷_, _++_, map}
@@ -167,14 +167,40 @@ right e =
     && (agree (bitOf (e .marks) 29) (frameTag (e .tag))
     && agree (bitOf (e .marks) 30) (any (λ g. eqb (g .counter) (e .tag)) groups))))
 
--- the entry that a line of the table is, and the computed test of the whole table
+-- the entry that a line of the table is: its word taken apart, a group by its number there; and the computed test of the whole table
+abbrev pub groupOf : ℕ → ℕ
+groupOf n = cond (eqb n 0) 0 (cond (eqb n 1) 453 (cond (eqb n 2) 580 552))
+
 abbrev pub entryOf : Line → Entry
 entryOf l =
-    record { tag = l .0; kind = l .1 % 32; marks = l .2; member = record { group = l .3; first = bitOf (l .2) 31; marks = l .1 / 32 } }
+    record {
+      tag = l .0;
+      kind = l .1 / 1024 % 32;
+      marks = l .1;
+      member = record { group = groupOf (l .1 / 262144 % 4); first = bitOf (l .1) 31; marks = l .1 / 32768 % 8 * 128 };
+    }
 
 pub record Table (t : List Line) : Type 0 where
   pub order : map (λ (l : Line). l .0) t ≡ tags
   pub rights : all (λ (l : Line). right (entryOf l)) t ≡ true
+
+-- THE SLOTS. Each tag has a slot, which holds its place; any other slot holds some place.
+abbrev pub slotOf : ℕ → ℕ
+slotOf t = t * 4673 / 64 % 128
+
+abbrev pub slotted : List ℕ → ℕ → List ℕ → Bool
+slotted l p [] = true
+slotted l p (t ∷ ts) = eqb (getD l (slotOf t) 0) p && slotted l (1 + p) ts
+
+pub record InSlots (l : List ℕ) : Type 0 where
+  pub places : slotted l 0 tags ≡ true
+  pub small : all (λ p. ltb p tagCount) l ≡ true
+  pub long : length l ≡ 128
+
+-- r is a place, and the only one that tag t can have
+pub record OnlyPlace (t r : ℕ) : Type 0 where
+  pub small : r < tagCount
+  pub only : has tags t ≡ true → tagAt r ≡ t
 
 -- one of the three groups
 abbrev pub Three : Group → Type 0

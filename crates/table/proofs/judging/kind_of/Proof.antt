@@ -1,9 +1,10 @@
 -- The kind of a number.
 use borrow.Author.Needs.{needs}
-use borrow.Author.Tests.{ne-eqb}
+use mathlib.Core.Path.{sym}
 use Rattle.table.specs.code.Held.{kindFor}
-use Rattle.table.proofs.lines.kind_of.Statement.{statement}
-use Rattle.table.proofs.lines.kind_of.Tie as tie
+use Rattle.table.proofs.Numbers.{roles-past}
+use Rattle.table.proofs.judging.kind_of.Statement.{statement}
+use Rattle.table.proofs.judging.kind_of.Tie as tie
 
 returns : tie.Need-returns
 unfolding kindFor
@@ -86,10 +87,7 @@ unfolding kindFor
 returns-20 c = rw (c .match .keys20)
 
 returns-21 : tie.Need-returns-21
-unfolding kindFor
-returns-21 c =
-    let r = c .match .rest in
-    rw (ne-eqb _ 0 (r .0 .0 .0 .0 .0 .0 .0 .0 .0 .0 .0 .0 .0 .0 .0 .0 .0 .0 .0 .1), ne-eqb _ 1 (r .0 .0 .0 .0 .0 .0 .0 .0 .0 .0 .0 .0 .0 .0 .0 .0 .0 .0 .1), ne-eqb _ 2 (r .0 .0 .0 .0 .0 .0 .0 .0 .0 .0 .0 .0 .0 .0 .0 .0 .0 .1), ne-eqb _ 3 (r .0 .0 .0 .0 .0 .0 .0 .0 .0 .0 .0 .0 .0 .0 .0 .0 .1), ne-eqb _ 4 (r .0 .0 .0 .0 .0 .0 .0 .0 .0 .0 .0 .0 .0 .0 .0 .1), ne-eqb _ 5 (r .0 .0 .0 .0 .0 .0 .0 .0 .0 .0 .0 .0 .0 .0 .1), ne-eqb _ 6 (r .0 .0 .0 .0 .0 .0 .0 .0 .0 .0 .0 .0 .0 .1), ne-eqb _ 7 (r .0 .0 .0 .0 .0 .0 .0 .0 .0 .0 .0 .0 .1), ne-eqb _ 8 (r .0 .0 .0 .0 .0 .0 .0 .0 .0 .0 .0 .1), ne-eqb _ 9 (r .0 .0 .0 .0 .0 .0 .0 .0 .0 .0 .1), ne-eqb _ 10 (r .0 .0 .0 .0 .0 .0 .0 .0 .0 .1), ne-eqb _ 11 (r .0 .0 .0 .0 .0 .0 .0 .0 .1), ne-eqb _ 12 (r .0 .0 .0 .0 .0 .0 .0 .1), ne-eqb _ 13 (r .0 .0 .0 .0 .0 .0 .1), ne-eqb _ 14 (r .0 .0 .0 .0 .0 .1), ne-eqb _ 15 (r .0 .0 .0 .0 .1), ne-eqb _ 16 (r .0 .0 .0 .1), ne-eqb _ 17 (r .0 .0 .1), ne-eqb _ 18 (r .0 .1), ne-eqb _ 19 (r .1))
+returns-21 c = sym (roles-past _ _ (c .match .rest))
 
 pub kind-of-spec : {M : Type 1} → statement M
 kind-of-spec =

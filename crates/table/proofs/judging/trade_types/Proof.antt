@@ -2,8 +2,8 @@
 use borrow.Author.Needs.{needs}
 use mathlib.Core.Path.{sym, ap}
 use Rattle.table.specs.code.Held.{tradeTypes}
-use Rattle.table.proofs.lines.trade_types.Statement.{statement}
-use Rattle.table.proofs.lines.trade_types.Tie as tie
+use Rattle.table.proofs.judging.trade_types.Statement.{statement}
+use Rattle.table.proofs.judging.trade_types.Tie as tie
 
 returns : tie.Need-returns
 unfolding tradeTypes
