@@ -1,17 +1,17 @@
 -- Rules 4 to 8 and the code: what each says of a tag whose entry was looked up.
 use Prim.Native.Nat.{ℕ, _<_}
-use borrow.Author.Tests.{eq-eqb, ne-eqb, not-true, not-false}
+use borrow.Author.Tests.{eqb-true, eq-eqb, ne-eqb, not-true, not-false}
 use mathlib.Core.Path.{_≡_, refl, ap, sym, _∙_}
 use mathlib.Core.List.{List, [], _∷_, _++_}
 use mathlib.Core.Bool.{Bool, true, false, not, _||_, false≢true, or-true}
 use lib.Dec.{eqb}
-use lib.ListN.{length, getD}
-use Rattle.bytes.specs.Bytes.{Bytes, has}
+use lib.ListN.{getD}
+use Rattle.bytes.specs.Bytes.{Bytes, all, has}
 use Rattle.fields.specs.Field.{field}
 use Rattle.table.specs.Dictionary.{Row, header, fields, listed, allMembers, groupsOf, member, rowsOf}
 use Rattle.dictionary.specs.Verdict.{Open, firstMember, left, rule4, rule5, rule6, rule7, rule8}
 use Rattle.table.specs.code.Held.{tagCount, tagAt, index, bitOf, Right}
-use Rattle.dictionary.specs.code.Held.{InGroup, Stood, away, within, insideOf, Rule5, Rule7, Rule8}
+use Rattle.dictionary.specs.code.Held.{InGroup, Stood, away, within, insideOf, Rule4, Rule5, Rule7, Rule8}
 use Rattle.table.specs.code.Held as Table
 use Rattle.table.specs.declared.MsgType.{MsgType}
 use Rattle.dictionary.specs.declared.Says.the-variants.{Nothing, Reason}
@@ -21,13 +21,13 @@ use Rattle.bytes.proofs.Tests.{both, any-append}
 use Rattle.dictionary.proofs.Ending.{counted}
 
 -- rule 4
-pub rule4-empty : (t : ℕ) (v : Bytes) → length v ≡ 0 → Reason 4 t ≡ rule4 t v
+pub rule4-empty : {t : ℕ} {empty : Bool} → empty ≡ true → Rule4 t empty (Reason 4 t)
 unfolding rule4
-rule4-empty t v e = rw (eq-eqb (length v) 0 e)
+rule4-empty q = record { is = λ v p. rw (sym p ∙ q) }
 
-pub rule4-some : (t : ℕ) (v : Bytes) → (length v ≡ 0 → ⊥) → Nothing ≡ rule4 t v
+pub rule4-some : {t : ℕ} {empty : Bool} → empty ≡ false → Rule4 t empty Nothing
 unfolding rule4
-rule4-some t v e = rw (ne-eqb (length v) 0 e)
+rule4-some q = record { is = λ v p. rw (sym p ∙ q) }
 
 -- rule 5: a bit of the entry as the code reads it, b, and what it means
 module _ {m : MsgType} {e : Entry} {seen b : Bool} (R : Right e) (p : b ≡ bitOf (e .marks) 29) where
@@ -52,6 +52,15 @@ module _ {m : MsgType} {e : Entry} {seen b : Bool} (R : Right e) (p : b ≡ bitO
 pub listed-rows : (m : MsgType) (t : ℕ) → listed (rowsOf m) t ≡ (listed (header ++ fields m) t || member m t)
 unfolding rowsOf member
 listed-rows m t = any-append (λ (r : Row). eqb (r .tag) t) (header ++ fields m) (allMembers (groupsOf m))
+
+-- what is true of the tags of all rows is true of one that they list
+pub listed-all : (f : ℕ → Bool) (rows : List Row) → all (λ (r : Row). f (r .tag)) rows ≡ true → (t : ℕ) → listed rows t ≡ true → f t ≡ true
+listed-all f [] h t k = absurd (false≢true k)
+listed-all f (r ∷ rows) h t k = let w = both (f (r .tag)) (all (λ (r : Row). f (r .tag)) rows) h in go (eqb (r .tag) t) refl k (w .0) (listed-all f rows (w .1) t)
+  where
+    go : (b : Bool) → eqb (r .tag) t ≡ b → (b || listed rows t) ≡ true → f (r .tag) ≡ true → (listed rows t ≡ true → f t ≡ true) → f t ≡ true
+    go true e k x ih = ap f (sym (eqb-true (r .tag) t e)) ∙ x
+    go false e k x ih = ih k
 
 module _ (m : MsgType) {e : Entry} {b : Bool} (R : Right e) (p : b ≡ bitOf (e .marks) (index m)) where
   pub rule6-outside : b ≡ true → Nothing ≡ rule6 m (e .tag)

@@ -17,6 +17,7 @@ use Rattle.table.specs.declared.MsgType.{MsgType}
 use Rattle.dictionary.specs.Verdict.{Open, _when_, firstOf, firstMember, begins, ends, incomplete, closing, closingAll, rule1, left, opened, joined, taken}
 use Rattle.dictionary.specs.declared.Says.{Says}
 use Rattle.dictionary.specs.declared.Says.the-variants.{Nothing, Reason}
+use Rattle.dictionary.proofs.FourToEight.{listed-all}
 
 -- all open groups are such
 abbrev pub AllOpen : (Open → Type 0) → List Open → Type 0
@@ -169,14 +170,6 @@ module _ (m : MsgType) (g : Group) where
     pub opens : (v : Bytes) → opened (groupsOf m) (g .counter) v ≡ at g (value v) 0 [] ∷ []
     pub others : (t : ℕ) (v : Bytes) → eqb (g .counter) t ≡ false → Away g (opened (groupsOf m) t v)
     pub inner : (t : ℕ) (v : Bytes) → listed (g .members) t ≡ true → AllOpen (Inner m g) (opened (groupsOf m) t v)
-
-listed-all : (f : ℕ → Bool) (rows : List Row) → all (λ (r : Row). f (r .tag)) rows ≡ true → (t : ℕ) → listed rows t ≡ true → f t ≡ true
-listed-all f [] h t k = absurd (false≢true k)
-listed-all f (r ∷ rows) h t k = let w = both (f (r .tag)) (all (λ (r : Row). f (r .tag)) rows) h in go (eqb (r .tag) t) refl k (w .0) (listed-all f rows (w .1) t)
-  where
-    go : (b : Bool) → eqb (r .tag) t ≡ b → (b || listed rows t) ≡ true → f (r .tag) ≡ true → (listed rows t ≡ true → f t ≡ true) → f t ≡ true
-    go true e k x ih = ap f (sym (eqb-true (r .tag) t e)) ∙ x
-    go false e k x ih = ih k
 
 opened-none : (gs : List Group) (t : ℕ) (v : Bytes) → any (λ (y : Group). eqb (y .counter) t) gs ≡ false → opened gs t v ≡ []
 opened-none [] t v h = refl

@@ -5,6 +5,7 @@ pub mod Saying
 pub mod Opening
 pub mod Walking
 pub mod Turns
+pub mod Usual
 pub mod Reported
 pub mod Nesting
 pub mod TwoWalks

@@ -5,7 +5,7 @@ use borrow.Author.Tests.{eqb-true, eq-eqb, ne-eqb, not-true}
 use mathlib.Core.Path.{_≡_, refl, ap, sym, _∙_, subst}
 use mathlib.Core.Logic.{_⊎_, inl, inr}
 use mathlib.Core.List.{List, [], _∷_}
-use mathlib.Core.Bool.{Bool, true, false, cond, not, _&&_, _||_, false≢true}
+use mathlib.Core.Bool.{Bool, true, false, cond, not, _&&_, false≢true}
 use denote.Enum.Declared.{tagOf}
 use lib.Dec.{eqb}
 use lib.ListN.{getD}
@@ -28,7 +28,7 @@ use Rattle.table.specs.declared.lines.Entry.{Entry}
 use Rattle.table.specs.declared.lines.Line.{Line}
 use Rattle.bytes.proofs.Tests.{both}
 use Rattle.table.proofs.Places.{looked, entry-is}
-use Rattle.dictionary.proofs.FourToEight.{leads}
+use Rattle.dictionary.proofs.FourToEight.{leads, listed-all}
 use Rattle.dictionary.proofs.Saying.{First, known-says}
 
 pub one-of-three : (g : Group) → Reported g → Three g
@@ -105,18 +105,7 @@ head-none (Malformed s e n) k = record { is = λ g R c. refl }
 head-none End k = record { is = λ g R c. refl }
 head-none NoBody k = record { is = λ g R c. refl }
 
--- THE RULES AT A MEMBER. What is true of the tags of all rows is true of one that they list
-all-listed : (P : ℕ → Bool) (rows : List Row) (t : ℕ) → all (λ (r : Row). P (r .tag)) rows ≡ true → listed rows t ≡ true → P t ≡ true
-all-listed P [] t h k = absurd (false≢true k)
-all-listed P (r ∷ rs) t h k =
-    let w = both (P (r .tag)) _ h in
-    go (eqb (r .tag) t) refl k (w .0) (all-listed P rs t (w .1))
-  where
-    go : (b : Bool) → eqb (r .tag) t ≡ b → (b || listed rs t) ≡ true → P (r .tag) ≡ true → (listed rs t ≡ true → P t ≡ true) → P t ≡ true
-    go true e k p f = ap P (sym (eqb-true (r .tag) t e)) ∙ p
-    go false e k p f = f k
-
--- a member is the report's, and no tag of the frame or the header
+-- THE RULES AT A MEMBER. A member is the report's, and no tag of the frame or the header
 ownMember : ℕ → Bool
 ownMember t = member AE t && (listed (rowsOf AE) t && (not (frameTag t) && not (listed header t)))
 
@@ -129,7 +118,7 @@ module _ (g : Open) (t : ℕ) (R : Reported (g .group)) (h : listed (g .group .m
   own : (member AE t ≡ true) × (listed (rowsOf AE) t ≡ true) × (frameTag t ≡ false) × (listed header t ≡ false)
   unfolding ownMember
   own =
-      let a = both (member AE t) _ (all-listed ownMember (g .group .members) t (members-own (g .group) R) h) in
+      let a = both (member AE t) _ (listed-all ownMember (g .group .members) (members-own (g .group) R) t h) in
       let b = both (listed (rowsOf AE) t) _ (a .1) in
       let c = both (not (frameTag t)) _ (b .1) in
       (a .0, b .0, not-true _ (c .0), not-true _ (c .1))

@@ -3,7 +3,7 @@ use Prim.Native.Nat.{ℕ, _<_}
 use native.Mathlib.Omega.{arith}
 use borrow.Author.Tests.{ne-eqb}
 use mathlib.Core.Path.{_≡_, refl, ap, sym, _∙_}
-use mathlib.Core.List.{List, [], _∷_}
+use mathlib.Core.List.{List, [], _∷_, _++_}
 use mathlib.Core.Bool.{Bool, true, false, cond, not, _&&_, false≢true}
 use mathlib.Core.Logic.{inl, inr}
 use lib.Dec.{eqb, ltb}
@@ -15,7 +15,7 @@ use Rattle.kinds.specs.Judged.{meaning, judged}
 use Rattle.table.specs.Dictionary.{Row, Group, №453, №580, №552, theTen, header, fields, code35, listed, kindIn, groupsOf, member, rowsOf, inDictionary, administrative}
 use Rattle.dictionary.specs.Verdict.{Open, Past, _when_, firstOf, firstMember, rule1, rule2, rule3, rule4, rule5, rule6, rule7, rule8, rule9, rule10, left, skipped, rules4to10, said}
 use Rattle.table.specs.code.Held.{tagCount, allRows, tags, tagAt, index, kindFor, Three, Right, Looked, Marked}
-use Rattle.dictionary.specs.code.Held.{Belongs, Stood, away, within, Rules9and10}
+use Rattle.dictionary.specs.code.Held.{Belongs, Stood, away, within, Rules9and10, rulesOfTag}
 use Rattle.table.specs.declared.MsgType.{MsgType}
 use Rattle.table.specs.declared.MsgType.the-variants.{Heartbeat, TestRequest, ResendRequest, Reject, SequenceReset, Logout, Logon, OrderCancelRequest, TradeCaptureReportRequest, TradeCaptureReport}
 use Rattle.dictionary.specs.declared.Says.{Says}
@@ -36,6 +36,17 @@ stops {r} p e = record { is = rw (sym p ∙ e) e }
 
 pub passes : {r x y : Says} {l : List Says} → r ≡ x → r ≡ Nothing → First l y → First (x ∷ l) y
 passes p e h = record { is = rw (sym p ∙ e) (h .is) }
+
+-- and of some rules before others
+pub stops-in : {r : Says} {a t : ℕ} (k l : List Says) → r ≡ firstOf k → r ≡ Reason a t → First (k ++ l) r
+stops-in [] l p e = let z : _≡_ {A = ℕ} 0 1 = cc in absurd (omega arith)
+stops-in (Nothing ∷ k) l p e = record { is = stops-in k l p e .is }
+stops-in ((Reason b u) ∷ k) l p e = record { is = p }
+
+pub passes-all : {r y : Says} (k l : List Says) → r ≡ firstOf k → r ≡ Nothing → First l y → First (k ++ l) y
+passes-all [] l p e h = h
+passes-all (Nothing ∷ k) l p e h = record { is = passes-all k l p e h .is }
+passes-all ((Reason b u) ∷ k) l p e h = let z : _≡_ {A = ℕ} 0 1 = cc in absurd (omega arith)
 
 -- the tags that have a place are those of the dictionary
 all-known : all inDictionary tags ≡ true
@@ -135,8 +146,7 @@ pub said-unknown : (m : MsgType) (w : Past) (t : ℕ) (v : Bytes) (r : Says) →
 said-unknown m w t v r h F = F .is ∙ sym (unknown-says m w t v h)
 
 abbrev pub rulesHeard : MsgType → Past → ℕ → Bytes → List Says
-rulesHeard m w t v =
-    rule1 (w .inside) (field t v) ∷ rule4 t v ∷ rule5 m (w .seen) t ∷ rule6 m t ∷ rule7 (w .seen) t ∷ rule8 m (left (w .inside) (field t v)) t ∷ rule9 m t v ∷ rule10 m t v ∷ []
+rulesHeard m w t v = rulesOfTag m w t v ++ (rule9 m t v ∷ rule10 m t v ∷ [])
 
 pub known-says : (m : MsgType) (w : Past) (t : ℕ) (v : Bytes) → inDictionary t ≡ true → said m w (field t v) ≡ firstOf (rulesHeard m w t v)
 unfolding said rule2 rule3 skipped rules4to10

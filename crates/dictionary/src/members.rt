@@ -13,12 +13,11 @@ use fields::Item;
 use table::Entry;
 use table::Line;
 use table::MsgType;
-use table::TAGS;
 use table::entry_of;
 use table::kind_of;
 use table::table;
 ghost use mathlib.Core.Path.{_≡_};
-ghost use Rattle.table.specs.code.Held.{entryOf, Placed, Right, Looked};
+ghost use Rattle.table.specs.code.Held.{entryOf, Right, Looked};
 ghost use Rattle.dictionary.specs.code.Held.{Rules9and10};
 ghost use Rattle.dictionary.specs.code.Nested.{AE, headBy, MemberIn, Rule1Inside, OfMember, OfOwn};
 
@@ -32,22 +31,6 @@ pub enum Head {
         next: usize,
     },
     Other,
-}
-
-// The place of a tag, as place_of of the table finds it.
-pub fn place_in_report(tag: u32) -> usize
-    ensures { λ r. ⌜ Placed tag r ⌝ }
-{
-    let t = table();
-    let mut i: usize = 0;
-    while i < TAGS {
-        let line = t[i];
-        if line.0 == tag {
-            return i;
-        }
-        i += 1;
-    }
-    i
 }
 
 // A field by its line of the table, if it is a member of the group with this count tag.
@@ -126,7 +109,7 @@ pub fn of_member(st: State, e: Entry, p: usize, met: &[bool; 128], v: &[u8]) -> 
     let Says::Nothing = r1 else {
         return r1;
     };
-    let r4 = rule_4(e.tag, v);
+    let r4 = rule_4(e.tag, v.len() == 0);
     let Says::Nothing = r4 else {
         return r4;
     };
@@ -142,7 +125,7 @@ pub fn of_own(over: bool, e: Entry, p: usize, seen: &[bool; 128], v: &[u8]) -> S
     requires { ⌜ Looked e p ⌝ }
     ensures { λ r. ⌜ OfOwn (now (seen .entry)) over (e .tag) (now (v .entry)) r ⌝ }
 {
-    let r4 = rule_4(e.tag, v);
+    let r4 = rule_4(e.tag, v.len() == 0);
     let Says::Nothing = r4 else {
         return r4;
     };

@@ -14,20 +14,19 @@ use super::members::Head;
 use super::members::member_of;
 use super::members::of_member;
 use super::members::of_own;
-use super::members::place_in_report;
 use super::walk::finding;
 use fields::Item;
 use fields::item_at;
 use table::Entry;
 use table::MsgType;
-use table::TAGS;
 use table::entry_of;
+use table::place_in;
 use table::table;
 ghost use mathlib.Core.Path.{_≡_};
 ghost use Prim.Native.Nat.{_+_, _≤_};
 ghost use lib.ListN.{length};
 ghost use Rattle.fields.specs.Field.{parts};
-ghost use Rattle.table.specs.code.Held.{Right};
+ghost use Rattle.table.specs.code.Held.{InSlots, Right};
 ghost use Rattle.dictionary.specs.Verdict.{walk, nothingYet};
 ghost use Rattle.dictionary.specs.code.Nested.{Opened, GroupWalk, InstanceWalk, Behind, reachedBy};
 ghost use Rattle.table.specs.declared.MsgType.the-variants.{TradeCaptureReport};
@@ -162,8 +161,8 @@ fn behind(body: &[u8], e: Entry, v: &[u8], next: usize) -> Reached
 
 // The fields of a Trade Capture Report from the left; the first finding stands. One mark is set at each field outside groups; a group walk goes
 // through the fields of a group.
-pub fn report_walk(body: &[u8]) -> Verdict
-    requires { ⌜ length (now body) ≤ 2048 ⌝ }
+pub fn report_walk(body: &[u8], places: &[u8; 128]) -> Verdict
+    requires { ⌜ (length (now body) ≤ 2048) × InSlots (now places) ⌝ }
     ensures { λ r. ⌜ r ≡ walk TradeCaptureReport nothingYet (parts (now (body .entry))) ⌝ }
 {
     let t = table();
@@ -181,11 +180,11 @@ pub fn report_walk(body: &[u8]) -> Verdict
         else {
             return report_ends(item, &seen);
         };
-        let p = place_in_report(tag);
-        if p == TAGS {
+        let p = place_in(places, tag);
+        let e = entry_of(t[p]);
+        if e.tag != tag {
             return Verdict::Finding { reason: 3, tag };
         }
-        let e = entry_of(t[p]);
         let said = of_own(over, e, p, &seen, &body[start..end]);
         let Says::Nothing = said else {
             return finding(said);

@@ -8,17 +8,18 @@ use super::groups::is_inside;
 use super::groups::rule_1;
 use table::Entry;
 use table::MsgType;
-use table::kind_of;
+use table::judge_by;
 ghost use mathlib.Core.Path.{_≡_};
-ghost use Rattle.dictionary.specs.Verdict.{rule4, rule6};
+ghost use mathlib.Core.Bool.{true};
+ghost use Rattle.dictionary.specs.Verdict.{rule6};
 ghost use Rattle.table.specs.code.Held.{Right, Looked};
-ghost use Rattle.dictionary.specs.code.Held.{Rule5, Rule7, Rule8, Rules9and10, OfMalformed, OfUnknown, OfKnown};
+ghost use Rattle.dictionary.specs.code.Held.{Rule4, Rule5, Rule7, Rule8, Rules9and10, OfMalformed, OfUnknown, Usual, OfTag, OfKnown};
 
 // Rule 4: empty value.
-pub fn rule_4(tag: u32, v: &[u8]) -> Says
-    ensures { λ r. ⌜ r ≡ rule4 tag (now (v .entry)) ⌝ }
+pub fn rule_4(tag: u32, empty: bool) -> Says
+    ensures { λ r. ⌜ Rule4 tag empty r ⌝ }
 {
-    if v.len() == 0 {
+    if empty {
         return Says::Reason { reason: 4, tag };
     }
     Says::Nothing
@@ -118,8 +119,7 @@ fn rules_9_and_10(m: MsgType, e: Entry, v: &[u8]) -> Says
     requires { ⌜ Right e ⌝ }
     ensures { λ r. ⌜ Rules9and10 m (e .tag) (now (v .entry)) r ⌝ }
 {
-    let kind = kind_of(e, m);
-    let found = kinds::judge(kind, v);
+    let found = judge_by(e.kind, m, v);
     if found == 0 {
         return Says::Nothing;
     }
@@ -154,24 +154,50 @@ pub fn of_unknown(m: MsgType, st: State, met: &[bool; 128], tag: u32) -> Says
     Says::Reason { reason: 3, tag }
 }
 
-// What is said of a tag of the dictionary: rules 1 and 4 to 10.
-pub fn of_known(
+// A usual field: its value is not empty, no group is open, the message has its tag outside groups, it was not seen, and it is no header tag behind
+// others.
+fn is_usual(m: MsgType, st: State, e: Entry, again: bool, empty: bool) -> bool
+    ensures { λ r. ⌜ (r ≡ true → Usual m st e again empty) ⌝ }
+{
+    if empty {
+        return false;
+    }
+    if st.group != 0 {
+        return false;
+    }
+    if !is_in(e.marks, m) {
+        return false;
+    }
+    if again {
+        return false;
+    }
+    if !st.over {
+        return true;
+    }
+    !bit(e.marks, 28)
+}
+
+// What is said of a tag of the dictionary where it stands: rules 1 and 4 to 8, which say nothing of a usual field.
+fn of_tag(
     m: MsgType,
     st: State,
     e: Entry,
     p: usize,
     seen: &[bool; 128],
     met: &[bool; 128],
-    v: &[u8],
+    empty: bool,
 ) -> Says
     requires { ⌜ Looked e p ⌝ }
-    ensures { λ r. ⌜ OfKnown m (now (seen .entry)) (now (met .entry)) st (e .tag) (now (v .entry)) r ⌝ }
+    ensures { λ r. ⌜ OfTag m (now (seen .entry)) (now (met .entry)) st (e .tag) empty r ⌝ }
 {
+    if is_usual(m, st, e, seen[p], empty) {
+        return Says::Nothing;
+    }
     let r1 = rule_1(st, met, e.member.group, e.member.first);
     let Says::Nothing = r1 else {
         return r1;
     };
-    let r4 = rule_4(e.tag, v);
+    let r4 = rule_4(e.tag, empty);
     let Says::Nothing = r4 else {
         return r4;
     };
@@ -187,9 +213,26 @@ pub fn of_known(
     let Says::Nothing = r7 else {
         return r7;
     };
-    let r8 = rule_8(m, st, e, met, p);
-    let Says::Nothing = r8 else {
-        return r8;
+    rule_8(m, st, e, met, p)
+}
+
+// What is said of a field of the dictionary: by its tag, then by its value, rules 9 and 10. (The rules before are told no more of the value than whether
+// it is empty, so that it is not kept through memory.)
+pub fn of_known(
+    m: MsgType,
+    st: State,
+    e: Entry,
+    p: usize,
+    seen: &[bool; 128],
+    met: &[bool; 128],
+    v: &[u8],
+) -> Says
+    requires { ⌜ Looked e p ⌝ }
+    ensures { λ r. ⌜ OfKnown m (now (seen .entry)) (now (met .entry)) st (e .tag) (now (v .entry)) r ⌝ }
+{
+    let said = of_tag(m, st, e, p, seen, met, v.len() == 0);
+    let Says::Nothing = said else {
+        return said;
     };
     rules_9_and_10(m, e, v)
 }

@@ -13,24 +13,22 @@ use super::rules::of_known;
 use super::rules::of_malformed;
 use super::rules::of_unknown;
 use fields::Item;
-use fields::Place;
 use fields::is_body;
-use fields::type_field;
-use kinds::same;
 use table::MsgType;
 use table::Named;
-use table::TAGS;
 use table::entry_of;
-use table::place_of;
+use table::place_in;
+use table::slots;
 use table::table;
 ghost use mathlib.Core.Path.{_≡_};
-ghost use mathlib.Core.Bool.{false};
+ghost use mathlib.Core.Bool.{true, false};
 ghost use Prim.Native.Nat.{_≤_};
 ghost use lib.ListN.{length};
-ghost use Rattle.fields.specs.Field.{parts};
+ghost use Rattle.fields.specs.Field.{parts, isBody};
 ghost use mathlib.Core.List.{[], _∷_};
 ghost use Rattle.table.specs.Dictionary.{typeOf, named};
-ghost use Rattle.dictionary.specs.Verdict.{verdictBy, walk, nothingYet, verdict};
+ghost use Rattle.table.specs.code.Held.{InSlots};
+ghost use Rattle.dictionary.specs.Verdict.{verdictBy, walk, msgType, nothingYet, verdict};
 ghost use Rattle.dictionary.specs.code.Held.{isReport, Finished, Ended};
 
 // The verdict by what was said, where nothing more is to come.
@@ -73,9 +71,9 @@ pub fn ended(m: MsgType, item: Item, st: State, seen: &[bool; 128], met: &[bool;
     }
 }
 
-// The fields from the left; the first finding stands. No group of the nine types before the report holds another.
-fn walk(m: MsgType, body: &[u8]) -> Verdict
-    requires { ⌜ (length (now body) ≤ 2048) × (isReport m ≡ false) ⌝ }
+// The fields from the left; the first finding stands. No group of the nine types before the report holds another. (places: the slots of the table.)
+fn walk(m: MsgType, body: &[u8], places: &[u8; 128]) -> Verdict
+    requires { ⌜ (length (now body) ≤ 2048) × (isReport m ≡ false) × InSlots (now places) ⌝ }
     ensures { λ r. ⌜ r ≡ walk m nothingYet (parts (now (body .entry))) ⌝ }
 {
     let t = table();
@@ -95,8 +93,9 @@ fn walk(m: MsgType, body: &[u8]) -> Verdict
             return ended(m, item, st, &seen, &met);
         };
         at = next;
-        let p = place_of(tag);
-        if p == TAGS {
+        let p = place_in(places, tag);
+        let e = entry_of(t[p]);
+        if e.tag != tag {
             let said = of_unknown(m, st, &met, tag);
             let Says::Nothing = said else {
                 return finding(said);
@@ -104,7 +103,6 @@ fn walk(m: MsgType, body: &[u8]) -> Verdict
             st = outside(st.over);
             continue;
         }
-        let e = entry_of(t[p]);
         let v = &body[start..end];
         let said = of_known(m, st, e, p, &seen, &met, v);
         let Says::Nothing = said else {
@@ -121,11 +119,8 @@ pub fn type_of(v: &[u8]) -> Named
     if v.len() == 1 {
         return type_of_one(v[0]);
     }
-    if same(v, b"AD") {
-        return Named::Of(MsgType::TradeCaptureReportRequest);
-    }
-    if same(v, b"AE") {
-        return Named::Of(MsgType::TradeCaptureReport);
+    if v.len() == 2 {
+        return type_of_two(v[0], v[1]);
     }
     Named::Other
 }
@@ -146,6 +141,33 @@ fn type_of_one(c: u8) -> Named
     }
 }
 
+fn type_of_two(b: u8, c: u8) -> Named
+    ensures { λ r. ⌜ r ≡ named (typeOf (b ∷ c ∷ [])) ⌝ }
+{
+    if b != b'A' {
+        return Named::Other;
+    }
+    match c {
+        b'D' => Named::Of(MsgType::TradeCaptureReportRequest),
+        b'E' => Named::Of(MsgType::TradeCaptureReport),
+        _ => Named::Other,
+    }
+}
+
+// The type of a body, whose first field is 35: a value of one byte or two. (Where the value is empty, what is read in its place names no type.)
+fn type_at_front(b: &[u8]) -> Named
+    requires { ⌜ isBody (now b) ≡ true ⌝ }
+    ensures { λ r. ⌜ r ≡ named (msgType (now (b .entry))) ⌝ }
+{
+    if b[4] == 1 {
+        return type_of_one(b[3]);
+    }
+    if b[5] == 1 {
+        return type_of_two(b[3], b[4]);
+    }
+    Named::Other
+}
+
 // The verdict on a body.
 pub fn verdict_on(body: &[u8]) -> Verdict
     ensures { λ r. ⌜ r ≡ verdict (now (body .entry)) ⌝ }
@@ -153,20 +175,15 @@ pub fn verdict_on(body: &[u8]) -> Verdict
     if !is_body(body) {
         return Verdict::NoBody;
     }
-    let Place::At { start, end } = type_field(body) else {
+    let Named::Of(m) = type_at_front(body) else {
         return Verdict::Finding {
             reason: 11,
             tag: 35,
         };
     };
-    let Named::Of(m) = type_of(&body[start..end]) else {
-        return Verdict::Finding {
-            reason: 11,
-            tag: 35,
-        };
-    };
+    let places = slots();
     if is_report(m) {
-        return report_walk(body);
+        return report_walk(body, &places);
     }
-    walk(m, body)
+    walk(m, body, &places)
 }

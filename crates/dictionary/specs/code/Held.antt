@@ -12,8 +12,8 @@ use Rattle.fields.specs.declared.Item.{Item}
 use Rattle.fields.specs.declared.Item.the-variants.{Field, Malformed, End, NoBody}
 use Rattle.kinds.specs.Kind.{isNumber}
 use Rattle.table.specs.Dictionary.{Row, Group, №453, №580, header, fields, listed, groupsOf, rowsOf}
-use Rattle.table.specs.code.Held.{tags, index, Three, Marked}
-use Rattle.dictionary.specs.Verdict.{Open, Past, firstOf, missing, incomplete, closingAll, ends, begins, left, rule1, rule5, rule7, rule8, rule9, rule10, said, opened, after, verdictBy, walk}
+use Rattle.table.specs.code.Held.{tags, index, bitOf, Three, Marked}
+use Rattle.dictionary.specs.Verdict.{Open, Past, firstOf, missing, incomplete, closingAll, ends, begins, left, rule1, rule4, rule5, rule6, rule7, rule8, rule9, rule10, said, opened, after, verdictBy, walk}
 use Rattle.table.specs.declared.MsgType.{MsgType}
 use Rattle.dictionary.specs.declared.Says.{Says}
 use Rattle.dictionary.specs.declared.Says.the-variants.{Nothing}
@@ -78,6 +78,9 @@ pub record Closing (met : List Bool) (st : State) (r : Says) : Type 0 where
 pub record Rule1 (met : List Bool) (st : State) (group : ℕ) (first : Bool) (r : Says) : Type 0 where
   pub is : (gs : List Open) (p : Part) → Stood gs met st → Belongs p group first → r ≡ rule1 gs p
 
+pub record Rule4 (t : ℕ) (empty : Bool) (r : Says) : Type 0 where
+  pub is : (v : Bytes) → empty ≡ eqb (length v) 0 → r ≡ rule4 t v
+
 pub record Rule5 (m : MsgType) (t : ℕ) (mark : Bool) (r : Says) : Type 0 where
   pub is : (seen : List ℕ) → mark ≡ has seen t → r ≡ rule5 m seen t
 
@@ -96,6 +99,24 @@ pub record OfMalformed (met : List Bool) (st : State) (r : Says) : Type 0 where
 
 pub record OfUnknown (m : MsgType) (met : List Bool) (st : State) (t : ℕ) (r : Says) : Type 0 where
   pub is : (w : Past) (v : Bytes) → Stood (w .inside) met st → has tags t ≡ false → r ≡ said m w (field t v)
+
+-- a usual field, and what is said of a tag of the dictionary where it stands, its value empty or not: rules 1 and 4 to 8
+pub record Usual (m : MsgType) (st : State) (e : Entry) (again empty : Bool) : Type 0 where
+  pub some : empty ≡ false
+  pub away : st .group ≡ 0
+  pub own : bitOf (e .marks) (index m) ≡ true
+  pub new : again ≡ false
+  pub timely : st .over ≡ true → bitOf (e .marks) 28 ≡ false
+
+abbrev pub rulesOfTag : MsgType → Past → ℕ → Bytes → List Says
+rulesOfTag m w t v =
+    rule1 (w .inside) (field t v) ∷ rule4 t v ∷ rule5 m (w .seen) t ∷ rule6 m t ∷ rule7 (w .seen) t ∷ rule8 m (left (w .inside) (field t v)) t ∷ []
+
+unfoldable pub saidOfTag : MsgType → Past → ℕ → Bytes → Says
+saidOfTag m w t v = firstOf (rulesOfTag m w t v)
+
+pub record OfTag (m : MsgType) (seen met : List Bool) (st : State) (t : ℕ) (empty : Bool) (r : Says) : Type 0 where
+  pub is : (w : Past) (v : Bytes) → Stands w seen met st → empty ≡ eqb (length v) 0 → r ≡ saidOfTag m w t v
 
 pub record OfKnown (m : MsgType) (seen met : List Bool) (st : State) (t : ℕ) (v : Bytes) (r : Says) : Type 0 where
   pub is : (w : Past) → Stands w seen met st → r ≡ said m w (field t v)
