@@ -8,14 +8,14 @@ use mathlib.Core.Bool.{Bool, true, false, cond, not, _&&_, _||_, and-false, fals
 use lib.Dec.{eqb}
 use lib.ListN.{length, drop, length-append}
 use borrow.Author.Tests.{ne-eqb, eqb-true, eqb-false}
-use Rattle.bytes.specs.Bytes.{Bytes, Byted, all, digit, value, valueFrom, decimal}
+use Rattle.bytes.specs.Bytes.{Bytes, Byted, all, digit, value, valueFrom, decimal, padded}
 use Rattle.bytes.proofs.Lists.{valueFrom-append}
 use Rattle.bytes.proofs.Tests.{both, all-append}
 use Rattle.bytes.proofs.Numerals.{Numeral, digit-is, is-digit, is-within, digits-row}
+use Rattle.bytes.proofs.Rightmost.{padded-length}
 use Rattle.bytes.proofs.Decimals.{decimal-worth, decimal-numeral, numeral-decimal}
 use Rattle.decimals.specs.Decimal.{leading, trailing, plain, pointed, isDecimal, placesOf, wholeOf, inRange, rangedOf, decimalOf}
 use Rattle.decimals.specs.declared.Decimal.the-variants.{Is, OutOfRange, Bad}
-use Rattle.calendar.specs.Time.{padded}
 use Rattle.kinds.specs.Kind.{Kind, formed, allowed}
 use Rattle.kinds.specs.Kind as Kind
 use Rattle.calendar.proofs.Texts.{padded-from}
@@ -75,10 +75,6 @@ plain-decimal (d ∷ x ∷ l) p h = go (eqb 48 d) refl p
 padded-all : (k n : ℕ) → all digit (padded k n) ≡ true
 padded-all zero n = refl
 padded-all (suc k) n = all-append digit (padded k (n / 10)) ((48 + n % 10) ∷ []) ∙ rw (padded-all k (n / 10), is-digit (48 + n % 10) (omega arith, omega arith))
-
-pub padded-length : (k n : ℕ) → length (padded k n) ≡ k
-padded-length zero n = refl
-padded-length (suc k) n = omega (arith, length-append (padded k (n / 10)) ((48 + n % 10) ∷ []), padded-length k (n / 10))
 
 joined : (k n : ℕ) → value (decimal (without k n) ++ padded k n) ≡ n
 joined zero n = ap value (append-nil (decimal n)) ∙ decimal-worth n

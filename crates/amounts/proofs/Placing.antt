@@ -7,79 +7,18 @@ use mathlib.Core.List.{[], _∷_, _++_}
 use mathlib.Core.Bool.{true}
 use lib.ListN.{length, set, length-append, drop-of-length-le, List·getD-append}
 use lib.Seq.{sets, set-comm, take-all}
-use Rattle.bytes.specs.Bytes.{Bytes, all, digit, value, decimal}
-use Rattle.bytes.proofs.Lists.{valueFrom-append}
-use Rattle.bytes.proofs.Tests.{all-append}
-use Rattle.bytes.proofs.Numerals.{is-digit, Numeral}
-use Rattle.bytes.proofs.Decimals.{decimal-numeral, decimal-worth, numeral-decimal}
-use Rattle.calendar.specs.Time.{padded}
+use Rattle.bytes.specs.Bytes.{Bytes, decimal, padded}
+use Rattle.bytes.proofs.Decimals.{some-digit}
+use Rattle.bytes.proofs.Rightmost.{length-small, length-step, padded-length, all-padded}
 use Rattle.message.specs.Wrote.{Wrote}
-use Rattle.message.proofs.Cutting.{below-power}
-use Rattle.message.proofs.Leftward as Leftward
-use Rattle.message.proofs.Leftward.{Left, left-none}
-use Rattle.message.proofs.Writes.{chain, reword, decimal-small}
+use Rattle.message.proofs.Leftward.{Left, left-none, set-before}
+use Rattle.message.proofs.Writes.{chain, reword}
 use Rattle.amounts.specs.Amount.{without, pointing}
-use Rattle.amounts.proofs.Amounts.{padded-length}
-
--- THE DIGITS OF A NUMBER, however many
-some-digit : (n : ℕ) → 1 ≤ length (decimal n)
-unfolding decimal
-some-digit zero = omega arith
-some-digit (suc n) = decimal-numeral (suc n) (suc n) (omega arith) (below-power (suc n)) .some-digit
-
-decimal-more : (n : ℕ) → 10 ≤ n → decimal n ≡ decimal (n / 10) ++ ((48 + n % 10) ∷ [])
-decimal-more n h =
-    let l : Bytes = decimal (n / 10) ++ ((48 + n % 10) ∷ []) in
-    let N = decimal-numeral (n / 10) (n / 10) (omega arith) (below-power (n / 10)) in
-    let d : all digit l ≡ true = all-append digit (decimal (n / 10)) ((48 + n % 10) ∷ []) ∙ rw (N .whole, is-digit (48 + n % 10) (omega arith, omega arith)) in
-    let w : value l ≡ n = valueFrom-append 0 (decimal (n / 10)) ((48 + n % 10) ∷ []) ∙ omega (arith, decimal-worth (n / 10)) in
-    let M : Numeral (suc (suc (n / 10))) l =
-    record {
-      some-digit = omega (arith, length-append (decimal (n / 10)) ((48 + n % 10) ∷ []));
-      few = omega (arith, length-append (decimal (n / 10)) ((48 + n % 10) ∷ []), N .few);
-      whole = d;
-      no-zero = λ e. N .no-zero (sym (List·getD-append (decimal (n / 10)) ((48 + n % 10) ∷ []) 0 0 (N .some-digit)) ∙ e);
-    } in
-    sym (ap decimal w) ∙ numeral-decimal (suc (suc (n / 10))) l M
-
-length-small : (n : ℕ) → n < 10 → length (decimal n) ≡ 1
-length-small n h = ap length (decimal-small n h)
-
-length-more : (n : ℕ) → 10 ≤ n → length (decimal n) ≡ length (decimal (n / 10)) + 1
-length-more n h = ap length (decimal-more n h) ∙ length-append (decimal (n / 10)) ((48 + n % 10) ∷ [])
-
--- how many
-pub width-1 : (n : ℕ) → n < 10 → 1 ≡ length (decimal n)
-width-1 n h = sym (length-small n h)
-
-pub wider : (k n : ℕ) → 10 ≤ n → k ≡ length (decimal (n / 10)) → suc k ≡ length (decimal n)
-wider k n h e = omega (arith, length-more n h)
-
-pub width-2 : (n : ℕ) → 10 ≤ n → n < 100 → 2 ≡ length (decimal n)
-width-2 n l h = wider 1 n l (width-1 (n / 10) (omega arith))
-
-pub width-3 : (n : ℕ) → 100 ≤ n → n < 1_000 → 3 ≡ length (decimal n)
-width-3 n l h = wider 2 n (omega arith) (width-2 (n / 10) (omega arith) (omega arith))
-
-pub width-4 : (n : ℕ) → 1_000 ≤ n → n < 10_000 → 4 ≡ length (decimal n)
-width-4 n l h = wider 3 n (omega arith) (width-3 (n / 10) (omega arith) (omega arith))
-
-pub width-5 : (n : ℕ) → 10_000 ≤ n → n < 100_000 → 5 ≡ length (decimal n)
-width-5 n l h = wider 4 n (omega arith) (width-4 (n / 10) (omega arith) (omega arith))
-
-pub width-6 : (n : ℕ) → 100_000 ≤ n → n < 1_000_000 → 6 ≡ length (decimal n)
-width-6 n l h = wider 5 n (omega arith) (width-5 (n / 10) (omega arith) (omega arith))
-
-pub width-7 : (n : ℕ) → 1_000_000 ≤ n → n < 10_000_000 → 7 ≡ length (decimal n)
-width-7 n l h = wider 6 n (omega arith) (width-6 (n / 10) (omega arith) (omega arith))
-
-pub width-8 : (n : ℕ) → 10_000_000 ≤ n → n < 100_000_000 → 8 ≡ length (decimal n)
-width-8 n l h = wider 7 n (omega arith) (width-7 (n / 10) (omega arith) (omega arith))
 
 -- k digits counted off, where there are more
 off : (k n : ℕ) → 1 ≤ without k n → length (decimal n) ≡ length (decimal (without k n)) + k
 off zero n h = omega arith
-off (suc k) n h = omega (arith, off k (n / 10) h, length-more n (go k n h))
+off (suc k) n h = omega (arith, off k (n / 10) h, length-step n (go k n h))
   where
     none-left : (k : ℕ) → without k 0 ≡ 0
     none-left zero = refl
@@ -98,16 +37,12 @@ width-above k n h e =
     omega (arith, off 8 n (omega (arith, w)), ap (λ (x : ℕ). length (decimal x)) w)
 
 -- THE LAST k DIGITS, from the right
-same-padded : (k n : ℕ) → Leftward.padded k n ≡ padded k n
-same-padded zero n = refl
-same-padded (suc k) n = ap (λ (l : Bytes). l ++ ((48 + n % 10) ∷ [])) (same-padded k (n / 10))
-
 -- none stands yet
 pub left-digits : (d : Bytes) (at k n : ℕ) → Left d d (padded k n) at k n
 left-digits d at k n =
     record {
       within = omega (arith, padded-length k n);
-      coming = take-all k (padded k n) (omega (arith, padded-length k n)) ∙ sym (same-padded k n);
+      coming = take-all k (padded k n) (omega (arith, padded-length k n));
       bytes = ap (λ (x : Bytes). sets d (at + k) x) (sym (drop-of-length-le (padded k n) {i = k} (omega (arith, padded-length k n))));
     }
 
@@ -121,27 +56,6 @@ rest-more i j r w e h = ap (λ (x : ℕ). without x r) (sym e) ∙ h
 pub rest-none : (i r w : ℕ) → i ≡ 0 → without i r ≡ w → r ≡ w
 rest-none i r w e h = ap (λ (x : ℕ). without x r) (sym e) ∙ h
 
--- all the digits of a number are its last ones
-padded-is : (k n : ℕ) → length (decimal n) ≡ suc k → decimal n ≡ padded (suc k) n
-padded-is zero n e = go (decLt n 10)
-  where
-    go : Dec (n < 10) → decimal n ≡ (48 + n % 10) ∷ []
-    go (yes l) = let w : n ≡ n % 10 = omega arith in decimal-small n l ∙ ap (λ (x : ℕ). (48 + x) ∷ []) w
-    go (no l) = absurd (omega (arith, length-more n (omega arith), some-digit (n / 10)))
-padded-is (suc k) n e = go (decLt n 10) (λ (w : length (decimal (n / 10)) ≡ suc k). padded-is k (n / 10) w)
-  where
-    go : Dec (n < 10) → (length (decimal (n / 10)) ≡ suc k → decimal (n / 10) ≡ padded (suc k) (n / 10))
-        → decimal n ≡ padded (suc k) (n / 10) ++ ((48 + n % 10) ∷ [])
-    go (yes l) f = absurd (omega (arith, length-small n l))
-    go (no l) f =
-        decimal-more n (omega arith) ∙ ap (λ (x : Bytes). x ++ ((48 + n % 10) ∷ [])) (f (omega (arith, length-more n (omega arith))))
-
-pub all-padded : (k n : ℕ) → k ≡ length (decimal n) → padded k n ≡ decimal n
-all-padded k n e =
-    let w : length (decimal n) ≡ suc (length (decimal n) - 1) = omega (arith, some-digit n) in
-    let z : suc (length (decimal n) - 1) ≡ k = omega arith in
-    sym (padded-is (length (decimal n) - 1) n w ∙ ap (λ (x : ℕ). padded x n) z)
-
 -- THE DIGITS BEFORE THE POINT: a lone 0 if no other
 front-length : (p w : ℕ) → length (decimal (without p w)) ≡ length (decimal w) - p - 1 + 1
 front-length zero w = omega (arith, some-digit w)
@@ -149,14 +63,9 @@ front-length (suc p) w = go (decLt w 10) (front-length p (w / 10))
   where
     go : Dec (w < 10) → length (decimal (without p (w / 10))) ≡ length (decimal (w / 10)) - p - 1 + 1 → length (decimal (without p (w / 10))) ≡ length (decimal w) - suc p - 1 + 1
     go (yes l) f = omega (arith, length-small w l, length-small (w / 10) (omega arith))
-    go (no l) f = omega (arith, length-more w (omega arith))
+    go (no l) f = omega (arith, length-step w (omega arith))
 
 -- WHAT STANDS BEHIND, PUT FIRST
-set-before : (ys l : Bytes) (i k v : ℕ) → i < k → set (sets l k ys) i v ≡ sets (set l i v) k ys
-set-before [] l i k v h = refl
-set-before (y ∷ ys) l i k v h =
-    set-before ys (set l k y) i (suc k) v (omega arith) ∙ ap (λ (z : Bytes). sets z (suc k) ys) (set-comm l k i y v (λ e. omega (arith, e)))
-
 sets-before : (xs ys l : Bytes) (i k : ℕ) → i + length xs ≤ k → sets (sets l k ys) i xs ≡ sets (sets l i xs) k ys
 sets-before [] ys l i k h = refl
 sets-before (x ∷ xs) ys l i k h =

@@ -2,11 +2,10 @@
 -- zero but a lone 0, then a point only if places follow ..; reading gives back both."
 use Prim.Native.Nat.{ℕ, zero, suc, _/_}
 use mathlib.Core.List.{_++_}
-use Rattle.bytes.specs.Bytes.{Bytes, fix, decimal}
+use Rattle.bytes.specs.Bytes.{Bytes, fix, decimal, padded}
 use Rattle.decimals.specs.Decimal.{decimalOf}
 use Rattle.decimals.specs.declared.Decimal.{Decimal}
 use Rattle.decimals.specs.declared.Decimal.the-variants.{Is, OutOfRange, Bad}
-use Rattle.calendar.specs.Time.{padded}
 
 -- all digits, the point left out; and how many of them are places: 12.50 is 1250 and 2
 pub record Amount : Type 0 where

@@ -2,9 +2,8 @@
 ghost use mathlib.Core.Path.{_≡_};
 ghost use Prim.Native.Nat.{_+_, _-_, _≤_, _<_};
 ghost use lib.ListN.{length};
-ghost use Rattle.bytes.specs.Bytes.{decimal};
+ghost use Rattle.bytes.specs.Bytes.{decimal, padded};
 ghost use Rattle.message.specs.Wrote.{Wrote};
-ghost use Rattle.calendar.specs.Time.{padded};
 ghost use Rattle.amounts.specs.Amount.{without, pointing};
 
 // How many digits a number has that has at most seven.

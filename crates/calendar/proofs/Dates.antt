@@ -6,6 +6,7 @@ use Rattle.dates.specs.Date.{days}
 use Rattle.calendar.specs.declared.days.Date.{Date}
 use Rattle.calendar.specs.Time.{total, counted, yearDays, date, inYear, dateOf, daysSince}
 use Rattle.calendar.proofs.Counting.{lies, counted-at, total-below}
+use Rattle.calendar.proofs.Months.{days-most}
 use Rattle.calendar.proofs.Years.{since-1970}
 
 -- a day of the calendar from 1970 to 9999
@@ -50,6 +51,13 @@ date-is d h =
     there j r l q s =
         let e : 1970 + j - 1970 ≡ j = omega arith in
         subst (λ (n : ℕ). Dated n (inYear (1970 + j, r))) (ap (λ (k : ℕ). total yearDays 1970 k + r) e ∙ q) (in-year (1970 + j) r (omega arith) (omega arith) s)
+
+-- the numbers of its date are of four digits and of two
+pub date-small : (d : ℕ) {D : Date} → d < 2932897 → D ≡ dateOf d → (D .year ≤ 9999) × (D .month ≤ 12) × (D .day ≤ 31)
+date-small d h e =
+    let C = date-is d h .good in
+    subst (λ (D : Date). (D .year ≤ 9999) × (D .month ≤ 12) × (D .day ≤ 31)) (sym e)
+    (C .year-to, C .month-to, omega (arith, C .day-to, days-most (dateOf d .year) (dateOf d .month) (C .month-to)))
 
 -- what lies that many days behind 1 January 1970 is that date
 month-day : (y m d : ℕ) → 1 ≤ m → d ≤ days y m → 1 ≤ d → d - 1 < days y (1 + (m - 1))

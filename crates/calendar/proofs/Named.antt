@@ -9,7 +9,7 @@ use lib.Dec.{eqb, leb}
 use lib.ListN.{length, take, drop, take-append-drop}
 use lib.Seq.{drop-drop}
 use borrow.Author.Tests.{eqb-true}
-use Rattle.bytes.specs.Bytes.{Bytes, fix, all, digit, within, value}
+use Rattle.bytes.specs.Bytes.{Bytes, fix, all, digit, within, value, padded}
 use Rattle.bytes.proofs.Numerals.{within-is}
 use Rattle.bytes.proofs.Tests.{both}
 use Rattle.bytes.proofs.Numerals.{value-below}
@@ -17,7 +17,7 @@ use Rattle.dates.specs.Date.{like, goodDay, goodClock, days, number-at}
 use Rattle.kinds.specs.Kind.{time, allowed}
 use Rattle.dates.proofs.Shapes.{like-append, like-letters}
 use Rattle.calendar.specs.declared.days.Date.{Date}
-use Rattle.calendar.specs.Time.{padded, dateOf, text, utc, limit, dayNamed, secondNamed, microseconds}
+use Rattle.calendar.specs.Time.{dateOf, text, utc, limit, dayNamed, secondNamed, microseconds}
 use Rattle.calendar.proofs.Dates.{Calendar, date-only, date-below}
 use Rattle.calendar.proofs.Texts.{padded-only}
 

@@ -8,13 +8,13 @@ use mathlib.Core.Bool.{Bool, true, false}
 use lib.Dec.{leb}
 use lib.ListN.{length, getD}
 use borrow.Author.Tests.{le-leb, leb-true, ne-eqb}
-use Rattle.bytes.specs.Bytes.{Bytes, fix, all, has, within, digit, value, valueFrom}
+use Rattle.bytes.specs.Bytes.{Bytes, fix, all, has, within, digit, value, valueFrom, padded}
 use Rattle.bytes.proofs.Lists.{valueFrom-append}
 use Rattle.bytes.proofs.Tests.{both}
 use Rattle.bytes.proofs.Numerals.{digit-is}
 use Rattle.kinds.specs.Kind.{time, formed}
 use Rattle.calendar.specs.declared.days.Date.{Date}
-use Rattle.calendar.specs.Time.{dateOf, padded, text, utc, utcOrLast, limit}
+use Rattle.calendar.specs.Time.{dateOf, text, utc, utcOrLast, limit}
 
 -- THE CODE'S WAY to the text
 by-100 : (n : ℕ) → n / 100 ≡ n / 10 / 10
@@ -23,12 +23,29 @@ by-100 n = omega arith
 by-10000 : (n : ℕ) → n / 10000 ≡ n / 10 / 10 / 10 / 10
 by-10000 n = omega arith
 
+-- both digits as the two bytes of one number
+pub two-bytes : (n : ℕ) → n < 100 → (256 * n + 12336 - 2559 * (n / 10)) % 256 ∷ (256 * n + 12336 - 2559 * (n / 10)) / 256 ∷ [] ≡ padded 2 n
+two-bytes n h =
+    let t : n / 10 % 10 ≡ n / 10 = omega arith in
+    let e : 256 * n + 12336 - 2559 * (n / 10) ≡ (48 + n / 10) + (48 + n % 10) * 256 = omega arith in
+    let l : 48 + n / 10 < 256 = omega arith in
+    let a : ((48 + n / 10) + (48 + n % 10) * 256) % 256 ≡ 48 + n / 10 = omega (arith, l) in
+    let b : ((48 + n / 10) + (48 + n % 10) * 256) / 256 ≡ 48 + n % 10 = omega (arith, l) in
+    rw (e, a, b, t)
+
+last-two : (n : ℕ) → padded 2 (n % 100) ≡ padded 2 n
+last-two n =
+    let a : n % 100 / 10 % 10 ≡ n / 10 % 10 = omega arith in
+    let b : n % 100 % 10 ≡ n % 10 = omega arith in
+    rw (a, b)
+
 pub text-joined : (D : Date) (second micros : ℕ) {c y m d h i s p q r : Bytes}
-    → c ≡ padded 2 (D .year / 100) → y ≡ padded 2 (D .year) → m ≡ padded 2 (D .month) → d ≡ padded 2 (D .day)
+    → c ≡ padded 2 (D .year / 100) → y ≡ padded 2 (D .year % 100) → m ≡ padded 2 (D .month) → d ≡ padded 2 (D .day)
     → h ≡ padded 2 (second / 3600) → i ≡ padded 2 (second / 60 % 60) → s ≡ padded 2 (second % 60)
-    → p ≡ padded 2 (micros / 10000) → q ≡ padded 2 (micros / 100) → r ≡ padded 2 micros
+    → p ≡ padded 2 (micros / 10000) → q ≡ padded 2 (micros / 100 % 100) → r ≡ padded 2 (micros % 100)
     → c ++ y ++ m ++ d ++ fix "-" ++ h ++ fix ":" ++ i ++ fix ":" ++ s ++ fix "." ++ p ++ q ++ r ≡ text D second micros
-text-joined D second micros c y m d h i s p q r = rw (c, y, m, d, h, i, s, p, q, r, by-100 (D .year), by-10000 micros, by-100 micros)
+text-joined D second micros c y m d h i s p q r =
+    rw (c, y ∙ last-two (D .year), m, d, h, i, s, p, q ∙ last-two (micros / 100), r ∙ last-two micros, by-100 (D .year), by-10000 micros, by-100 micros)
 
 pub utc-by : (t : ℕ) {D : Date} → D ≡ dateOf (t / 1000000 / 86400) → text D (t / 1000000 % 86400) (t % 1000000) ≡ utc t
 unfolding utc

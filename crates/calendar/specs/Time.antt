@@ -5,7 +5,7 @@ use Prim.Native.Char.{code}
 use mathlib.Core.List.{[], _∷_, _++_}
 use mathlib.Core.Bool.{cond}
 use lib.Dec.{ltb}
-use Rattle.bytes.specs.Bytes.{Bytes, fix}
+use Rattle.bytes.specs.Bytes.{Bytes, fix, padded}
 use Rattle.dates.specs.Date.{days, number-at}
 use Rattle.calendar.specs.declared.days.Date.{Date}
 
@@ -34,12 +34,7 @@ inYear (y, d) = date y (counted (days y) 11 1 d)
 unfoldable pub dateOf : ℕ → Date
 dateOf d = inYear (counted yearDays 8029 1970 d)
 
--- THE TEXT of a time. The last k digits of n, with zeros in front: padded 2 7 is "07"
-abbrev pub padded : ℕ → ℕ → Bytes
-padded zero n = []
-padded (suc k) n = padded k (n / 10) ++ ((code "0" + n % 10) ∷ [])
-
--- YYYYMMDD
+-- THE TEXT of a time: YYYYMMDD
 abbrev pub dateText : Date → Bytes
 dateText d = padded 4 (d .year) ++ padded 2 (d .month) ++ padded 2 (d .day)
 

@@ -5,8 +5,9 @@ use days::Date;
 use days::date_of;
 ghost use mathlib.Core.Path.{_≡_};
 ghost use mathlib.Core.List.{[], _∷_};
-ghost use Prim.Native.Nat.{_<_};
-ghost use Rattle.calendar.specs.Time.{utc, utcOrLast, limit, text, padded};
+ghost use Prim.Native.Nat.{_<_, _≤_};
+ghost use Rattle.calendar.specs.Time.{utc, utcOrLast, limit, text};
+ghost use Rattle.bytes.specs.Bytes.{padded};
 
 // The time of a microsecond since 1970; past the year 9999, that of its last microsecond.
 pub fn utc(micros: u64) -> [u8; 24]
@@ -32,18 +33,22 @@ struct Pair(u8, u8);
 
 // A date, a second of the day and a microsecond of the second.
 fn written(date: Date, second: u64, micros: u64) -> [u8; 24]
+    requires { ⌜ (date .year ≤ 9999) × (date .month ≤ 12) × (date .day ≤ 31) × (second < 86_400) × (micros < 1_000_000) ⌝ }
     ensures { λ r. ⌜ r ≡ text date second micros ⌝ }
 {
-    let c = two(date.year / 100);
-    let y = two(date.year);
-    let m = two(date.month);
-    let d = two(date.day);
+    let year = date.year as u32;
+    let second = second as u32;
+    let micros = micros as u32;
+    let c = two(year / 100);
+    let y = two(year % 100);
+    let m = two(date.month as u32);
+    let d = two(date.day as u32);
     let h = two(second / 3600);
     let i = two(second / 60 % 60);
     let s = two(second % 60);
     let p = two(micros / 10_000);
-    let q = two(micros / 100);
-    let r = two(micros);
+    let q = two(micros / 100 % 100);
+    let r = two(micros % 100);
     [
         c.0,
         c.1,
@@ -72,9 +77,11 @@ fn written(date: Date, second: u64, micros: u64) -> [u8; 24]
     ]
 }
 
-// The last two digits of n.
-fn two(n: u64) -> Pair
+// The two digits of n. They are the two bytes of one number, n / 10 below and n % 10 above, so that they are stored at once.
+fn two(n: u32) -> Pair
+    requires { ⌜ n < 100 ⌝ }
     ensures { λ r. ⌜ r .0 ∷ r .1 ∷ [] ≡ padded 2 n ⌝ }
 {
-    Pair((48 + n / 10 % 10) as u8, (48 + n % 10) as u8)
+    let x = 256 * n + 12_336 - 2559 * (n / 10);
+    Pair((x % 256) as u8, (x / 256) as u8)
 }

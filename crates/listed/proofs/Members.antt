@@ -13,7 +13,8 @@ use Rattle.bytes.proofs.Tests.{neither}
 use Rattle.table.specs.declared.MsgType.the-variants.{TradeCaptureReport}
 use Rattle.message.specs.Message.{number, Field, _is_, row}
 use Rattle.message.specs.Unfit.{unfit}
-use Rattle.message.proofs.Writes.{row-append, decimal-small}
+use Rattle.bytes.proofs.Rightmost.{decimal-small}
+use Rattle.message.proofs.Writes.{row-append}
 use Rattle.report.specs.Values.{Party, members, group}
 use Rattle.report.proofs.Longest.{group-few}
 use Rattle.report.proofs.Sides.{count-fit}

@@ -10,10 +10,8 @@ use lib.ListN.{length, take, drop, getD, set, length-append, List·getD-append}
 use lib.Seq.{sets, sets-eq, take-suc, drop-at, length-take-le, take-append-seam}
 use borrow.Author.Tests.{lt-ltb}
 use Rattle.bytes.specs.Bytes.{Bytes, all, digit, value, decimal}
-use Rattle.bytes.proofs.Lists.{valueFrom-append}
-use Rattle.bytes.proofs.Tests.{all-append}
-use Rattle.bytes.proofs.Numerals.{is-digit, Numeral}
-use Rattle.bytes.proofs.Decimals.{decimal-numeral, decimal-worth, numeral-decimal}
+use Rattle.bytes.proofs.Decimals.{decimal-numeral}
+use Rattle.bytes.proofs.Rightmost.{length-small, length-step}
 use Rattle.message.specs.Message.{Field, field, row}
 use Rattle.message.specs.Wrote.{Wrote}
 
@@ -65,32 +63,7 @@ row-append (f ∷ xs) ys = ap (λ (l : Bytes). field f ++ l) (row-append xs ys) 
 pub more : {d d₁ d₂ : Bytes} {at t₁ t₂ : ℕ} (xs ys : List Field) → Wrote d d₁ at t₁ (row xs) → Wrote d₁ d₂ t₁ t₂ (row ys) → Wrote d d₂ at t₂ (row (xs ++ ys))
 more xs ys a b = reword (sym (row-append xs ys)) (chain a b)
 
--- DIGITS, one by one
-pub decimal-small : (n : ℕ) → n < 10 → decimal n ≡ (48 + n) ∷ []
-unfolding decimal
-decimal-small n h = rw (lt-ltb n 10 h)
-
-pub decimal-step : (n : ℕ) → 10 ≤ n → n < 1_000_000_000 → decimal n ≡ decimal (n / 10) ++ ((48 + n % 10) ∷ [])
-decimal-step n h k =
-    let l : Bytes = decimal (n / 10) ++ ((48 + n % 10) ∷ []) in
-    let N = decimal-numeral 8 (n / 10) (omega arith) (omega arith) in
-    let d : all digit l ≡ true = all-append digit (decimal (n / 10)) ((48 + n % 10) ∷ []) ∙ rw (N .whole, is-digit (48 + n % 10) (omega arith, omega arith)) in
-    let w : value l ≡ n = valueFrom-append 0 (decimal (n / 10)) ((48 + n % 10) ∷ []) ∙ omega (arith, decimal-worth (n / 10)) in
-    let M : Numeral 10 l =
-    record {
-      some-digit = omega (arith, length-append (decimal (n / 10)) ((48 + n % 10) ∷ []));
-      few = omega (arith, length-append (decimal (n / 10)) ((48 + n % 10) ∷ []), N .few);
-      whole = d;
-      no-zero = λ e. N .no-zero (sym (List·getD-append (decimal (n / 10)) ((48 + n % 10) ∷ []) 0 0 (N .some-digit)) ∙ e);
-    } in
-    sym (ap decimal w) ∙ numeral-decimal 10 l M
-
-pub length-small : (n : ℕ) → n < 10 → length (decimal n) ≡ 1
-length-small n h = ap length (decimal-small n h)
-
-pub length-step : (n : ℕ) → 10 ≤ n → n < 1_000_000_000 → length (decimal n) ≡ length (decimal (n / 10)) + 1
-length-step n h k = ap length (decimal-step n h k) ∙ length-append (decimal (n / 10)) ((48 + n % 10) ∷ [])
-
+-- DIGITS
 -- a number below 10 to the k + 1 has at most k + 1 digits
 pub few-digits : (k n : ℕ) → n < 10 ^ suc k → (1 ≤ length (decimal n)) × (length (decimal n) ≤ suc k)
 unfolding decimal
@@ -102,10 +75,10 @@ pub digits-1 : (n : ℕ) → n < 10 → n + 22 ≡ n + length (decimal n) + 21
 digits-1 n h = omega (arith, length-small n h)
 
 pub digits-2 : (n : ℕ) → 10 ≤ n → n < 100 → n + 23 ≡ n + length (decimal n) + 21
-digits-2 n l h = omega (arith, length-step n l (omega arith), length-small (n / 10) (omega arith))
+digits-2 n l h = omega (arith, length-step n l, length-small (n / 10) (omega arith))
 
 pub digits-3 : (n : ℕ) → 100 ≤ n → n < 1000 → n + 24 ≡ n + length (decimal n) + 21
-digits-3 n l h = omega (arith, length-step n (omega arith) (omega arith), digits-2 (n / 10) (omega arith) (omega arith))
+digits-3 n l h = omega (arith, length-step n (omega arith), digits-2 (n / 10) (omega arith) (omega arith))
 
 pub digits-4 : (n : ℕ) → 1000 ≤ n → n < 10_000 → n + 25 ≡ n + length (decimal n) + 21
-digits-4 n l h = omega (arith, length-step n (omega arith) (omega arith), digits-3 (n / 10) (omega arith) (omega arith))
+digits-4 n l h = omega (arith, length-step n (omega arith), digits-3 (n / 10) (omega arith) (omega arith))

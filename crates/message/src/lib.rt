@@ -66,13 +66,13 @@ pub fn width(n: u64) -> usize
     9
 }
 
-// The digits of a number that has at most nine, the last one first.
+// The digits of a number that has at most nine, the last one first. What is left of it fits 32 bits, which divide faster.
 pub fn put_decimal(buf: &mut [u8], at: usize, n: u64) -> usize
     requires { ⌜ (n < 1_000_000_000) × (at + length (decimal n) ≤ length (now buf)) ⌝ }
     ensures { λ r. ⌜ Wrote (now (buf .entry)) (now (buf .exit)) at r (decimal n) ⌝ }
 {
     let k = width(n);
-    let mut rest = n;
+    let mut rest = n as u32;
     let mut i = k;
     while 0 < i {
         i -= 1;

@@ -7,13 +7,12 @@ use mathlib.Core.Bool.{true, false, not, and-false, false≢true}
 use lib.Dec.{eqb, leb}
 use lib.ListN.{length}
 use borrow.Author.Tests.{ne-eqb, lt-leb}
-use Rattle.bytes.specs.Bytes.{Bytes, has, within, decimal}
+use Rattle.bytes.specs.Bytes.{Bytes, has, within, decimal, padded}
 use Rattle.bytes.proofs.Tests.{any-append}
 use Rattle.bytes.proofs.Numerals.{is-within}
 use Rattle.decimals.specs.Decimal.{isDecimal, inRange}
 use Rattle.kinds.specs.Kind.{formed, allowed}
 use Rattle.kinds.specs.Kind as Kind
-use Rattle.calendar.specs.Time.{padded}
 use Rattle.message.specs.code.Writable.{unwritten}
 use Rattle.message.proofs.Cutting.{decimal-free}
 use Rattle.amounts.specs.Amount.{without, pointing}

@@ -5,7 +5,7 @@ use native.Mathlib.Omega.{arith}
 use Prim.Native.Nat.{_-_, _≤_}
 use mathlib.Core.Path.{_≡_, refl}
 use lib.ListN.{length, length-set}
-use Rattle.calendar.specs.Time.{padded}
+use Rattle.bytes.specs.Bytes.{padded}
 use Rattle.message.proofs.Leftward.{Left, left-more}
 use Rattle.amounts.specs.Amount.{without}
 use Rattle.amounts.proofs.Placing.{left-digits, all-digits, rest-more, rest-none}

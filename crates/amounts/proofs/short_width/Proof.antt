@@ -1,6 +1,6 @@
 -- `short_width`: by the number of digits.
 use native.Mathlib.Omega.{arith}
-use Rattle.amounts.proofs.Placing.{width-1, width-2, width-3, width-4, width-5, width-6, width-7}
+use Rattle.bytes.proofs.Rightmost.{width-1, width-2, width-3, width-4, width-5, width-6, width-7}
 use Rattle.amounts.proofs.short_width.Statement.{statement}
 use Rattle.amounts.proofs.short_width.Tie as tie
 

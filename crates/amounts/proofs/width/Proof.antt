@@ -1,7 +1,8 @@
 -- `width`: the digits above the eighth are counted by themselves.
 use borrow.Author.Needs.{needs}
 use native.Mathlib.Omega.{arith}
-use Rattle.amounts.proofs.Placing.{width-8, width-above}
+use Rattle.bytes.proofs.Rightmost.{width-8}
+use Rattle.amounts.proofs.Placing.{width-above}
 use Rattle.amounts.proofs.width.Statement.{statement}
 use Rattle.amounts.proofs.width.Tie as tie
 

@@ -19,7 +19,7 @@ abbrev μ-loop : tie.MeasureT-loop
 loop-holds : tie.Need-loop-holds Inv-loop μ-loop
 loop-holds c =
     let s = c .before .before in
-    (omega arith, (refl, left-all _ (s .args .at) (s .args .n) _ (s .pre .0) (c .width .ensures)))
+    (omega arith, (refl, left-all _ (s .args .at) (s .args .n) _ (c .width .ensures)))
 
 loop-again : tie.Need-loop-again Inv-loop μ-loop
 loop-again c =
@@ -39,6 +39,7 @@ put-decimal-spec =
     Inv-loop
     μ-loop
     (λ c κs. search needs)
+    (λ c. search needs)
     loop-holds
     (λ c. search needs)
     (λ c. search needs)

@@ -1,7 +1,7 @@
 -- `width`: by the number of digits.
 use borrow.Author.Needs.{needs}
 use native.Mathlib.Omega.{arith}
-use Rattle.message.proofs.Leftward.{width-1, width-2, width-3, width-4, width-5, width-6, width-7, width-8, width-9}
+use Rattle.bytes.proofs.Rightmost.{width-1, width-2, width-3, width-4, width-5, width-6, width-7, width-8, width-9}
 use Rattle.message.proofs.width.Statement.{statement}
 use Rattle.message.proofs.width.Tie as tie
 
