@@ -3,7 +3,7 @@
 use Prim.Native.Nat.{ℕ, _+_, _≤_, _<_}
 use native.Mathlib.Omega.{arith}
 use mathlib.Core.Path.{_≡_, refl, sym, ap, _∙_, subst}
-use mathlib.Core.Bool.{Bool, cond}
+use mathlib.Core.Bool.{Bool, true, false, cond, false≢true}
 use mathlib.Core.List.{List, [], _∷_, _++_, append-nil, append-assoc}
 use mathlib.Core.Option.{Option, some}
 use lib.ListN.{length, take}
@@ -13,6 +13,7 @@ use Rattle.frame.specs.Stream.{joined}
 use Rattle.fields.specs.Field.{firstField}
 use Rattle.table.specs.Dictionary.{code35, fields}
 use Rattle.calendar.specs.Time.{utc}
+use Rattle.calendar.proofs.Times.{utc-length}
 use Rattle.message.specs.Message.{Value, absent, bytes, own, order, written}
 use Rattle.replies.specs.Reply as Reply
 use Rattle.message.specs.Wrote.{Wrote}
@@ -23,12 +24,12 @@ use Rattle.moves.specs.Session.{fresh}
 use Rattle.moves.specs.Seen.{repeated}
 use Rattle.moves.specs.Moves as Words
 use Rattle.moves.specs.Moves.{letter, #}
-use Rattle.moves.specs.code.Plan.{lettersOf, behind, Ready}
+use Rattle.moves.specs.code.Plan.{lettersOf, behind, isNothing, Ready}
 use Rattle.letters.specs.code.Put.{bytesOf, AllPut, rejectOf, typeRejectOf, logonOf, Sending}
 use Rattle.letters.specs.code.Fit.{FitId, FitLogon}
 use Rattle.moves.specs.declared.record.Record.{Record}
 use Rattle.moves.specs.declared.plan.Letter.{Letter}
-use Rattle.moves.specs.declared.plan.Letter.the-variants.{Nothing, Heartbeat, Echo, Logon, Ask, Reject, RejectType, Logout, Test}
+use Rattle.moves.specs.declared.plan.Letter.the-variants.{Nothing, Echo, Logon, Ask, Reject, RejectType, Logout, Test}
 use Rattle.letters.proofs.Replying.{was-put}
 use Rattle.letters.proofs.Carried.{logon-seconds}
 
@@ -71,9 +72,6 @@ module _ (ours peers stamp body d d′ : Bytes) (n at to : ℕ) (l : Letter) (S 
   alone : {xs : Bytes} {k : Letter} → l ≡ k → xs ++ [] ≡ joined (bytesOf ours peers stamp (lettersOf body n k)) → Wrote d d′ at to xs → to ≤ at + replyRoom → Put
   alone {xs = xs} e q w h =
       (subst (Wrote d d′ at to) (sym (append-nil xs) ∙ q ∙ ap (λ (y : Letter). joined (bytesOf ours peers stamp (lettersOf body n y))) (sym e)) w, h)
-
-  pub put-beat : {id : Bytes} → id ≡ [] → l ≡ Heartbeat → Replied ours peers n stamp (echoable id) d d′ at to (Reply.heartbeat ours peers n stamp absent) → Put
-  put-beat i e R = let w = was-put S n R (rw i refl) (S .number) (S .room) in alone e refl (w .0) (w .1)
 
   pub put-echo : l ≡ Echo → Wrote d d′ at to (Reply.heartbeat ours peers n stamp (repeated (firstField 112 body))) → to ≤ at + replyRoom → Put
   put-echo e w h = alone e refl w h
@@ -125,6 +123,24 @@ first-put body n f g A = put-split (lettersOf body n f) (lettersOf body (behind 
 pub second-put : (body : Bytes) (n : ℕ) (f g : Letter) {m : ℕ} → m ≡ behind n f → AllPut (lettersOf body n f ++ lettersOf body (behind n f) g) → AllPut (lettersOf body m g)
 second-put body n f g e A = subst (λ (k : ℕ). AllPut (lettersOf body k g)) (sym e) (put-split (lettersOf body n f) (lettersOf body (behind n f) g) A .1)
 
+-- the second is nothing
+pub nothing-is : (a : Letter) → isNothing a ≡ true → a ≡ Nothing
+nothing-is Nothing e = refl
+nothing-is Echo e = absurd (false≢true e)
+nothing-is (Logon x) e = absurd (false≢true e)
+nothing-is (Ask x) e = absurd (false≢true e)
+nothing-is (Reject x y) e = absurd (false≢true e)
+nothing-is RejectType e = absurd (false≢true e)
+nothing-is (Logout x) e = absurd (false≢true e)
+nothing-is Test e = absurd (false≢true e)
+
+pub first-alone : (ours peers stamp body : Bytes) (n : ℕ) (f g : Letter) {b : Bool} {d d′ : Bytes} {to : ℕ} → b ≡ isNothing g → b ≡ true → Wrote d d′ 0 to (joined (bytesOf ours peers stamp (lettersOf body n f)))
+    → Wrote d d′ 0 to (joined (bytesOf ours peers stamp (lettersOf body n f ++ lettersOf body (behind n f) g)))
+first-alone ours peers stamp body n f g {d = d} {d′ = d′} {to = to} e t w =
+    let q : lettersOf body n f ≡ lettersOf body n f ++ lettersOf body (behind n f) g =
+    sym (append-nil (lettersOf body n f)) ∙ ap (λ (y : Letter). lettersOf body n f ++ lettersOf body (behind n f) y) (sym (nothing-is g (sym e ∙ t))) in
+    subst (λ (ls : List (ℕ × Words.Letter)). Wrote d d′ 0 to (joined (bytesOf ours peers stamp ls))) q w
+
 pub both-put : (ours peers stamp : Bytes) {d d₁ d₂ : Bytes} {a to : ℕ} (xs ys : List (ℕ × Words.Letter)) → Wrote d d₁ 0 a (joined (bytesOf ours peers stamp xs)) → Wrote d₁ d₂ a to (joined (bytesOf ours peers stamp ys))
     → Wrote d d₂ 0 to (joined (bytesOf ours peers stamp (xs ++ ys)))
 both-put ours peers stamp {d = d} {d₂ = d₂} {to = to} xs ys v w =
@@ -146,3 +162,15 @@ sending r R e f stamp buf l b =
 pub at-time : (ours peers : Bytes) (ls : List (ℕ × Words.Letter)) (t : ℕ) {d d′ stamp : Bytes} {len : ℕ} → stamp ≡ utc t
     → Wrote d d′ 0 len (joined (bytesOf ours peers stamp ls)) → Wrote d d′ 0 len (joined (bytesOf ours peers (utc t) ls))
 at-time ours peers ls t {d = d} {d′ = d′} {len = len} e w = subst (λ (x : Bytes). Wrote d d′ 0 len (joined (bytesOf ours peers x ls))) e w
+
+-- the Heartbeat of a tick
+pub beat-put : (r : Record) → Ready r → length (r .ours) ≡ 11 → length (r .peer) ≡ 11 → (t : ℕ) {stamp d d′ : Bytes} {to : ℕ} → stamp ≡ utc t → 512 ≤ length d
+    → Replied (take (r .oursLen) (r .ours)) (take (r .peerLen) (r .peer)) (r .next) stamp (echoable []) d d′ 0 to (Reply.heartbeat (take (r .oursLen) (r .ours)) (take (r .peerLen) (r .peer)) (r .next) stamp absent)
+    → Wrote d d′ 0 to (joined (bytesOf (take (r .oursLen) (r .ours)) (take (r .peerLen) (r .peer)) (utc t) ((r .next, Words.Heartbeat absent) ∷ []))) × (to ≤ 512)
+beat-put r R e f t {stamp = stamp} {d = d} {d′ = d′} {to = to} q b P =
+    let ours = take (r .oursLen) (r .ours) in
+    let peers = take (r .peerLen) (r .peer) in
+    let S : Sending ours peers (r .next) 0 stamp d = sending-at (r .next) 0 (sending r R e f stamp d (ap length q ∙ utc-length t) b) (omega (arith, R .next)) (omega arith) in
+    let w = was-put S (r .next) P refl (S .number) (S .room) in
+    let v : Wrote d d′ 0 to (joined (bytesOf ours peers stamp ((r .next, Words.Heartbeat absent) ∷ []))) = subst (Wrote d d′ 0 to) (sym (append-nil (Reply.heartbeat ours peers (r .next) stamp absent))) (w .0) in
+    (at-time ours peers ((r .next, Words.Heartbeat absent) ∷ []) t q v, omega (arith, w .1))

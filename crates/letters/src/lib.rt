@@ -6,6 +6,7 @@ use fields::first_field;
 use fields::type_field;
 use moves::Letter;
 use moves::Record;
+use moves::is_nothing;
 use moves::next_after;
 use moves::number_in;
 use replies::heartbeat;
@@ -16,7 +17,7 @@ use replies::resend_request;
 use replies::test_request;
 use table::Named;
 ghost use mathlib.Core.Path.{_≡_};
-ghost use mathlib.Core.List.{_++_};
+ghost use mathlib.Core.List.{[], _∷_, _++_};
 ghost use mathlib.Core.Option.{some};
 ghost use Prim.Native.Nat.{_+_, _≤_, _<_};
 ghost use lib.ListN.{length, take};
@@ -28,7 +29,9 @@ ghost use Rattle.calendar.specs.Time.{utc, limit};
 ghost use Rattle.replies.specs.Reply.{optional, heartbeat};
 ghost use Rattle.replies.specs.Replied.{replyRoom};
 ghost use Rattle.message.specs.Wrote.{Wrote};
+ghost use Rattle.message.specs.Message.{absent};
 ghost use Rattle.moves.specs.Seen.{repeated};
+ghost use Rattle.moves.specs.Moves.{Heartbeat};
 ghost use Rattle.letters.specs.code.Put.{Repeats, rejectOf, typeRejectOf, logonOf, bytesOf, AllPut, Sending};
 ghost use Rattle.moves.specs.code.Plan.{lettersOf, behind, Ready};
 
@@ -162,7 +165,6 @@ fn put(
 {
     match l {
         Letter::Nothing => at,
-        Letter::Heartbeat => heartbeat(buf, at, us, them, n, stamp, false, b""),
         Letter::Echo => put_echo(buf, at, us, them, n, stamp, body),
         Letter::Logon { anew } => put_logon(buf, at, us, them, n, stamp, body, anew),
         Letter::Ask { from } => resend_request(buf, at, us, them, n, stamp, from),
@@ -199,8 +201,11 @@ fn put_both(
     ensures bytes { λ r. ⌜ Wrote (now (buf .entry)) (now (buf .exit)) 0 r (joined (bytesOf (now (us .entry)) (now (them .entry)) (now (stamp .entry)) (lettersOf (now (body .entry)) n first ++ lettersOf (now (body .entry)) (behind n first) second))) ⌝ }
     ensures room { λ r. ⌜ r ≤ 374 ⌝ }
 {
-    let m = next_after(first, n);
     let a = put(first, buf, 0, us, them, n, stamp, body);
+    if is_nothing(second) {
+        return a;
+    }
+    let m = next_after(first, n);
     put(second, buf, a, us, them, m, stamp, body)
 }
 
@@ -233,4 +238,18 @@ pub fn stamped(
         &stamp,
         body,
     )
+}
+
+// The Heartbeat of a tick, at a time and from a record as above.
+pub fn beat(r: Record, time: u64, buf: &mut [u8]) -> usize
+    requires { ⌜ Ready r × (512 ≤ length (now buf)) × (time < limit) ⌝ }
+    ensures bytes { λ n. ⌜ Wrote (now (buf .entry)) (now (buf .exit)) 0 n (joined (bytesOf (take (r .oursLen) (r .ours)) (take (r .peerLen) (r .peer)) (utc time) ((r .next, Heartbeat absent) ∷ []))) ⌝ }
+    ensures room { λ n. ⌜ n ≤ 512 ⌝ }
+{
+    let stamp = utc(time);
+    let ours = r.ours;
+    let o = r.oursLen;
+    let peer = r.peer;
+    let p = r.peerLen;
+    heartbeat(buf, 0, &ours[..o], &peer[..p], r.next, &stamp, false, b"")
 }

@@ -6,12 +6,9 @@ use mathlib.Core.Bool.{Bool, true, false, not, _&&_}
 use borrow.Author.Tests.{not-true, not-false}
 use Rattle.moves.specs.code.Plan.{behind, isNothing}
 use Rattle.moves.specs.declared.plan.Letter.{Letter}
-use Rattle.moves.specs.declared.plan.Letter.the-variants.{Heartbeat, Echo, Logon, Ask, Reject, RejectType, Logout, Test}
+use Rattle.moves.specs.declared.plan.Letter.the-variants.{Echo, Logon, Ask, Reject, RejectType, Logout, Test}
 
 -- THE NEXT NUMBER behind a message
-pub behind-beat : (n : ℕ) {l : Letter} → l ≡ Heartbeat → n + 1 ≡ behind n l
-behind-beat n e = rw (e)
-
 pub behind-echo : (n : ℕ) {l : Letter} → l ≡ Echo → n + 1 ≡ behind n l
 behind-echo n e = rw (e)
 
@@ -33,7 +30,7 @@ behind-logout n e = rw (e)
 pub behind-test : (n : ℕ) {l : Letter} → l ≡ Test → n + 1 ≡ behind n l
 behind-test n e = rw (e)
 
-pub ruleset behinds = (behind-beat, behind-echo, behind-logon, behind-ask, behind-reject, behind-reject-type, behind-logout, behind-test)
+pub ruleset behinds = (behind-echo, behind-logon, behind-ask, behind-reject, behind-reject-type, behind-logout, behind-test)
 
 -- NOTHING is written
 pub not-quiet : {b : Bool} (f g : Letter) → b ≡ isNothing f → not b ≡ true → false ≡ (isNothing f && isNothing g)

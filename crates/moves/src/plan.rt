@@ -10,8 +10,6 @@ ghost use Rattle.moves.specs.code.Plan.{behind, isNothing, says, counts,
 // A message of ours, in numbers.
 pub enum Letter {
     Nothing,
-    // The Heartbeat of a tick.
-    Heartbeat,
     // A Heartbeat with the 112 of a Test Request.
     Echo,
     // Our Logon; anew with 141=Y and as number 1.
@@ -160,13 +158,6 @@ pub fn serving(r: Record, first: Letter, e: u64, at: u64, to: u64) -> Plan
     }
 }
 
-// The Heartbeat of a tick.
-pub fn beating(r: Record) -> Plan
-    ensures { λ p. ⌜ p ≡ says (sessionOf r) Letter.Heartbeat Letter.Nothing ⌝ }
-{
-    saying(r, Letter::Heartbeat, Letter::Nothing)
-}
-
 // The next number out behind a message.
 pub fn next_after(l: Letter, n: u64) -> u64
     requires { ⌜ n ≤ 999_999_998 ⌝ }
@@ -176,7 +167,6 @@ pub fn next_after(l: Letter, n: u64) -> u64
     let one = n + 1;
     match l {
         Letter::Nothing => n,
-        Letter::Heartbeat => one,
         Letter::Echo => one,
         Letter::Logon { anew } => {
             if anew {
@@ -192,12 +182,12 @@ pub fn next_after(l: Letter, n: u64) -> u64
     }
 }
 
-fn is_nothing(l: Letter) -> bool
+// Whether no message is written for it.
+pub fn is_nothing(l: Letter) -> bool
     ensures { λ b. ⌜ b ≡ isNothing l ⌝ }
 {
     match l {
         Letter::Nothing => true,
-        Letter::Heartbeat => false,
         Letter::Echo => false,
         Letter::Logon { anew: _ } => false,
         Letter::Ask { from: _ } => false,

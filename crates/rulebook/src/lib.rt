@@ -70,26 +70,19 @@ fn strange_at(r: Record, body: &[u8], sender: Place, target: Place) -> u64
     0
 }
 
-// The same, looked for in the body.
-fn strange_tag(r: Record, body: &[u8]) -> u64
-    requires { ⌜ Ready r ⌝ }
-    ensures { λ t. ⌜ t ≡ strangeTag (sessionOf r) (now (body .entry)) ⌝ }
-{
-    let h = heads_of(body);
-    let sender = h.sender;
-    let target = h.target;
-    strange_at(r, body, sender, target)
-}
-
 // Whether a Logon can be accepted: its 34 can be read, its CompIDs are as they should be, and its verdict is clean.
 pub fn is_acceptable(r: Record, body: &[u8]) -> bool
     requires { ⌜ Ready r ⌝ }
     ensures { λ b. ⌜ b ≡ acceptable (sessionOf r) (now (body .entry)) ⌝ }
 {
-    if number_in(body, 34, 1) == 0 {
+    let h = heads_of(body);
+    let number = h.number;
+    let sender = h.sender;
+    let target = h.target;
+    if number_at(body, 34, number, 1) == 0 {
         return false;
     }
-    if strange_tag(r, body) != 0 {
+    if strange_at(r, body, sender, target) != 0 {
         return false;
     }
     is_clean(verdict_on(body))

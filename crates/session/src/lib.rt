@@ -13,7 +13,6 @@ use gates::step_gate;
 use moves::Letter;
 use moves::Record;
 use moves::Status;
-use moves::beating;
 use moves::closing;
 use moves::holds;
 use moves::in_range;
@@ -25,7 +24,9 @@ use own::is_test_id;
 use own::own_gate;
 use places::is_store;
 use places::zero_store;
+use played::beating;
 use played::play;
+use played::say;
 pub use played::unchanged;
 use rulebook::active;
 use rulebook::waiting;
@@ -137,7 +138,7 @@ fn logging_on(r: Record, body: &[u8], time: u64, buf: &mut [u8], store: &mut [u8
     ensures stored { λ _. ⌜ now (store .exit) ≡ storeBy (sessionOf r) (now (body .entry)) (movesOn (sessionOf r) (now (body .entry)) time (now (buf .entry))) (now (store .entry)) ⌝ }
 {
     let p = waiting(r, body);
-    let left = play(r, p, body, time, buf);
+    let left = say(r, p, body, time, buf);
     let after = left.after;
     let st = after.status;
     if !is_active(st) {
@@ -230,7 +231,7 @@ pub fn tick(r: Record, time: u64, buf: &mut [u8]) -> Answered
     if !is_due(r, time) {
         return unchanged(r, Answer::NothingDue);
     }
-    play(r, beating(r), b"", time, buf)
+    beating(r, time, buf)
 }
 
 // The venue logs the member out: our Logout, and the session is Closed.
@@ -242,7 +243,7 @@ pub fn logout(r: Record, time: u64, buf: &mut [u8]) -> Answered
         Gate::Shut(k) => refused(r, k),
         Gate::Open => {
             let p = closing(r, Letter::Logout { why: 101 }, Letter::Nothing, r.expected);
-            play(r, p, b"", time, buf)
+            say(r, p, b"", time, buf)
         }
     }
 }
@@ -259,7 +260,7 @@ pub fn test_request(r: Record, id: &[u8], time: u64, buf: &mut [u8]) -> Answered
                 return refused(r, Refusal::BadValue);
             }
             let p = saying(r, Letter::Test, Letter::Nothing);
-            play(r, p, id, time, buf)
+            say(r, p, id, time, buf)
         }
     }
 }

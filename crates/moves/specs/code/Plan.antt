@@ -22,7 +22,7 @@ use Rattle.moves.specs.declared.record.Status.{Status}
 use Rattle.moves.specs.declared.record.Status.the-variants.{Active, Closed}
 use Rattle.moves.specs.declared.plan.Plan.{Plan}
 use Rattle.moves.specs.declared.plan.Letter.{Letter}
-use Rattle.moves.specs.declared.plan.Letter.the-variants.{Nothing, Heartbeat, Echo, Logon, Ask, Reject, RejectType, Logout, Test}
+use Rattle.moves.specs.declared.plan.Letter.the-variants.{Nothing, Echo, Logon, Ask, Reject, RejectType, Logout, Test}
 
 -- E + 1, or not
 abbrev pub raised : Bool → ℕ → ℕ
@@ -63,7 +63,6 @@ summed s ds = adds (record { delivered = false; letters = []; status = s .status
 -- A PLAN: a message of the code's in the words of the moves, with its number; by the body that came, or by the 112 that a Test Request is to have
 abbrev pub lettersOf : Bytes → ℕ → Letter → List (ℕ × Words.Letter)
 lettersOf body n Nothing = []
-lettersOf body n Heartbeat = (n, Words.Heartbeat absent) ∷ []
 lettersOf body n Echo = (n, Words.Heartbeat (repeated (firstField 112 body))) ∷ []
 lettersOf body n (Logon anew) = (cond anew 1 n, Words.Logon (repeated (firstField 98 body)) (repeated (firstField 108 body)) (repeated (firstField 1137 body)) (optional anew (fix "Y"))) ∷ []
 lettersOf body n (Ask from) = (n, Words.ResendRequest from) ∷ []
@@ -75,7 +74,6 @@ lettersOf id n Test = (n, Words.TestRequest id) ∷ []
 -- the next number out behind it
 abbrev pub behind : ℕ → Letter → ℕ
 behind n Nothing = n
-behind n Heartbeat = n + 1
 behind n Echo = n + 1
 behind n (Logon anew) = cond anew 2 (n + 1)
 behind n (Ask from) = n + 1
@@ -90,7 +88,6 @@ planned body s p =
 
 abbrev pub isNothing : Letter → Bool
 isNothing Nothing = true
-isNothing Heartbeat = false
 isNothing Echo = false
 isNothing (Logon anew) = false
 isNothing (Ask from) = false

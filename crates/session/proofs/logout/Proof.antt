@@ -6,17 +6,18 @@ use lib.ListN.{length}
 use Rattle.moves.specs.Held.{sessionOf}
 use Rattle.session.specs.Calls.{unsendable, logout}
 use Rattle.session.proofs.Stepping.{ample}
-use Rattle.session.proofs.Playing.{plan-fits, plan-makes}
+use Rattle.session.proofs.Playing.{plan-fits, plan-says, plan-makes}
 use Rattle.session.proofs.Venue.{sends-by, ready-to, own-shut, own-made, farewell, farewell-plan, farewell-fit}
 use Rattle.session.proofs.logout.Statement.{statement}
 use Rattle.session.proofs.logout.Tie as tie
 
-play-requires : tie.Need-play-requires
-play-requires c κs =
+say-requires : tie.Need-say-requires
+say-requires c κs =
     let a = c .before .before .before .before .before .before .before .args in
     let S = sends-by (sessionOf (a .r)) _ _ (c .before .before .before .before .before .own-gate .ensures) (c .before .before .before .enum-told .given .1) in
     let R = ready-to (a .r) S in
-    (R, (omega (arith, S .roomy), S .timed, plan-fits (a .time) (sessionOf (a .r)) [] (c .before .before .closing .result) farewell (farewell-plan (sessionOf (a .r)) (c .before .before .closing .ensures)) (farewell-fit (a .time) _ (ample (a .r) R))))
+    let e = farewell-plan (sessionOf (a .r)) (c .before .before .closing .ensures) in
+    (R, (omega (arith, S .roomy), S .timed, plan-fits (a .time) (sessionOf (a .r)) [] (c .before .before .closing .result) farewell e (farewell-fit (a .time) _ (ample (a .r) R)), plan-says (sessionOf (a .r)) [] (c .before .before .closing .result) farewell e tt))
 
 returns : tie.Need-returns
 unfolding logout
@@ -29,7 +30,7 @@ unfolding logout
 returns-2 c =
     let a = c .before .before .before .before .before .before .before .before .before .before .args in
     own-made (a .r) (unsendable (sessionOf (a .r)) (a .time) (length (a .buf .now))) (a .time) farewell (a .buf .now) (c .before .before .before .before .before .before .before .before .own-gate .ensures) (c .before .before .before .before .before .before .enum-told .given .1)
-    (plan-makes (a .time) (sessionOf (a .r)) [] (c .before .before .before .before .before .closing .result) farewell (a .buf .now) (farewell-plan (sessionOf (a .r)) (c .before .before .before .before .before .closing .ensures))) (c .before .before .play .ensures)
+    (plan-makes (a .time) (sessionOf (a .r)) [] (c .before .before .before .before .before .closing .result) farewell (a .buf .now) (farewell-plan (sessionOf (a .r)) (c .before .before .before .before .before .closing .ensures))) (c .before .before .say .ensures)
 
 pub logout-spec : {M : Type 1} → statement M
 logout-spec =
@@ -41,7 +42,7 @@ logout-spec =
     (λ c. search needs)
     (λ c κs. search needs)
     (λ c. search needs)
-    play-requires
+    say-requires
     returns
     (λ c. search needs)
     returns-2)

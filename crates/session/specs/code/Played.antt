@@ -31,6 +31,11 @@ abbrev pub sentBy : ℕ → ℕ → List (ℕ × Words.Letter) → ℕ
 sentBy t old [] = old
 sentBy t old (x ∷ xs) = t
 
+-- there is a message
+abbrev pub Spoken : List (ℕ × Words.Letter) → Type 0
+Spoken [] = ⊥
+Spoken (x ∷ xs) = Unit {0}
+
 abbrev pub outcomeOf : ℕ → Session → Sum → Bytes → Outcome
 outcomeOf t s a old =
     record { answer = cond (a .delivered) Delivered Done; session = changed s (a .status) (a .E) (a .next) (a .heartbeat) (sentBy t (s .sent) (a .letters)) (a .replay); reply = bytesOf (s .ours) (s .peers) (utc t) (a .letters); buffer = over (bytesOf (s .ours) (s .peers) (utc t) (a .letters)) old }

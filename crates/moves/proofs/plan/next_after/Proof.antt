@@ -25,14 +25,10 @@ returns-8 c = (search behinds, omega arith)
 returns-9 : tie.Need-returns-9
 returns-9 c = (search behinds, omega arith)
 
-returns-10 : tie.Need-returns-10
-returns-10 c = (search behinds, omega arith)
-
 pub next-after-spec : {M : Type 1} → statement M
 next-after-spec =
     tie.close
     (tie.spec
-    (λ c. search needs)
     (λ c. search needs)
     (λ c. search needs)
     (λ c. search needs)
@@ -50,5 +46,4 @@ next-after-spec =
     returns-6
     returns-7
     returns-8
-    returns-9
-    returns-10)
+    returns-9)
