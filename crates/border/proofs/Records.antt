@@ -78,14 +78,23 @@ module _ (words : List ℕ) (i : ℕ) where
   spare-at : i < length words → all zeroWord (drop i words) ≡ zeroWord (getD words i 0) && all zeroWord (drop (suc i) words)
   spare-at h = ap (all zeroWord) (drop-cons words i 0 h)
 
-  pub spare-stop : i < length words → (getD words i 0 ≡ 0 → ⊥) → all zeroWord (drop i words) ≡ false
-  spare-stop h k = spare-at h ∙ ap (λ (b : Bool). b && all zeroWord (drop (suc i) words)) (ne-eqb (getD words i 0) 0 k)
+  -- a word that is not zero settles it, and one that is leaves it as it was
+  pub spare-stop : (n : Bool) {b m : Bool} → b ≡ n && all zeroWord (drop i words) → i < length words → (getD words i 0 ≡ 0 → ⊥) → m ≡ false → b ≡ m && all zeroWord (drop (i + 1) words)
+  spare-stop n e h k f = e ∙ rw (spare-at h, ne-eqb (getD words i 0) 0 k, f) (none n)
+    where
+      none : (n : Bool) → n && false ≡ false
+      none true = refl
+      none false = refl
 
-  pub spare-next : i < length words → getD words i 0 ≡ 0 → all zeroWord (drop i words) ≡ all zeroWord (drop (i + 1) words)
-  spare-next h k = spare-at h ∙ ap (λ (b : Bool). b && all zeroWord (drop (suc i) words)) (eq-eqb (getD words i 0) 0 k) ∙ ap (λ (j : ℕ). all zeroWord (drop j words)) (sym (add-one i))
+  pub spare-next : (n : Bool) {b m : Bool} → b ≡ n && all zeroWord (drop i words) → i < length words → getD words i 0 ≡ 0 → m ≡ n → b ≡ m && all zeroWord (drop (i + 1) words)
+  spare-next n e h k f = e ∙ rw (spare-at h, eq-eqb (getD words i 0) 0 k, f, add-one i)
 
-  pub spare-end : length words ≤ i → all zeroWord (drop i words) ≡ true
-  spare-end h = ap (all zeroWord) (drop-of-length-le words h)
+  pub spare-end : (n : Bool) {b : Bool} → b ≡ n && all zeroWord (drop i words) → length words ≤ i → b ≡ n
+  spare-end n e h = e ∙ rw (drop-of-length-le words h) (whole n)
+    where
+      whole : (n : Bool) → n && true ≡ n
+      whole true = refl
+      whole false = refl
 
 one-more-zero : (i : ℕ) (l : List ℕ) → replicate i 0 ++ (0 ∷ l) ≡ replicate (suc i) 0 ++ l
 one-more-zero zero l = refl

@@ -14,18 +14,19 @@ ghost use Rattle.border.specs.Numbers.{refusalOf};
 ghost use Rattle.border.specs.Record.{eleven, compIDsOf, wordsOf, saved, spare, statusOf, statusIn, recordIn};
 ghost use Rattle.border.specs.code.Held.{found, statusHeld};
 
-// Whether the words that are kept for later are zero.
+// Whether the words that are kept for later are zero. The loop has no way out, so the compiler compares several words at once.
 fn is_spare(words: &[u64]) -> bool
     ensures { λ r. ⌜ r ≡ spare (now (words .entry)) ⌝ }
 {
+    let mut none = true;
     let mut i = 8;
     while i < words.len() {
         if words[i] != 0 {
-            return false;
+            none = false;
         }
         i += 1;
     }
-    true
+    none
 }
 
 // Whether the words are a record's: 24, of this version, with a status, and zeros behind the eight that are used.
