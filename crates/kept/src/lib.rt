@@ -1,6 +1,6 @@
 // Which report a place of the store holds, by its number; and that number read alone, where it stands.
 use bytes::checksum;
-use bytes::number;
+use bytes::row;
 use bytes::stands;
 use listed::is_listed;
 use stamps::is_stamp;
@@ -21,7 +21,7 @@ pub fn peek_number(place: &[u8], ids: usize) -> u64
     requires { ⌜ (length (now place) ≡ 512) × (ids ≤ 22) ⌝ }
     ensures { λ n. ⌜ Peeked (now (place .entry)) ids n ⌝ }
 {
-    let n = number(place, 34 + ids, 9);
+    let n = row(place, 34 + ids, 9);
     n.value as u64
 }
 
@@ -71,7 +71,7 @@ fn frame_end(place: &[u8]) -> usize
     requires { ⌜ length (now place) ≡ 512 ⌝ }
     ensures { λ n. ⌜ Ended (now (place .entry)) n ⌝ }
 {
-    let body = number(place, 13, 3);
+    let body = row(place, 13, 3);
     if body.value < 100 {
         return 0;
     }
@@ -151,7 +151,7 @@ pub fn kept_number(place: &[u8], us: &[u8], them: &[u8]) -> u64
         return 0;
     }
     let at = 34 + us.len() + them.len();
-    let n = number(place, at, 9);
+    let n = row(place, at, 9);
     if n.value == 0 {
         return 0;
     }

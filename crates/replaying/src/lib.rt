@@ -10,6 +10,7 @@ use session::Answer;
 use session::Answered;
 use session::Refusal;
 use session::unchanged;
+use store::peeked;
 use store::place_of;
 use store::run_to;
 ghost use mathlib.Core.Path.{_≡_};
@@ -58,12 +59,13 @@ fn play_next(r: Record, time: u64, buf: &mut [u8], store: &[u8]) -> Answered
     let p = r.peerLen;
     let us = &ours[..o];
     let them = &peer[..p];
-    let i = place_of(store, us, them, r.at);
+    let numbers = peeked(store, us.len() + them.len());
+    let i = place_of(store, &numbers, us, them, r.at);
     if i < 64 {
         let len = put_again(buf, &store[512 * i..512 * i + 512], us, them, r.at, time);
         return moved_on(r, r.at, len, time);
     }
-    let e = run_to(store, us, them, r.at, r.to);
+    let e = run_to(store, &numbers, us, them, r.at, r.to);
     let stamp = utc(time);
     let len = gap_fill(buf, 0, us, them, r.at, &stamp, e + 1);
     moved_on(r, e, len, time)

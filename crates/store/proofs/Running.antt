@@ -2,15 +2,16 @@
 -- Assumes nothing.
 use Prim.Native.Nat.{ℕ, suc, _+_, _-_, _*_, _≤_, _<_}
 use native.Mathlib.Omega.{arith}
-use mathlib.Core.Path.{_≡_, refl, sym, ap, _∙_}
+use mathlib.Core.Path.{_≡_, refl, sym, ap, _∙_, subst}
 use mathlib.Core.List.{List, [], _∷_}
 use mathlib.Core.Option.{Option, none, some}
 use mathlib.Core.Bool.{Bool, true, false, cond, _&&_}
 use mathlib.Core.Logic.{_⊎_, inl, inr, ⊎-elim}
-use lib.Dec.{eqb, leb, ltb}
-use lib.ListN.{length, take, drop, drop-of-length-le}
-use lib.Seq.{drop-cons}
-use borrow.Author.Tests.{eqb-true, eqb-false, ne-eqb, ltb-true, leb-true, leb-false, lt-ltb, le-ltb, le-leb, lt-leb}
+use lib.Dec.{leb, ltb}
+use lib.ListN.{length, take, drop, getD, set, drop-of-length-le}
+use lib.Seq.{drop-cons, getD-set-same, getD-set-other}
+use borrow.Author.Count.{below-more}
+use borrow.Author.Tests.{ltb-true, leb-true, leb-false, lt-ltb, le-ltb, le-leb, lt-leb}
 use Rattle.bytes.specs.Bytes.{Bytes, has}
 use Rattle.places.specs.Places.{isStore, places}
 use Rattle.places.proofs.Cuts.{places-length, slice-at, place-length}
@@ -19,6 +20,7 @@ use Rattle.kept.specs.Kept.{held, numberOf}
 use Rattle.kept.specs.code.Peeked.{Peeked}
 use Rattle.store.specs.Store.{numbers, placeOf, kept}
 use Rattle.store.specs.Plan.{runTo}
+use Rattle.store.specs.code.Peeked.{AllPeeked}
 use Rattle.store.proofs.Plan.{run-within, run-clear, run-stops}
 use Rattle.store.proofs.Counting.{numberAt, place-is, numbersOf, numbers-kept}
 
@@ -31,8 +33,8 @@ module _ (us them place : Bytes) where
       go none e = inl refl
       go (some r) e = inr (sym (P .right us them r refl e))
 
-  pub peeked-other : (n k : ℕ) → Peeked place (length us + length them) n → 1 ≤ k → (n ≡ k → ⊥) → false ≡ eqb (numberOf (held us them place)) k
-  peeked-other n k P l d = sym (ne-eqb _ k (λ e. ⊎-elim (λ z. omega (arith, z, e, l)) (λ z. d (sym z ∙ e)) (peeked n P)))
+  pub peeked-other : (n k : ℕ) → Peeked place (length us + length them) n → 1 ≤ k → (n ≡ k → ⊥) → numberOf (held us them place) ≡ k → ⊥
+  peeked-other n k P l d e = ⊎-elim (λ z. omega (arith, z, e, l)) (λ z. d (sym z ∙ e)) (peeked n P)
 
   run-on : (at end m : ℕ) → (m ≤ at) ⊎ (end < m) → end ≡ runTo at end (m ∷ [])
   run-on at end m (inl l) = sym (rw (le-ltb at m l))
@@ -126,17 +128,33 @@ run-first n e m (x ∷ ms) = run-swap n (runTo n e ms) x m ∙ ap (λ (k : ℕ).
 pub slice-length : (store : Bytes) (i : ℕ) → isStore store ≡ true → i < 64 → length (take (512 * i + 512 - 512 * i) (drop (512 * i) store)) ≡ 512
 slice-length store i s l = ap length (sym (slice-at store i l)) ∙ place-length store i s l
 
+-- the number of each place, read alone
+module _ (store : Bytes) (ids : ℕ) where
+  abbrev pub PeekedTo : List ℕ → ℕ → Type 0
+  PeekedTo ns i = (j : ℕ) → j < i → Peeked (getD (places store) j []) ids (getD ns j 0)
+
+  pub peeked-more : (ns : List ℕ) (i n : ℕ) → i < 64 → length ns ≡ 64 → PeekedTo ns i → Peeked (take (512 * i + 512 - 512 * i) (drop (512 * i) store)) ids n
+      → PeekedTo (set ns i n) (i + 1)
+  peeked-more ns i n l e before P =
+      let place = getD (places store) i [] in
+      let here = subst (λ (p : Bytes). Peeked p ids n) (sym (slice-at store i l)) P in
+      below-more (λ j. Peeked (getD (places store) j []) ids (getD (set ns i n) j 0)) i
+      (λ j h. subst (Peeked (getD (places store) j []) ids) (sym (getD-set-other ns i j n 0 (λ q. omega (arith, q, h)))) (before j h))
+      (subst (Peeked place ids) (sym (getD-set-same ns i n 0 (omega (arith, l, e)))) here)
+
+  pub peeked-at : (ns : List ℕ) (i : ℕ) → AllPeeked store ids ns → i < 64 → Peeked (take (512 * i + 512 - 512 * i) (drop (512 * i) store)) ids (getD ns i 0)
+  peeked-at ns i A l = subst (λ (p : Bytes). Peeked p ids (getD ns i 0)) (slice-at store i l) (A .each i l)
+
 module _ (us them store : Bytes) where
   pub number-at : (i : ℕ) → i < 64 → numberAt us them (places store) i ≡ numberOf (held us them (take (512 * i + 512 - 512 * i) (drop (512 * i) store)))
   number-at i l = ap (λ (p : Bytes). numberOf (held us them p)) (slice-at store i l)
 
-  pub is-there : (i n : ℕ) → i < 64 → {b : Bool} → b ≡ eqb (numberOf (held us them (take (512 * i + 512 - 512 * i) (drop (512 * i) store)))) n → b ≡ true
-      → numberAt us them (places store) i ≡ n
-  is-there i n l e t = number-at i l ∙ eqb-true _ n (sym e ∙ t)
+  pub is-there : (i n k : ℕ) → i < 64 → k ≡ numberOf (held us them (take (512 * i + 512 - 512 * i) (drop (512 * i) store))) → k ≡ n → numberAt us them (places store) i ≡ n
+  is-there i n k l e t = number-at i l ∙ sym e ∙ t
 
-  pub not-there : (i n : ℕ) → i < 64 → {b : Bool} → b ≡ eqb (numberOf (held us them (take (512 * i + 512 - 512 * i) (drop (512 * i) store)))) n → b ≡ false
+  pub not-there : (i n k : ℕ) → i < 64 → k ≡ numberOf (held us them (take (512 * i + 512 - 512 * i) (drop (512 * i) store))) → (k ≡ n → ⊥)
       → numberAt us them (places store) i ≡ n → ⊥
-  not-there i n l e t h = eqb-false _ n (sym e ∙ t) (sym (number-at i l) ∙ h)
+  not-there i n k l e t h = t (e ∙ sym (number-at i l) ∙ h)
 
   pub stands-at : (n i : ℕ) → 1 ≤ n → i ≤ 64 → ((j : ℕ) → j < i → numberAt us them (places store) j ≡ n → ⊥) → (i < 64 → numberAt us them (places store) i ≡ n)
       → i ≡ placeOf n (kept us them store)
@@ -149,7 +167,7 @@ module _ (us them store : Bytes) where
   pub run-all : (at e i : ℕ) → 64 ≤ i → runTo at e (numbersOf us them (drop i (places store))) ≡ e
   run-all at e i l = let n = places-length store in ap (λ (ps : List Bytes). runTo at e (numbersOf us them ps)) (drop-of-length-le (places store) {i = i} (omega (arith, n, l)))
 
-  pub run-next : (at e f i : ℕ) → i < 64 → f ≡ runTo at e (numberOf (held us them (take (512 * i + 512 - 512 * i) (drop (512 * i) store))) ∷ [])
+  run-next : (at e f i : ℕ) → i < 64 → f ≡ runTo at e (numberOf (held us them (take (512 * i + 512 - 512 * i) (drop (512 * i) store))) ∷ [])
       → runTo at f (numbersOf us them (drop (suc i) (places store))) ≡ runTo at e (numbersOf us them (drop i (places store)))
   run-next at e f i l q =
       let n = places-length store in
@@ -157,6 +175,15 @@ module _ (us them store : Bytes) where
       ap (λ (k : ℕ). runTo at k rest) (q ∙ ap (λ (m : ℕ). runTo at e (m ∷ [])) (sym (number-at i l)))
       ∙ sym (run-first at e (numberAt us them (places store) i) rest)
       ∙ sym (ap (λ (ps : List Bytes). runTo at e (numbersOf us them ps)) (drop-cons (places store) i [] (omega (arith, n, l))))
+
+  abbrev pub RunFrom : ℕ → ℕ → ℕ → ℕ → Type 0
+  RunFrom at end e i = runTo at e (numbersOf us them (drop i (places store))) ≡ runTo at end (numbersOf us them (places store))
+
+  pub run-past : (at end e f i : ℕ) → i < 64 → RunFrom at end e i → f ≡ runTo at e (numberOf (held us them (take (512 * i + 512 - 512 * i) (drop (512 * i) store))) ∷ [])
+      → RunFrom at end f (i + 1)
+  run-past at end e f i l w q =
+      let s : i + 1 ≡ suc i = omega arith in
+      ap (λ (k : ℕ). runTo at f (numbersOf us them (drop k (places store)))) s ∙ run-next at e f i l q ∙ w
 
   pub run-kept : (at end : ℕ) → runTo at end (numbersOf us them (places store)) ≡ runTo at end (numbers (kept us them store))
   unfolding kept

@@ -3,17 +3,15 @@ use kept::kept_number;
 use kept::peek_number;
 ghost use mathlib.Core.Path.{_≡_};
 ghost use mathlib.Core.Bool.{true};
-ghost use mathlib.Core.List.{[], _∷_};
-ghost use Prim.Native.Nat.{_≤_};
-ghost use lib.Dec.{eqb};
+ghost use Prim.Native.Nat.{_+_, _≤_};
 ghost use lib.ListN.{length, take};
 ghost use Rattle.bytes.specs.Bytes.{has};
 ghost use Rattle.message.specs.Unfit.{compID};
 ghost use Rattle.places.specs.Places.{isStore};
-ghost use Rattle.kept.specs.Kept.{held, numberOf};
 ghost use Rattle.store.specs.Store.{numbers, placeOf, takes, kept};
 ghost use Rattle.store.specs.Plan.{runTo};
 ghost use Rattle.store.specs.code.Lowest.{LowestOf};
+ghost use Rattle.store.specs.code.Peeked.{AllPeeked};
 
 // Whether one of the first n of these numbers is x.
 fn is_met(numbers: &[u64; 64], n: usize, x: u64) -> bool
@@ -67,25 +65,33 @@ pub fn free_place(store: &[u8], us: &[u8], them: &[u8]) -> usize
     lowest_place(&numbers)
 }
 
-// Whether a place holds the report of a number. It is looked at whole only if its number is that one.
-fn is_numbered(place: &[u8], us: &[u8], them: &[u8], n: u64) -> bool
-    requires { ⌜ (length (now place) ≡ 512) × (compID (now us) ≡ true) × (compID (now them) ≡ true) × (1 ≤ n) ⌝ }
-    ensures { λ b. ⌜ b ≡ eqb (numberOf (held (now (us .entry)) (now (them .entry)) (now (place .entry)))) n ⌝ }
+// The number that stands in each place of a store, read alone, for CompIDs of so many bytes together.
+pub fn peeked(store: &[u8], ids: usize) -> [u64; 64]
+    requires { ⌜ (isStore (now store) ≡ true) × (ids ≤ 22) ⌝ }
+    ensures { λ r. ⌜ AllPeeked (now (store .entry)) ids r ⌝ }
 {
-    if peek_number(place, us.len() + them.len()) != n {
-        return false;
+    let mut numbers = [0u64; 64];
+    let mut i = 0;
+    while i < 64 {
+        let n = peek_number(&store[512 * i..512 * i + 512], ids);
+        numbers[i] = n;
+        i += 1;
     }
-    kept_number(place, us, them) == n
+    numbers
 }
 
-// Where the report of a number stands; 64 for none.
-pub fn place_of(store: &[u8], us: &[u8], them: &[u8], n: u64) -> usize
-    requires { ⌜ (isStore (now store) ≡ true) × (compID (now us) ≡ true) × (compID (now them) ≡ true) × (1 ≤ n) ⌝ }
+// Where the report of a number stands; 64 for none. Only a place in which that number stands read alone is looked at whole.
+pub fn place_of(store: &[u8], alone: &[u64; 64], us: &[u8], them: &[u8], n: u64) -> usize
+    requires { ⌜ (isStore (now store) ≡ true) × (compID (now us) ≡ true) × (compID (now them) ≡ true) × (1 ≤ n) × AllPeeked (now store) (length (now us) + length (now them)) (now alone) ⌝ }
     ensures { λ i. ⌜ i ≡ placeOf n (kept (now (us .entry)) (now (them .entry)) (now (store .entry))) ⌝ }
 {
     let mut i = 0;
     while i < 64 {
-        if is_numbered(&store[512 * i..512 * i + 512], us, them, n) {
+        if alone[i] != n {
+            i += 1;
+            continue;
+        }
+        if kept_number(&store[512 * i..512 * i + 512], us, them) == n {
             return i;
         }
         i += 1;
@@ -93,34 +99,29 @@ pub fn place_of(store: &[u8], us: &[u8], them: &[u8], n: u64) -> usize
     64
 }
 
-// How far a run from one number to another goes if the report of this place ends it. The place is looked at whole only if its number would.
-fn run_before(place: &[u8], us: &[u8], them: &[u8], at: u64, end: u64) -> u64
-    requires { ⌜ (length (now place) ≡ 512) × (compID (now us) ≡ true) × (compID (now them) ≡ true) ⌝ }
-    ensures { λ e. ⌜ e ≡ runTo at end (numberOf (held (now (us .entry)) (now (them .entry)) (now (place .entry))) ∷ []) ⌝ }
-{
-    let n = peek_number(place, us.len() + them.len());
-    if n <= at {
-        return end;
-    }
-    if end < n {
-        return end;
-    }
-    if kept_number(place, us, them) != n {
-        return end;
-    }
-    n - 1
-}
-
 // How far a run of numbers goes that are not kept, from one to another at most. Reports stand mostly in the order of their numbers, so the first places end
-// it soon, and few are looked at whole.
-pub fn run_to(store: &[u8], us: &[u8], them: &[u8], at: u64, end: u64) -> u64
-    requires { ⌜ (isStore (now store) ≡ true) × (compID (now us) ≡ true) × (compID (now them) ≡ true) ⌝ }
+// it soon; and only a place whose number read alone would end it is looked at whole.
+pub fn run_to(store: &[u8], alone: &[u64; 64], us: &[u8], them: &[u8], at: u64, end: u64) -> u64
+    requires { ⌜ (isStore (now store) ≡ true) × (compID (now us) ≡ true) × (compID (now them) ≡ true) × AllPeeked (now store) (length (now us) + length (now them)) (now alone) ⌝ }
     ensures { λ e. ⌜ e ≡ runTo at end (numbers (kept (now (us .entry)) (now (them .entry)) (now (store .entry)))) ⌝ }
 {
     let mut e = end;
     let mut i = 0;
     while i < 64 {
-        e = run_before(&store[512 * i..512 * i + 512], us, them, at, e);
+        let n = alone[i];
+        if n <= at {
+            i += 1;
+            continue;
+        }
+        if e < n {
+            i += 1;
+            continue;
+        }
+        if kept_number(&store[512 * i..512 * i + 512], us, them) != n {
+            i += 1;
+            continue;
+        }
+        e = n - 1;
         i += 1;
     }
     e

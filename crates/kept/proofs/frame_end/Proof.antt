@@ -11,19 +11,19 @@ use Rattle.kept.proofs.frame_end.Tie as tie
 returns : tie.Need-returns
 returns c =
     let a = c .before .before .before .before .args in
-    let N = c .before .before .number .ensures in
+    let N = c .before .before .row .ensures in
     record { fits = omega arith; is = λ h. absurd (omega arith); only = λ k h g A. absurd (omega (arith, read-three _ 13 _ _ k N h (omega arith) A)) }
 
 returns-2 : tie.Need-returns-2
 returns-2 c =
     let a = c .before .before .before .before .before .before .args in
-    let N = c .before .before .before .before .number .ensures in
+    let N = c .before .before .before .before .row .ensures in
     record { fits = omega arith; is = λ h. absurd (omega arith); only = λ k h g A. absurd (omega (arith, read-three _ 13 _ _ k N h (omega arith) A)) }
 
 returns-3 : tie.Need-returns-3
 returns-3 c =
     let a = c .before .before .before .before .before .before .before .args in
-    let n = c .before .before .before .before .before .number in
+    let n = c .before .before .before .before .before .row in
     let N = n .ensures in
     let e : n .result .value + 24 - 24 ≡ n .result .value = omega arith in
     record {

@@ -25,8 +25,8 @@ add-at-2 c =
     let a = s .args in
     omega (arith, comp-long (a .us .now) (s .pre .1) .1, comp-long (a .them .now) (s .pre .2) .1)
 
-number-requires : tie.Need-number-requires
-number-requires c κs =
+row-requires : tie.Need-row-requires
+row-requires c κs =
     let s = c .before .before .before .before .before in
     let a = s .args in
     (omega (arith, s .pre .0, comp-long (a .us .now) (s .pre .1) .1, comp-long (a .them .now) (s .pre .2) .1), omega arith)
@@ -35,7 +35,7 @@ returns-2 : tie.Need-returns-2
 returns-2 c =
     let s = c .before .before .before .before .before .before .before .before in
     let a = s .args in
-    no-number (a .us .now) (a .them .now) (a .place .now) (s .pre .0) _ _ (c .before .before .number .ensures) (c .if2 .taken)
+    no-number (a .us .now) (a .them .now) (a .place .now) (s .pre .0) _ _ (c .before .before .row .ensures) (c .if2 .taken)
 
 shared-slice-read-if3 : tie.Need-shared-slice-read-if3
 shared-slice-read-if3 c =
@@ -47,19 +47,19 @@ returns-3 : tie.Need-returns-3
 returns-3 c =
     let s = c .before .before .before .before .before .before .before .before .before .before in
     let a = s .args in
-    zero-first (a .us .now) (a .them .now) (a .place .now) (s .pre .0) _ _ (c .before .before .before .before .number .ensures) (c .if3 .taken)
+    zero-first (a .us .now) (a .them .now) (a .place .now) (s .pre .0) _ _ (c .before .before .before .before .row .ensures) (c .if3 .taken)
 
 returns-4 : tie.Need-returns-4
 returns-4 c =
     let s = c .before .before .before .before .before .before .before .before .before .before .before .before in
     let a = s .args in
-    too-high (a .us .now) (a .them .now) (a .place .now) (s .pre .0) _ _ (c .before .before .before .before .before .before .number .ensures) (c .if4 .taken)
+    too-high (a .us .now) (a .them .now) (a .place .now) (s .pre .0) _ _ (c .before .before .before .before .before .before .row .ensures) (c .if4 .taken)
 
 returns-5 : tie.Need-returns-5
 returns-5 c =
     let s = c .before .before .before .before .before .before .before .before .before .before .before .before .before .before .before .before in
     let a = s .args in
-    unfilled (a .us .now) (a .them .now) (a .place .now) (s .pre .0) _ _ (c .before .before .before .before .before .before .before .before .before .before .number .ensures) _ (c .before .before .before .frame-end .ensures) _ (c .before .is-filled .ensures) (c .if5 .taken)
+    unfilled (a .us .now) (a .them .now) (a .place .now) (s .pre .0) _ _ (c .before .before .before .before .before .before .before .before .before .before .row .ensures) _ (c .before .before .before .frame-end .ensures) _ (c .before .is-filled .ensures) (c .if5 .taken)
 
 returns-6 : tie.Need-returns-6
 returns-6 c =
@@ -69,7 +69,7 @@ returns-6 c =
     let c₁ = c₂ .before .before .before in
     let s = c₁ .before .before .before .before .before in
     let a = s .args in
-    kept-is (a .us .now) (a .them .now) (a .place .now) (s .pre .0) _ _ (c₂ .before .before .number .ensures) _ (c .before .before .before .frame-end .ensures)
+    kept-is (a .us .now) (a .them .now) (a .place .now) (s .pre .0) _ _ (c₂ .before .before .row .ensures) _ (c .before .before .before .frame-end .ensures)
     (c₁ .before .is-headed .ensures .yes (not-false _ (c₁ .if1 .left)))
     (s .pre .1) (s .pre .2) (c₂ .if2 .left) (c₃ .if3 .left) (omega arith)
     (c .before .is-filled .ensures .yes (not-false _ (c .if5 .left)))
@@ -82,7 +82,7 @@ kept-number-spec =
     returns
     (λ c. search needs)
     add-at-2
-    number-requires
+    row-requires
     returns-2
     shared-slice-read-if3
     returns-3
