@@ -142,8 +142,8 @@ fn stands_around(s: &[u8], a: usize, e: usize, j: usize, lit: &[u8]) -> bool
 }
 
 // The first place from a on at which lit stands whole before e, or e. Its fifth byte is what is looked for: in a start mark that is the `X` of FIX,
-// which is rare in a body. Each byte is passed by find_byte once, and each place of that byte costs at most one comparison with lit: linear whatever
-// the bytes are.
+// which is rare in a body. Each byte is passed by find_byte once; for each place of that byte it looks at fewer than 400 bytes beyond those it passes,
+// and there is at most one comparison with lit: linear whatever the bytes are.
 pub fn holds(s: &[u8], a: usize, e: usize, lit: &[u8]) -> usize
     requires { ⌜ ((a ≤ e) × (e ≤ length (now s))) × ((8 ≤ length (now lit)) × (length (now lit) ≤ 16)) ⌝ }
     ensures { λ r. ⌜ Searched (now (s .entry)) a e (now (lit .entry)) r ⌝ }

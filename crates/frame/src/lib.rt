@@ -20,9 +20,9 @@ const FIXT: [u8; 13] = [56, 61, 70, 73, 88, 84, 46, 49, 46, 49, 1, 57, 61];
 
 // The leftmost good frame of s under a mark, as that part of s, with the bytes before it in `at`; or no bytes, with the bytes to drop in `at`.
 //
-// Linear in s, whatever its bytes are: next_start passes each byte once, by the mark's fifth byte, the `X` of FIX; a candidate that isn't a whole
-// mark is left within the mark's length; and a body is scanned at most up to the next mark, which is where the search goes on, so that but for the
-// last bytes of a body, fewer than the mark has, no byte is in more than one body scan.
+// Linear in s, whatever its bytes are: next_start passes each byte once, by the mark's fifth byte, the `X` of FIX, and looks a bounded way ahead for
+// each place of it; a candidate that isn't a whole mark is left within the mark's length; and a body is scanned at most up to the next mark, which is
+// where the search goes on, so that but for the last bytes of a body, fewer than the mark has, no byte is in more than one body scan.
 fn read_with<'a>(s: &'a [u8], mark: &[u8], at: &mut usize) -> &'a [u8]
     requires { ⌜ MarkOk (now mark) ⌝ }
     ensures { λ r. ⌜ Handed (ruleOf (now (mark .entry))) (now (s .entry)) (now r) (now (at .exit)) ⌝ }
