@@ -122,6 +122,9 @@ static const struct row rows[] = {
     ON("read, Heartbeat", READ, heartbeat, 2000),
     ON("read, AD with two parties", READ, request, 2000),
     ON("read, body of 2,048", READ, greatest, 500),
+    BY("sum, Heartbeat", sum, heartbeat, 2000),
+    BY("sum, AD with two parties", sum, request, 2000),
+    BY("sum, body of 2,048", sum, greatest, 500),
     BY("longest frame byte by byte, read after each", stream, greatest, 2),
     BY("longest frame byte by byte, read behind a byte 1", sparing, greatest, 10),
     ON("verdict, Heartbeat", VERDICT, heartbeat, 2000),
@@ -560,6 +563,7 @@ static void check_all(void)
             check_tick(row->what, &active, CALL_TIME, ROOM);
     }
     check_readings(&greatest);
+    check_sums(noise.at);
     check_sessions();
     check_lines();
     check_fields();

@@ -82,6 +82,11 @@ void mend_sum(uint8_t *frame, size_t len);
 /* Frames of all kinds, and each front of this one. */
 void check_readings(const struct bytes *longest);
 
+/* The library's sum, which is no call of it: crates/measured. */
+uint8_t measured_sum(const uint8_t *s, size_t n);
+run sum_ours, sum_plain;
+void check_sums(const uint8_t *bytes);
+
 /* ---- A line (bench_stream.c) ------------------------------------------------------------------------------------- */
 
 run stream_ours, stream_plain;              /* read behind each byte */

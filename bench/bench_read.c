@@ -1,4 +1,4 @@
-/* Readings of all kinds: frames with single bytes changed, cut and one behind the other, on both sides. */
+/* Readings of all kinds, on both sides: frames with single bytes changed, cut and one behind the other; and the sum by itself. */
 #include "bench.h"
 
 static size_t good, pending, dropped;
@@ -13,6 +13,29 @@ static void check_reading(const uint8_t *bytes, size_t len)
     good += found > 0;
     pending += found == 0 && skip < len;
     dropped += found == 0 && skip == len;
+}
+
+/* All of a frame but its trailer. */
+void sum_ours(const uint8_t *bytes, size_t len)
+{
+    sink += measured_sum(bytes, len - 7);
+}
+
+void sum_plain(const uint8_t *bytes, size_t len)
+{
+    sink += plain_sum(bytes, len - 7);
+}
+
+/* Every number of bytes up to what a frame has and more, of these and of the greatest byte. */
+void check_sums(const uint8_t *bytes)
+{
+    static uint8_t greatest_bytes[2400];
+    uint64_t sum = 0;
+    memset(greatest_bytes, 255, sizeof greatest_bytes);
+    for (size_t len = 0; len <= sizeof greatest_bytes; sum += bytes[len++]) {
+        insist(measured_sum(bytes, len) == sum % 256 && plain_sum(bytes, len) == sum % 256, "a sum");
+        insist(measured_sum(greatest_bytes, len) == 255 * len % 256, "a sum of the greatest bytes");
+    }
 }
 
 void mend_sum(uint8_t *frame, size_t len)

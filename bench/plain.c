@@ -45,13 +45,40 @@ static size_t next_mark(const uint8_t *s, size_t from, size_t n)
     return scan_for_mark(s, from, n);
 }
 
-/* Modulo 256 is what a byte holds. */
-uint8_t plain_sum(const uint8_t *s, size_t n)
+/* The sum of a number of bytes that the compiler knows. Modulo 256 is what a byte holds. */
+static inline uint8_t part_sum(const uint8_t *s, size_t n)
 {
     uint8_t total = 0;
     for (size_t i = 0; i < n; i++)
         total = (uint8_t)(total + s[i]);
     return total;
+}
+
+#define ADD_PART(size) \
+    if (n & (size)) { \
+        total = (uint8_t)(total + part_sum(s, size)); \
+        s += (size); \
+    }
+
+/* 256 bytes a turn, and then a part for each bit of the number of those left: the fastest of ten ways. */
+static inline __attribute__((always_inline)) uint8_t sum_of(const uint8_t *s, size_t n)
+{
+    uint8_t total = 0;
+    for (; n >= 256; s += 256, n -= 256)
+        total = (uint8_t)(total + part_sum(s, 256));
+    ADD_PART(128)
+    ADD_PART(64)
+    ADD_PART(32)
+    ADD_PART(16)
+    ADD_PART(8)
+    ADD_PART(4)
+    ADD_PART(2)
+    return (uint8_t)(total + (n & 1 ? *s : 0));
+}
+
+uint8_t plain_sum(const uint8_t *s, size_t n)
+{
+    return sum_of(s, n);
 }
 
 /* The trailer against as much of it as is there. */
@@ -84,7 +111,7 @@ static struct look look_at_body(const uint8_t *s, size_t n, size_t p, size_t bod
     }
     if (s[limit - 1] != BAR)
         return look;
-    look.state = trailer(s + limit, n - limit, plain_sum(s + p, limit - p));
+    look.state = trailer(s + limit, n - limit, sum_of(s + p, limit - p));
     look.length = limit + TRAILER_SIZE - p;
     return look;
 }
