@@ -1,6 +1,7 @@
 pub mod Tests
 pub mod Lists
 pub mod Search
+pub mod Parts
 pub mod Words
 pub mod Numerals
 pub mod Decimals

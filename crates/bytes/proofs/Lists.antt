@@ -1,14 +1,13 @@
--- Laws of byte lists: one more byte of a part, its sum and what its digits are worth, and what stands at a place.
-use Prim.Native.Nat.{ℕ, _+_, _-_, _*_, _%_, _^_, _≤_, _<_}
-use native.Mathlib.Nat.{add-assoc, add-zero, zero-add, pow-suc, pow-le-pow-right}
+-- Laws of byte lists: one more byte of a part and what its digits are worth, and what stands at a place.
+use Prim.Native.Nat.{ℕ, _+_, _-_, _*_, _^_, _≤_, _<_}
+use native.Mathlib.Nat.{add-assoc, pow-suc, pow-le-pow-right}
 use native.Mathlib.Numerals.{add-one}
 use native.Mathlib.Omega.{arith}
 use mathlib.Core.Path.{_≡_, refl, sym, ap, _∙_}
-use mathlib.Core.Bool.{Bool, false}
-use mathlib.Core.List.{[], _∷_, _++_, append-assoc}
+use mathlib.Core.List.{[], _∷_, _++_}
 use lib.ListN.{length, take, drop, getD, length-drop, length-append, List·getD-append}
 use lib.Seq.{take-suc, getD-drop, getD-take, ext-getD, length-take-le, drop-append-le, take-append-le}
-use Rattle.bytes.specs.Bytes.{Bytes, sum, value, valueFrom, At}
+use Rattle.bytes.specs.Bytes.{Bytes, value, valueFrom, At}
 use Rattle.bytes.specs.code.Leaf.{Matched}
 
 -- one more byte of a part
@@ -16,18 +15,6 @@ pub take-more : (s : Bytes) (a n : ℕ) → a + n < length s → take (n + 1) (d
 take-more s a n h =
     let e : n < length (drop a s) = simp length-drop (omega arith) in
     rw (add-one, take-suc (drop a s) n 0 e, getD-drop)
-
-pub sum-append : (xs ys : Bytes) → sum (xs ++ ys) ≡ sum xs + sum ys
-sum-append [] ys = sym (zero-add (sum ys))
-sum-append (x ∷ xs) ys = ap (λ (n : ℕ). x + n) (sum-append xs ys) ∙ sym (add-assoc x (sum xs) (sum ys))
-
-pub sum-more : (s : Bytes) (i : ℕ) → i < length s → sum (take (i + 1) s) ≡ sum (take i s) + getD s i 0
-sum-more s i h =
-    ap sum (rw zero-add at (take-more s 0 i (omega arith))) ∙ sum-append (take i s) (getD s i 0 ∷ []) ∙ ap (λ (k : ℕ). sum (take i s) + k) (add-zero (getD s i 0))
-
--- one more byte of a sum that is kept modulo 256
-pub sum-step : (x b t r y : ℕ) → t ≡ x % 256 → r ≡ (t + b) % 2 ^ 8 → y ≡ x + b → r ≡ y % 256
-sum-step x b t r y h k e = omega arith
 
 pub valueFrom-append : (v : ℕ) (xs ys : Bytes) → valueFrom v (xs ++ ys) ≡ valueFrom (valueFrom v xs) ys
 valueFrom-append v [] ys = refl

@@ -2,6 +2,7 @@
 mod compare;
 mod find;
 mod numbers;
+mod sums;
 
 pub use compare::matched;
 pub use compare::stands;
@@ -13,7 +14,7 @@ pub use find::has;
 pub use find::holds;
 pub use find::next_start;
 pub use numbers::Num;
-pub use numbers::checksum;
 pub use numbers::digits;
 pub use numbers::number;
 pub use numbers::row;
+pub use sums::checksum;

@@ -1,8 +1,7 @@
-// Bytes as numbers: decimal digits read, and the sum of bytes.
+// Decimal digits read.
 ghost use mathlib.Core.Path.{_≡_};
-ghost use Prim.Native.Nat.{_+_, _%_, _≤_};
+ghost use Prim.Native.Nat.{_+_, _≤_};
 ghost use lib.ListN.{length};
-ghost use Rattle.bytes.specs.Bytes.{sum};
 ghost use Rattle.bytes.specs.code.Leaf.{digitLimit, Number, Digits};
 
 // Decimal digits that stand in a row: how many, and what they are worth.
@@ -53,17 +52,4 @@ pub fn digits(s: &[u8], at: usize, most: usize) -> Num
         return none;
     }
     number(s, at, most)
-}
-
-// The sum of bytes, modulo 256. It is kept modulo 256 all the way, so that the compiler adds sixteen bytes at once.
-pub fn checksum(s: &[u8]) -> u8
-    ensures { λ r. ⌜ r ≡ sum (now (s .entry)) % 256 ⌝ }
-{
-    let mut t: u8 = 0;
-    let mut i: usize = 0;
-    while i < s.len() {
-        t = std::num::wrapping_add_u8(t, s[i]);
-        i += 1;
-    }
-    t
 }

@@ -1,10 +1,11 @@
 -- What the functions on bytes answer. Only the code needs these: nothing here states document 01.
-use Prim.Native.Nat.{ℕ, _+_, _-_, _*_, _^_, _≤_, _<_}
+use Prim.Native.Nat.{ℕ, _+_, _-_, _*_, _%_, _^_, _≤_, _<_}
 use mathlib.Core.Path.{_≡_}
 use mathlib.Core.Bool.{Bool, true, false}
 use lib.ListN.{length, take, drop, getD}
-use Rattle.bytes.specs.Bytes.{Bytes, value, At, Digit}
+use Rattle.bytes.specs.Bytes.{Bytes, sum, value, At, Digit}
 use Rattle.bytes.specs.declared.numbers.Num.{Num}
+use Rattle.bytes.specs.declared.sums.Sum.{Sum}
 
 -- r is the byte x
 abbrev pub Widened : ℕ → ℕ → Type 0
@@ -52,6 +53,14 @@ pub record Digits (s : Bytes) (p most : ℕ) (r : Num) : Type 0 where
   pub inside : p ≤ length s → most ≤ digitLimit → Number s p most (r .value) (r .count)
   pub behind : length s < p → (r .value ≡ 0) × (r .count ≡ 0)
   pub above : digitLimit < most → (r .value ≡ 0) × (r .count ≡ 0)
+
+-- the total is the sum of the bytes before the place, modulo 2 ^ 64
+abbrev pub Summed : Bytes → Sum → Type 0
+Summed s r = r .total ≡ sum (take (r .at) s) % 2 ^ 64
+
+-- the same, of as many times n bytes as s has
+abbrev pub SummedBy : Bytes → ℕ → Sum → Type 0
+SummedBy s n r = Summed s r × (r .at ≡ length s - length s % n)
 
 -- the first place from a on, before e, at which the byte x stands; or e
 pub record FirstByte (s : Bytes) (a e x r : ℕ) : Type 0 where
