@@ -82,11 +82,13 @@ fn calm_to(s: &[u8], a: usize, e: usize, x: u8, n: usize) -> usize
 }
 
 // The first place from a on at which x stands before e, or e. Sixteen bytes are looked at first, since x may be near; then blocks, the long ones
-// first. Of the last bytes, fewer than sixteen, the last sixteen before e tell whether x is among them.
+// first. Of the last bytes, fewer than sixteen, the last sixteen before e tell whether x is among them. All of s is cut out anew, so that it goes by
+// registers, as in `checksum`.
 fn find_byte(s: &[u8], a: usize, e: usize, x: u8) -> usize
     requires { ⌜ (a ≤ e) × (e ≤ length (now s)) ⌝ }
     ensures { λ r. ⌜ FirstByte (now (s .entry)) a e x r ⌝ }
 {
+    let s = &s[..];
     if e - a < 16 {
         return byte_from(s, a, e, x);
     }
