@@ -8,12 +8,12 @@ use mathlib.Core.Bool.{Bool, true, false, cond, not, _&&_, _||_, and-false, fals
 use lib.Dec.{eqb}
 use lib.ListN.{length, drop, length-append}
 use borrow.Author.Tests.{ne-eqb, eqb-true, eqb-false}
-use Rattle.bytes.specs.Bytes.{Bytes, Byted, all, digit, value, valueFrom, decimal, padded}
+use Rattle.bytes.specs.Bytes.{Bytes, Byted, all, digit, value, valueFrom, decimal, padded, no-zeros}
 use Rattle.bytes.proofs.Lists.{valueFrom-append}
 use Rattle.bytes.proofs.Tests.{both, all-append}
-use Rattle.bytes.proofs.Numerals.{Numeral, digit-is, is-digit, is-within, digits-row}
+use Rattle.bytes.proofs.Numerals.{Written, digit-is, is-digit, is-within, digits-row}
 use Rattle.bytes.proofs.Rightmost.{padded-length}
-use Rattle.bytes.proofs.Decimals.{decimal-worth, decimal-numeral, numeral-decimal}
+use Rattle.bytes.proofs.Decimals.{decimal-worth, decimal-written, written-decimal}
 use Rattle.decimals.specs.Decimal.{leading, trailing, plain, pointed, isDecimal, placesOf, wholeOf, inRange, rangedOf, decimalOf}
 use Rattle.decimals.specs.declared.Decimal.the-variants.{Is, OutOfRange, Bad}
 use Rattle.kinds.specs.Kind.{Kind, formed, allowed}
@@ -45,9 +45,9 @@ split (x ∷ v) = go (digit x) (split v)
 decimal-all : (n : ℕ) → all digit (decimal n) ≡ true
 decimal-all n = digits-row (decimal n) (decimal-digits n)
 
-numeral-plain : (k : ℕ) (l : Bytes) → Numeral k l → plain l ≡ true
+numeral-plain : (k : ℕ) (l : Bytes) → Written (no-zeros k) l → plain l ≡ true
 numeral-plain k [] N = absurd (omega (arith, N .some-digit))
-numeral-plain k (d ∷ l) N = rw (ne-eqb (length (d ∷ l)) 0 (λ e. omega arith), ne-eqb 48 d (λ e. N .no-zero (sym e)))
+numeral-plain k (d ∷ l) N = rw (ne-eqb (length (d ∷ l)) 0 (λ e. omega arith), ne-eqb 48 d (λ e. N .no-zero refl (sym e)))
 
 pub lone-zero : decimal 0 ≡ 48 ∷ []
 unfolding decimal
@@ -55,7 +55,7 @@ lone-zero = refl
 
 decimal-plain : (n : ℕ) → plain (decimal n) ≡ true
 decimal-plain zero = ap plain lone-zero
-decimal-plain (suc n) = numeral-plain (suc (suc n)) (decimal (suc n)) (decimal-numeral (suc n) (suc n) (omega arith) (below-power (suc n)))
+decimal-plain (suc n) = numeral-plain (suc (suc n)) (decimal (suc n)) (decimal-written (suc n) (suc n) (omega arith) (below-power (suc n)))
 
 -- they are the only ones
 pub plain-decimal : (l : Bytes) → plain l ≡ true → all digit l ≡ true → decimal (value l) ≡ l
@@ -64,12 +64,12 @@ plain-decimal (d ∷ []) p h = go (eqb 48 d) refl
   where
     go : (b : Bool) → eqb 48 d ≡ b → decimal (value (d ∷ [])) ≡ d ∷ []
     go true e = subst (λ (x : ℕ). decimal (value (x ∷ [])) ≡ x ∷ []) (eqb-true 48 d e) lone-zero
-    go false e = numeral-decimal 1 (d ∷ []) (record { some-digit = omega arith; few = omega arith; whole = h; no-zero = λ z. eqb-false 48 d e (sym z) })
+    go false e = written-decimal 1 (d ∷ []) (record { some-digit = omega arith; few = omega arith; whole = h; no-zero = λ _ z. eqb-false 48 d e (sym z) })
 plain-decimal (d ∷ x ∷ l) p h = go (eqb 48 d) refl p
   where
     go : (b : Bool) → eqb 48 d ≡ b → (not (eqb (length (d ∷ x ∷ l)) 0) && (not (b && true) || eqb (length (d ∷ x ∷ l)) 1)) ≡ true → decimal (value (d ∷ x ∷ l)) ≡ d ∷ x ∷ l
     go true e g = let n = eqb-true (length (d ∷ x ∷ l)) 1 (both (not (eqb (length (d ∷ x ∷ l)) 0)) (eqb (length (d ∷ x ∷ l)) 1) g .1) in absurd (omega arith)
-    go false e g = numeral-decimal (length (d ∷ x ∷ l)) (d ∷ x ∷ l) (record { some-digit = omega arith; few = omega arith; whole = h; no-zero = λ z. eqb-false 48 d e (sym z) })
+    go false e g = written-decimal (length (d ∷ x ∷ l)) (d ∷ x ∷ l) (record { some-digit = omega arith; few = omega arith; whole = h; no-zero = λ _ z. eqb-false 48 d e (sym z) })
 
 -- THE LAST k DIGITS, and the number without them
 padded-all : (k n : ℕ) → all digit (padded k n) ≡ true

@@ -2,16 +2,16 @@
 use Prim.Native.Nat.{ℕ, zero, suc, _+_, _-_, _*_, _/_, _%_, _^_, _≤_, _<_}
 use native.Mathlib.Nat.{pow-suc}
 use native.Mathlib.Omega.{arith}
-use mathlib.Core.Path.{_≡_, refl, sym, ap, _∙_}
+use mathlib.Core.Path.{_≡_, refl, sym, ap, _∙_, subst}
 use mathlib.Core.List.{[], _∷_, _++_, append-assoc, append-nil}
-use mathlib.Core.Bool.{Bool, true, false, cond}
+use mathlib.Core.Bool.{Bool, true, false, cond, false≢true}
 use lib.Dec.{ltb}
 use lib.ListN.{length, getD, length-append, List·getD-append}
 use borrow.Author.Tests.{ltb-true, ltb-false, lt-ltb, le-ltb}
-use Rattle.bytes.specs.Bytes.{Bytes, all, digit, value, valueFrom, lastDigits, decimal}
+use Rattle.bytes.specs.Bytes.{Bytes, all, digit, value, valueFrom, Writing, with-zeros, no-zeros, lastDigits, decimal}
 use Rattle.bytes.proofs.Lists.{valueFrom-append}
 use Rattle.bytes.proofs.Tests.{both, all-append}
-use Rattle.bytes.proofs.Numerals.{is-digit, digit-is, Numeral}
+use Rattle.bytes.proofs.Numerals.{is-digit, digit-is, Written, value-below}
 
 pub record Decimal (n : ℕ) (l : Bytes) : Type 0 where
   pub whole : all digit l ≡ true
@@ -52,12 +52,19 @@ last-short j zero n h = omega arith
 last-short zero (suc k) n h = last-length k n 1 (omega arith) (λ g. absurd (omega arith))
 last-short (suc j) (suc k) n h = last-length k n (suc (suc j)) (omega arith) (λ g. omega (arith, last-short j k (n / 10) (omega (arith, pow-suc 10 (suc j)))))
 
--- a number below 10 to the j + 1 has at most j + 1 digits
-pub decimal-numeral : (j n : ℕ) → 1 ≤ n → n < 10 ^ suc j → Numeral (suc j) (decimal n)
+-- a number below 10 to the j + 1 has at most j + 1 digits, and no zero stands in front, but that of 0 itself
+decimal-as : (w : Writing) (j n : ℕ) → n < 10 ^ suc j → suc j ≤ w .most → (w .zeros ≡ false → 1 ≤ n) → Written w (decimal n)
 unfolding decimal
-decimal-numeral j n h k =
+decimal-as w j n k m h =
     let D = last-is (suc n) n (omega arith) in
-    record { some-digit = D .some-digit; few = last-short j (suc n) n k; whole = D .whole; no-zero = D .no-zero h }
+    record { some-digit = D .some-digit; few = omega (arith, last-short j (suc n) n k); whole = D .whole; no-zero = λ z. D .no-zero (h z) }
+
+pub decimal-written : (j n : ℕ) → 1 ≤ n → n < 10 ^ suc j → Written (no-zeros (suc j)) (decimal n)
+decimal-written j n h k = decimal-as (no-zeros (suc j)) j n k (omega arith) (λ _. h)
+
+-- so it is read where zeros may stand in front
+pub decimal-read : (j n : ℕ) → n < 10 ^ suc j → Written (with-zeros (suc j)) (decimal n)
+decimal-read j n k = decimal-as (with-zeros (suc j)) j n k (omega arith) (λ z. absurd (false≢true (sym z)))
 
 pub some-digit : (n : ℕ) → 1 ≤ length (decimal n)
 unfolding decimal
@@ -66,6 +73,16 @@ some-digit n = last-is (suc n) n (omega arith) .some-digit
 pub decimal-worth : (n : ℕ) → value (decimal n) ≡ n
 unfolding decimal
 decimal-worth n = last-is (suc n) n (omega arith) .worth
+
+-- a number has no more digits than a greater one
+pub no-longer : (n m : ℕ) → n ≤ m → length (decimal n) ≤ length (decimal m)
+unfolding decimal
+no-longer n m h =
+    let D = last-is (suc m) m (omega arith) in
+    let j : ℕ = length (decimal m) - 1 in
+    let e : length (decimal m) ≡ suc j = omega (arith, D .some-digit) in
+    let k : m < 10 ^ suc j = subst (λ (x : ℕ). m < 10 ^ x) e (omega (arith, value-below (length (decimal m)) (decimal m) (D .whole) (omega arith), D .worth)) in
+    omega (arith, decimal-read j n (omega arith) .few)
 
 -- DIGITS ARE DETERMINED BY THEIR WORTH
 last-fuel : (j k n : ℕ) → n < j → n < k → lastDigits j n ≡ lastDigits k n
@@ -96,13 +113,13 @@ decimal-from v h (d ∷ l) a =
     ∙ ap (λ (k : Bytes). k ++ l) (decimal-more v (d - 48) h (omega arith) ∙ ap (λ (x : ℕ). decimal v ++ (x ∷ [])) e)
     ∙ append-assoc (decimal v) (d ∷ []) l
 
-pub numeral-decimal : (n : ℕ) (l : Bytes) → Numeral n l → decimal (value l) ≡ l
+pub written-decimal : (n : ℕ) (l : Bytes) → Written (no-zeros n) l → decimal (value l) ≡ l
 unfolding decimal
-numeral-decimal n [] N = absurd (omega (arith, N .some-digit))
-numeral-decimal n (d ∷ l) N =
+written-decimal n [] N = absurd (omega (arith, N .some-digit))
+written-decimal n (d ∷ l) N =
     let w = both (digit d) (all digit l) (N .whole) in
     let D = digit-is d (w .0) in
-    let z : d ≡ 48 → ⊥ = N .no-zero in
+    let z : d ≡ 48 → ⊥ = N .no-zero refl in
     let e : 48 + (d - 48) ≡ d = omega arith in
     let o : 0 * 10 + (d - 48) ≡ d - 48 = omega arith in
     let s : decimal (d - 48) ≡ d ∷ [] = rw (lt-ltb (d - 48) 10 (omega arith)) (ap (λ (x : ℕ). x ∷ []) e) in

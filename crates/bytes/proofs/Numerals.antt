@@ -1,4 +1,4 @@
--- Numbers in decimal digits, over the greatest number of digits: what a numeral is, part by part, what digits are worth, and what digits that were read make.
+-- Numbers in decimal digits, over the way they are written: what such a number is, part by part, what digits are worth, and what digits that were read make.
 use Prim.Native.Nat.{ℕ, zero, suc, _+_, _-_, _*_, _%_, _^_, _≤_, _<_}
 use native.Mathlib.Nat.{zero-add, add-zero, add-suc, suc-add, pow-le-pow-right}
 use native.Mathlib.Decide.{decLt}
@@ -6,12 +6,12 @@ use native.Mathlib.Numerals.{add-one}
 use native.Mathlib.Omega.{arith}
 use mathlib.Core.Path.{_≡_, refl, sym, ap, ap₂, _∙_}
 use mathlib.Core.List.{[], _∷_, _++_, head-eq-of-cons-eq, tail-eq-of-cons-eq}
-use mathlib.Core.Bool.{Bool, true, false, not, _&&_, false≢true, and-false}
+use mathlib.Core.Bool.{Bool, true, false, not, _&&_, _||_, false≢true, and-false}
 use lib.Dec.{eqb, leb}
 use lib.ListN.{length, take, drop, getD, length-drop}
 use lib.Seq.{getD-take, getD-drop, take-all}
 use borrow.Author.Tests.{le-leb, lt-leb, leb-true, eq-eqb, ne-eqb, eqb-true, eqb-false}
-use Rattle.bytes.specs.Bytes.{Bytes, fix, starts, all, digit, digits, within, value, valueFrom, numeral, Digit}
+use Rattle.bytes.specs.Bytes.{Bytes, fix, starts, all, digit, digits, within, value, valueFrom, Writing, no-zeros, writes, Digit}
 use Rattle.bytes.specs.code.Leaf.{Number}
 use Rattle.bytes.proofs.Tests.{both, both-true}
 use Rattle.bytes.proofs.Lists.{part-length, pow-more, few-digits}
@@ -33,26 +33,35 @@ pub all-digits : (l : Bytes) → ((i : ℕ) → i < length l → Digit (getD l i
 all-digits [] f = refl
 all-digits (d ∷ l) f = rw (is-digit d (f 0 (omega arith)), all-digits l (λ i h. f (suc i) (omega arith)))
 
--- 1 to n digits, no leading zero
-pub record Numeral (n : ℕ) (l : Bytes) : Type 0 where
+-- a number that is written so, part by part
+pub record Written (w : Writing) (l : Bytes) : Type 0 where
   pub some-digit : 1 ≤ length l
-  pub few : length l ≤ n
+  pub few : length l ≤ w .most
   pub whole : all digit l ≡ true
-  pub no-zero : getD l 0 0 ≡ 48 → ⊥
+  pub no-zero : w .zeros ≡ false → getD l 0 0 ≡ 48 → ⊥
 
-pub numeral-true : (n : ℕ) (l : Bytes) → Numeral n l → numeral n l ≡ true
-unfolding numeral
-numeral-true n [] h = absurd (omega (arith, h .some-digit))
-numeral-true n (d ∷ l) h =
-    rw (le-leb 1 (length (d ∷ l)) (h .some-digit), le-leb (length (d ∷ l)) n (h .few), h .whole, ne-eqb 48 d (λ e. h .no-zero (sym e)))
+pub written-true : (w : Writing) (l : Bytes) → Written w l → writes w l ≡ true
+unfolding writes
+written-true w [] h = absurd (omega (arith, h .some-digit))
+written-true w (d ∷ l) h =
+    rw (le-leb 1 (length (d ∷ l)) (h .some-digit), le-leb (length (d ∷ l)) (w .most) (h .few), h .whole) (go (w .zeros) refl)
+  where
+    go : (b : Bool) → w .zeros ≡ b → (b || not (eqb 48 d && true)) ≡ true
+    go true e = refl
+    go false e = rw (ne-eqb 48 d (λ z. h .no-zero e (sym z)))
 
-pub numeral-means : (n : ℕ) (l : Bytes) → numeral n l ≡ true → Numeral n l
-unfolding numeral
-numeral-means n l h =
-    let a = both (digits n l) (not (starts (fix "0") l)) h in
-    let b = both (leb 1 (length l) && leb (length l) n) (all digit l) (a .0) in
-    let c = both (leb 1 (length l)) (leb (length l) n) (b .0) in
-    record { some-digit = leb-true 1 (length l) (c .0); few = leb-true (length l) n (c .1); whole = b .1; no-zero = λ e. zero-first l e (a .1) (leb-true 1 (length l) (c .0)) }
+pub written-means : (w : Writing) (l : Bytes) → writes w l ≡ true → Written w l
+unfolding writes
+written-means w l h =
+    let a = both (digits (w .most) l) (w .zeros || not (starts (fix "0") l)) h in
+    let b = both (leb 1 (length l) && leb (length l) (w .most)) (all digit l) (a .0) in
+    let c = both (leb 1 (length l)) (leb (length l) (w .most)) (b .0) in
+    record {
+      some-digit = leb-true 1 (length l) (c .0);
+      few = leb-true (length l) (w .most) (c .1);
+      whole = b .1;
+      no-zero = λ n e. zero-first l e (sym (ap (λ (z : Bool). z || not (starts (fix "0") l)) n) ∙ a .1) (leb-true 1 (length l) (c .0));
+    }
   where
     zero-first : (k : Bytes) → getD k 0 0 ≡ 48 → not (starts (fix "0") k) ≡ true → 1 ≤ length k → ⊥
     zero-first [] e g s = omega arith
@@ -140,11 +149,11 @@ pub value-from : (n : ℕ) (l : Bytes) → n ≤ valueFrom n l
 value-from n [] = omega arith
 value-from n (d ∷ l) = let h = value-from (n * 10 + (d - 48)) l in omega arith
 
-pub value-above : (n : ℕ) (l : Bytes) → Numeral n l → 1 ≤ value l
+pub value-above : (n : ℕ) (l : Bytes) → Written (no-zeros n) l → 1 ≤ value l
 value-above n [] N = absurd (omega (arith, N .some-digit))
 value-above n (d ∷ l) N =
     let D = digit-is d (both (digit d) (all digit l) (N .whole) .0) in
-    let z : d ≡ 48 → ⊥ = N .no-zero in
+    let z : d ≡ 48 → ⊥ = N .no-zero refl in
     let h = value-from (0 * 10 + (d - 48)) l in
     omega arith
 
@@ -154,7 +163,7 @@ value-keeps [] n k g = rw add-zero g
 value-keeps (d ∷ l) n k g = rw (add-suc, ← suc-add, ← add-one k) (value-keeps l (n * 10 + (d - 48)) (k + 1) (omega (arith, pow-more 10 k)))
 
 -- a number below 10 to the n without a leading zero has at most n digits
-pub few-enough : (most n : ℕ) (l : Bytes) → Numeral most l → value l < 10 ^ n → length l ≤ n
+pub few-enough : (most n : ℕ) (l : Bytes) → Written (no-zeros most) l → value l < 10 ^ n → length l ≤ n
 few-enough most n [] N h = omega arith
 few-enough most n (d ∷ l) N h = go (decLt (length l) n)
   where
@@ -162,7 +171,7 @@ few-enough most n (d ∷ l) N h = go (decLt (length l) n)
     go (yes k) = omega arith
     go (no k) =
         let D = digit-is d (both (digit d) (all digit l) (N .whole) .0) in
-        let z : d ≡ 48 → ⊥ = N .no-zero in
+        let z : d ≡ 48 → ⊥ = N .no-zero refl in
         let p : 10 ^ n ≤ 10 ^ length l = pow-le-pow-right (omega arith) {j = length l} (omega arith) in
         let w = rw (zero-add (length l)) at (value-keeps l (0 * 10 + (d - 48)) 0 (omega arith)) in
         absurd (omega arith)

@@ -61,7 +61,7 @@ abbrev pub sum : Bytes → ℕ
 sum [] = 0
 sum (x ∷ l) = x + sum l
 
--- A number in decimal digits. The same words serve tags, the body length and the numbers in fields, over the greatest number of digits.
+-- Numbers in decimal digits.
 abbrev pub digit : ℕ → Bool
 digit d = within (code "0") (code "9") d
 
@@ -81,9 +81,20 @@ value v = valueFrom 0 v
 abbrev pub digits : ℕ → Bytes → Bool
 digits n v = within 1 n (length v) && all digit v
 
--- v is 1 to n digits, no leading zero
-unfoldable pub numeral : ℕ → Bytes → Bool
-numeral n v = digits n v && not (starts (fix "0") v)
+-- How a number is written: in at most so many digits, and whether zeros may stand in front. Tags, the body length and the numbers in fields are three uses.
+pub record Writing : Type 0 where
+  pub most : ℕ
+  pub zeros : Bool
+
+abbrev pub with-zeros : ℕ → Writing
+with-zeros n = record { most = n; zeros = true }
+
+abbrev pub no-zeros : ℕ → Writing
+no-zeros n = record { most = n; zeros = false }
+
+-- v is a number that is written so
+unfoldable pub writes : Writing → Bytes → Bool
+writes w v = digits (w .most) v && (w .zeros || not (starts (fix "0") v))
 
 -- the digits of a number with no leading zero ("0" itself stands), the last k of them; a number n has no more than n + 1
 abbrev pub lastDigits : ℕ → ℕ → Bytes

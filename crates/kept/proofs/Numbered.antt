@@ -14,7 +14,7 @@ use Rattle.bytes.specs.code.Leaf.{Number}
 use Rattle.bytes.proofs.Tests.{both}
 use Rattle.bytes.proofs.Lists.{at-byte, part-length}
 use Rattle.bytes.proofs.Numerals.{Digits, digit-at, read-digits, value-below}
-use Rattle.bytes.proofs.Decimals.{decimal-numeral, decimal-worth, numeral-decimal}
+use Rattle.bytes.proofs.Decimals.{decimal-written, decimal-worth, written-decimal}
 use Rattle.message.proofs.Cutting.{decimal-digits}
 use Rattle.message.proofs.Writes.{digits-3}
 
@@ -46,8 +46,8 @@ module _ (s : Bytes) (p most v c : ℕ) (N : Number s p most v c) where
       let l = take c (drop p s) in
       let e : decimal v ≡ l =
       ap decimal (N .worth)
-      ∙ numeral-decimal most l
-      (record { some-digit = omega (arith, its-length, some-digit low); few = omega (arith, its-length, N .few); whole = read-digits s p most v c N; no-zero = no-zero }) in
+      ∙ written-decimal most l
+      (record { some-digit = omega (arith, its-length, some-digit low); few = omega (arith, its-length, N .few); whole = read-digits s p most v c N; no-zero = λ _. no-zero }) in
       let n : length (decimal v) ≡ c = ap length e ∙ its-length in
       ((omega (arith, n, N .within), ap (λ (k : ℕ). take k (drop p s)) n ∙ sym e), sym n)
 
@@ -80,6 +80,6 @@ pub read-nine : (s : Bytes) (p v c k : ℕ) → Number s p 9 v c → 1 ≤ k →
     → (c ≡ length (decimal k)) × (v ≡ k)
 read-nine s p v c k N h g A bar =
     let R =
-    read-as s p 9 v c N (decimal k) (decimal-digits k) A (decimal-numeral 8 k h g .few)
+    read-as s p 9 v c N (decimal k) (decimal-digits k) A (decimal-written 8 k h g .few)
     (λ l D. let E = subst Digit bar D in absurd (omega (arith, E .0))) in
     (R .0, R .1 ∙ decimal-worth k)

@@ -11,7 +11,7 @@ use borrow.Author.Tests.{not-true}
 use Rattle.bytes.specs.Bytes.{Bytes, decimal}
 use Rattle.bytes.specs.code.Leaf.{Number}
 use Rattle.bytes.proofs.Lists.{at-byte}
-use Rattle.bytes.proofs.Decimals.{decimal-numeral}
+use Rattle.bytes.proofs.Decimals.{decimal-written}
 use Rattle.message.specs.Unfit.{compID}
 use Rattle.report.specs.Report.{Report}
 use Rattle.report.proofs.ReadBack.{sendable-is}
@@ -51,8 +51,8 @@ module _ (us them s : Bytes) (long : length s ≡ 512) where
     zero-first e =
         unheld
         (λ r H. let S = sendable-is us them r (H .sends) in
-        let D = decimal-numeral 8 (r .number) (S .low) (omega (arith, S .high)) in
-        D .no-zero
+        let D = decimal-written 8 (r .number) (S .low) (omega (arith, S .high)) in
+        D .no-zero refl
         (sym (at-byte s at (decimal (r .number)) (laid us them s r long H .digits) 0 (omega (arith, D .some-digit))) ∙ ap (λ (j : ℕ). getD s j 0) (add-zero at) ∙ e))
 
     pub too-high : 999_999_990 < v → 0 ≡ numberOf (held us them s)
