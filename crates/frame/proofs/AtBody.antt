@@ -8,9 +8,9 @@ use mathlib.Core.List.{List, [], _∷_, _++_, append-assoc}
 use lib.ListN.{length, take, drop, getD, length-append, length-drop, take-append-drop, List·getD-eq-default}
 use lib.Seq.{getD-drop, getD-take, drop-drop}
 use Rattle.bytes.specs.Bytes.{Bytes, value, At}
-use Rattle.bytes.specs.code.Leaf.{Matched, Stands, Here}
+use Rattle.bytes.specs.code.Leaf.{Matched, Stands, Here, Searched}
 use Rattle.bytes.proofs.Lists.{at-byte, bytes-at, matched-at, part-length, at-part, at-more}
-use Rattle.bytes.proofs.Numerals.{Digits, numeral-means, row-digits}
+use Rattle.bytes.proofs.Numerals.{Digits, written-means, row-digits}
 use Rattle.frame.specs.Frame.{Rule, longestBody, Body, GoodAt, Live, trailer, sumOf}
 use Rattle.frame.specs.code.Walk.{SizeSeen, BodySeen, Open}
 use Rattle.frame.specs.Mark.{MarkOk}
@@ -29,7 +29,7 @@ module _ (R : Rule) (s : Bytes) (p a n : ℕ) (S : SizeSeen R s p a n) where
   ds = S .digits
 
   abbrev decimal : Digits (S .digits)
-  decimal = row-digits (S .digits) ((numeral-means (R .most) (S .digits) (S .len .written)) .whole)
+  decimal = row-digits (S .digits) ((written-means (R .size) (S .digits) (S .len .written)) .whole)
 
   pub size-range : (5 ≤ n) × (n ≤ longestBody)
   size-range = omega (arith, S .worth, S .len .low, S .len .high)
@@ -73,6 +73,22 @@ module _ (R : Rule) (s : Bytes) (p a n : ℕ) (S : SizeSeen R s p a n) where
       F .good .once (q - p) (omega (arith, body-place, A .low, A .there .0, S .len .low))
       (at-part (s ++ t) p (w .size) (q - p) (R .mark) (F .inside) (omega (arith, body-place, A .low, A .high, g, ap length d, same-size B))
       (subst (λ (x : ℕ). At (s ++ t) x (R .mark)) (sym z) (at-more s t q (R .mark) (A .there))))
+
+  -- no mark begins at the body's first byte: its second is a digit
+  pub behind-first : MarkOk (R .mark) → (m : ℕ) → Matched s a type-tag m → 3 ≤ m → (e r : ℕ) → Searched s (a + 1) e (R .mark) r → Searched s a e (R .mark) r
+  behind-first ok m M l e r F =
+      record {
+        high = F .high;
+        found = λ h. let H = F .found h in record { low = omega (arith, H .low); high = H .high; there = H .there };
+        none = λ q h k w A. none q h w A k (decLt a q);
+      }
+    where
+      none : (q : ℕ) → q < r → q + length (R .mark) ≤ e → At s q (R .mark) → a ≤ q → Dec (a < q) → ⊥
+      none q h w A k (yes y) = F .none q h (omega arith) w A
+      none q h w A k (no y) =
+          let z : q ≡ a = omega arith in
+          let b : getD (R .mark) 1 0 ≡ 53 = sym (at-byte s q (R .mark) A 1 (omega (arith, ok .long))) ∙ ap (λ (x : ℕ). getD s (x + 1) 0) z ∙ M .same 1 (omega arith) in
+          ok .second-digit (omega arith, omega arith)
 
   pub last-wrong : a + n ≤ length s → (getD s (a + n - 1) 0 ≡ 1 → ⊥) → Live R s p → ⊥
   last-wrong k x w =

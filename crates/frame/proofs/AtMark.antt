@@ -104,7 +104,7 @@ module _ (R : Rule) where
   mark-unlike s p h none w = none (bytes-at s p (R .mark) h (λ i k. live-byte s p i (omega arith) k w))
 
   module _ (ok : MarkOk (R .mark)) where
-    pub mark-short : (s : Bytes) (p m : ℕ) → 1 ≤ R .most → Matched s p (R .mark) m → p + m ≡ length s → Open R s p
+    pub mark-short : (s : Bytes) (p m : ℕ) → 1 ≤ R .size .most → Matched s p (R .mark) m → p + m ≡ length s → Open R s p
     mark-short s p m h M e =
         open-of R ok s p (omega arith)
         (subst (λ (l : Bytes). Comp R ok l) (sym (rest-is s p (R .mark) m M e))

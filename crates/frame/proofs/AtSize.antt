@@ -5,13 +5,14 @@ use native.Mathlib.Decide.{decLt}
 use native.Mathlib.Numerals.{add-one}
 use native.Mathlib.Omega.{arith}
 use mathlib.Core.Path.{_≡_, refl, sym, ap, ap₂, _∙_, subst}
+use mathlib.Core.Bool.{true, false, false≢true}
 use mathlib.Core.List.{List, [], _∷_, _++_, append-assoc, append-nil}
 use lib.ListN.{length, take, drop, getD, length-append, length-drop, take-append-drop, List·getD-append}
 use lib.Seq.{getD-append-add, getD-drop, getD-take, take-all, ext-getD, length-take-le, drop-drop, drop-cons}
-use Rattle.bytes.specs.Bytes.{Bytes, value, valueFrom, Digit}
+use Rattle.bytes.specs.Bytes.{Bytes, fix, value, valueFrom, Digit}
 use Rattle.bytes.specs.code.Leaf.{Number}
 use Rattle.bytes.proofs.Lists.{valueFrom-append}
-use Rattle.bytes.proofs.Numerals.{Digits, Numeral, digit-at, digits-of, digits-append, value-from, numeral-means, numeral-true, few-enough, value-above, row-digits, digits-row}
+use Rattle.bytes.proofs.Numerals.{Digits, Written, digit-at, digits-of, digits-append, value-from, written-means, written-true, row-digits, digits-row}
 use Rattle.frame.specs.Frame.{Rule, longestBody, Length, Live}
 use Rattle.frame.specs.code.Walk.{MarkSeen, SizeSeen, Open}
 use Rattle.frame.specs.Mark.{MarkOk}
@@ -19,7 +20,7 @@ use Rattle.frame.proofs.Good.{good-digits}
 use Rattle.frame.proofs.Complete.{Comp, open-of, comp-more, comp-size, comp-mark}
 use Rattle.frame.proofs.AtMark.{agree, Begun, begun, begun-mark}
 
-module _ (R : Rule) (s : Bytes) (p a : ℕ) (S : MarkSeen R s p a) (v c : ℕ) (N : Number s a (R .most) v c) where
+module _ (R : Rule) (s : Bytes) (p a : ℕ) (S : MarkSeen R s p a) (v c : ℕ) (N : Number s a (R .size .most) v c) where
   -- the digits that stand there
   ds : Bytes
   ds = take c (drop a s)
@@ -36,28 +37,40 @@ module _ (R : Rule) (s : Bytes) (p a : ℕ) (S : MarkSeen R s p a) (v c : ℕ) (
   unfolding ds
   ds-value = N .worth
 
-  ds-first : 0 < c → getD ds 0 0 ≡ getD s a 0
-  unfolding ds
-  ds-first k = getD-take c (drop a s) 0 0 k ∙ getD-drop a s 0 0 ∙ ap (λ (z : ℕ). getD s z 0) (add-zero a)
-
-  ds-written : 0 < c → (getD s a 0 ≡ 48 → ⊥) → Numeral (R .most) ds
+  ds-written : 0 < c → R .size .zeros ≡ true → Written (R .size) ds
   ds-written k z =
-      record { whole = digits-row ds ds-digits; some-digit = omega (arith, ds-length); few = omega (arith, ds-length, N .few); no-zero = λ y. z (sym (ds-first k) ∙ y) }
+      record {
+        whole = digits-row ds ds-digits;
+        some-digit = omega (arith, ds-length);
+        few = omega (arith, ds-length, N .few);
+        no-zero = λ y. absurd (false≢true (sym y ∙ z));
+      }
 
-  ds-size : 0 < c → (getD s a 0 ≡ 48 → ⊥) → 5 ≤ v → v ≤ longestBody → Length R ds
+  ds-size : 0 < c → R .size .zeros ≡ true → 5 ≤ v → v ≤ longestBody → Length R ds
   ds-size k z lo hi =
-      record { written = numeral-true (R .most) ds (ds-written k z); low = omega (arith, ds-value); high = omega (arith, ds-value) }
+      record { written = written-true (R .size) ds (ds-written k z); low = omega (arith, ds-value); high = omega (arith, ds-value) }
 
-  pub size-next : 0 < c → (getD s a 0 ≡ 48 → ⊥) → 5 ≤ v → v ≤ longestBody → a + c < length s → getD s (a + c) 0 ≡ 1 → SizeSeen R s p (a + c + 1) v
+  -- no digits are worth nothing
+  some-digit : 5 ≤ v → 0 < c
+  some-digit lo = go (decLt 0 c)
+    where
+      go : Dec (0 < c) → 0 < c
+      go (yes k) = k
+      go (no k) =
+          let z : c ≡ 0 = omega arith in
+          let e : v ≡ 0 = N .worth ∙ ap (λ (i : ℕ). value (take i (drop a s))) z in
+          absurd (omega arith)
+
+  pub size-next : R .size .zeros ≡ true → 5 ≤ v → v ≤ longestBody → a + c < length s → getD s (a + c) 0 ≡ 1 → SizeSeen R s p (a + c + 1) v
   unfolding ds
-  size-next k z lo hi l x =
+  size-next z lo hi l x =
       let e₁ : drop (a + c) s ≡ 1 ∷ drop (a + c + 1) s =
       drop-cons s (a + c) 0 l ∙ ap₂ (λ (y : ℕ) (n : ℕ). y ∷ drop n s) x (sym (add-one (a + c))) in
       record {
         within = omega arith;
         digits = ds;
         split = S .split ∙ ap (λ (y : Bytes). R .mark ++ y) (sym (take-append-drop c (drop a s)) ∙ ap (λ (y : Bytes). ds ++ y) (drop-drop c a s ∙ e₁));
-        len = ds-size k z lo hi;
+        len = ds-size (some-digit lo) z lo hi;
         worth = ds-value;
       }
 
@@ -84,8 +97,8 @@ module _ (R : Rule) (s : Bytes) (p a : ℕ) (S : MarkSeen R s p a) (v c : ℕ) (
     unfolding es
     es-len = B .good .len
 
-    es-written : Numeral (R .most) es
-    es-written = numeral-means (R .most) es (es-len .written)
+    es-written : Written (R .size) es
+    es-written = written-means (R .size) es (es-len .written)
 
     es-digit : (i : ℕ) → i < length es → Digit (getD es i 0)
     es-digit i k = digit-at es (row-digits es (es-written .whole)) i k
@@ -112,15 +125,11 @@ module _ (R : Rule) (s : Bytes) (p a : ℕ) (S : MarkSeen R s p a) (v c : ℕ) (
         ap value (sym (take-append-drop c es)) ∙ valueFrom-append 0 (take c es) (drop c es) ∙ ap (λ (l : Bytes). valueFrom (value l) (drop c es)) es-take in
         omega (arith, value-from (value ds) (drop c es), ds-value)
 
-    pub size-wrong-none : c ≡ 0 → (a + c ≡ length s → ⊥) → 0 < R .most → ⊥
-    size-wrong-none z l k =
-        let h : a < length s = omega (arith, N .within) in
-        N .stop (omega arith) (omega arith)
-        (subst (λ (i : ℕ). Digit (getD s (a + i) 0)) (sym z) (subst Digit (sym (es-eq 0 (es-written .some-digit) (omega arith))) (es-digit 0 (es-written .some-digit))))
-
-    pub size-wrong-zero : a < length s → getD s a 0 ≡ 48 → ⊥
-    size-wrong-zero l z =
-        es-written .no-zero (sym (es-eq 0 (es-written .some-digit) (omega arith)) ∙ ap (λ (i : ℕ). getD s i 0) (add-zero a) ∙ z)
+    -- as many digits as there may be, worth less than 5
+    pub size-wrong-full : R .size .most ≤ c → v < 5 → ⊥
+    size-wrong-full l k =
+        let e₁ : take c es ≡ es = take-all c es (omega (arith, es-written .few)) in
+        omega (arith, es-len .low, ap value (sym e₁ ∙ es-take), ds-value)
 
     pub size-wrong-high : longestBody < v → ⊥
     size-wrong-high k = omega (arith, es-value, es-len .high)
@@ -149,36 +158,37 @@ module _ (R : Rule) (s : Bytes) (p a : ℕ) (S : MarkSeen R s p a) (v c : ℕ) (
     unfolding ds
     rest-ds = S .split ∙ ap (λ (l : Bytes). R .mark ++ l) (sym (take-all c (drop a s) (omega (arith, length-drop a s))))
 
-    pub size-short-none : c ≡ 0 → 1 ≤ R .most → Open R s p
+    size-short-none : c ≡ 0 → 1 ≤ R .size .most → Open R s p
     unfolding ds
     size-short-none z k =
         open-of R ok s p (S .from)
         (subst (λ (l : Bytes). Comp R ok l) (sym (rest-ds ∙ ap (λ (i : ℕ). R .mark ++ take i (drop a s)) z ∙ append-nil (R .mark))) (comp-mark R ok k))
 
-    pub size-short : 0 < c → (getD s a 0 ≡ 48 → ⊥) → v ≤ longestBody → 2 ≤ R .most → Open R s p
-    size-short k z hi two = open-of R ok s p (S .from) (subst (λ (l : Bytes). Comp R ok l) (sym rest-ds) (go (decLt v 5)))
+    pub size-short : R .size .zeros ≡ true → 5 ≤ v → v ≤ longestBody → Open R s p
+    size-short z lo hi = open-of R ok s p (S .from) (subst (λ (l : Bytes). Comp R ok l) (sym rest-ds) (comp-size R ok ds (ds-size (some-digit lo) z lo hi)))
+
+    -- where a further digit may follow: a 5 behind a length below 5 makes it one from 5 to 45
+    five-more : 0 < c → R .size .zeros ≡ true → c < R .size .most → v < 5 → Length R (ds ++ fix "5")
+    five-more k z room y =
+        let e₁ : value (ds ++ fix "5") ≡ value ds * 10 + 5 = valueFrom-append 0 ds (fix "5") in
+        let e₂ : length (ds ++ fix "5") ≡ length ds + 1 = length-append ds (fix "5") in
+        let w : Written (R .size) (ds ++ fix "5") =
+        record {
+          whole = digits-row (ds ++ fix "5") (digits-append ds (fix "5") ds-digits ((omega arith, omega arith), tt));
+          some-digit = omega arith;
+          few = omega (arith, ds-length);
+          no-zero = λ x. absurd (false≢true (sym x ∙ z));
+        } in
+        record { written = written-true (R .size) (ds ++ fix "5") w; low = omega arith; high = omega (arith, ds-value) }
+
+    pub size-short-more : R .size .zeros ≡ true → c < R .size .most → v ≤ longestBody → Open R s p
+    size-short-more z room hi = go (decLt 0 c) (decLt v 5)
       where
-        -- a length below 5 has one digit, and a further 0 makes it one from 10 to 40
-        go : Dec (v < 5) → Comp R ok (R .mark ++ ds)
-        go (yes y) =
-            let w = ds-written k z in
-            let o = few-enough (R .most) 1 ds w (omega (arith, ds-value)) in
-            let o′ = value-above (R .most) ds w in
-            let vl : value (ds ++ (48 ∷ [])) ≡ value ds * 10 + 0 = valueFrom-append 0 ds (48 ∷ []) in
-            let e : length (ds ++ (48 ∷ [])) ≡ length ds + 1 = length-append ds (48 ∷ []) in
-            comp-more R ok (R .mark ++ ds) (48 ∷ [])
-            (subst (λ (l : Bytes). Comp R ok l) (sym (append-assoc (R .mark) ds (48 ∷ [])))
-            (comp-size R ok (ds ++ (48 ∷ []))
-            (record {
-              written =
-                  numeral-true (R .most) (ds ++ (48 ∷ []))
-                  (record {
-                    whole = digits-row (ds ++ (48 ∷ [])) (digits-append ds (48 ∷ []) ds-digits ((omega arith, omega arith), tt));
-                    some-digit = omega arith;
-                    few = omega arith;
-                    no-zero = λ q. w .no-zero (sym (List·getD-append ds (48 ∷ []) 0 0 (omega (arith, ds-length))) ∙ q);
-                  });
-              low = omega arith;
-              high = omega (arith, ds-value);
-            })))
-        go (no y) = comp-size R ok ds (ds-size k z (omega arith) hi)
+        go : Dec (0 < c) → Dec (v < 5) → Open R s p
+        go (no k) y = size-short-none (omega arith) (omega arith)
+        go (yes k) (no y) = size-short z (omega arith) hi
+        go (yes k) (yes y) =
+            open-of R ok s p (S .from)
+            (subst (λ (l : Bytes). Comp R ok l) (sym rest-ds)
+            (comp-more R ok (R .mark ++ ds) (fix "5")
+            (subst (λ (l : Bytes). Comp R ok l) (sym (append-assoc (R .mark) ds (fix "5"))) (comp-size R ok (ds ++ fix "5") (five-more k z room y)))))

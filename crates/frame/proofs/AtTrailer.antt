@@ -10,7 +10,7 @@ use Rattle.bytes.specs.Bytes.{Bytes, sum, value, At}
 use Rattle.bytes.specs.code.Leaf.{wordAt, Matched}
 use Rattle.bytes.proofs.Lists.{at-byte, bytes-at, matched-at}
 use Rattle.bytes.proofs.Words.{same-bytes, same-word}
-use Rattle.bytes.proofs.Numerals.{Digits, numeral-means, row-digits}
+use Rattle.bytes.proofs.Numerals.{Digits, written-means, row-digits}
 use Rattle.frame.specs.Frame.{Rule, Good, Live, front, trailer, sumOf}
 use Rattle.frame.specs.code.Walk.{BodySeen, Open, Ended}
 use Rattle.frame.specs.Mark.{MarkOk}
@@ -33,7 +33,7 @@ small-trailer v h (suc (suc (suc (suc (suc (suc (suc (suc k)))))))) = omega arit
 
 module _ (R : Rule) (s : Bytes) (p a : ℕ) (S : BodySeen R s p a) where
   abbrev decimal : Digits (S .digits)
-  decimal = row-digits (S .digits) ((numeral-means (R .most) (S .digits) (S .len .written)) .whole)
+  decimal = row-digits (S .digits) ((written-means (R .size) (S .digits) (S .len .written)) .whole)
 
   front-length : length (front R (S .digits) (S .body)) ≡ length (R .mark) + (length (S .digits) + (value (S .digits) + 1))
   front-length = omega (arith, length-append (R .mark) (S .digits ++ (1 ∷ S .body)), length-append (S .digits) (1 ∷ S .body), S .inner .sized)

@@ -8,12 +8,12 @@ use lib.ListN.{length, take, drop, getD, length-append}
 use lib.Seq.{take-at, drop-at}
 use Rattle.bytes.specs.Bytes.{Bytes, Digit}
 use Rattle.bytes.specs.code.Leaf.{Number}
-use Rattle.bytes.proofs.Numerals.{digit-at, numeral-means}
+use Rattle.bytes.proofs.Numerals.{digit-at, written-means}
 use Rattle.frame.specs.Frame.{Rule, Good, BodyOf, its-body, trailer, sumOf}
 use Rattle.frame.proofs.Make.{j-digit, j-soh}
 use Rattle.frame.proofs.Good.{up-to-bar, good-length, good-split, good-digits}
 
-module _ (R : Rule) (f : Bytes) (G : Good R f) (v c : ℕ) (N : Number f (length (R .mark)) (R .most) v c) where
+module _ (R : Rule) (f : Bytes) (G : Good R f) (v c : ℕ) (N : Number f (length (R .mark)) (R .size .most) v c) where
   tr : Bytes
   tr = trailer (sumOf R (G .digits) (G .body))
 
@@ -41,7 +41,7 @@ module _ (R : Rule) (f : Bytes) (G : Good R f) (v c : ℕ) (N : Number f (length
       go : Dec (n < c) → Dec (c < n) → c ≡ n
       go (yes k) _ = absurd (omega (arith, N .digits n k, soh))
       go (no k) (yes l) =
-          absurd (N .stop (omega (arith, (numeral-means (R .most) (G .digits) (G .len .written)) .few)) (omega (arith, good-length R f G)) (dig l))
+          absurd (N .stop (omega (arith, (written-means (R .size) (G .digits) (G .len .written)) .few)) (omega (arith, good-length R f G)) (dig l))
       go (no k) (no l) = omega arith
 
   pub body-fits : (length (R .mark) + (c + 1) ≤ length f - 7) × (7 ≤ length f)

@@ -9,9 +9,9 @@ use mathlib.Core.List.{List, [], _∷_, _++_, append-assoc}
 use lib.ListN.{length, take, drop, getD, replicate, length-append, length-drop, length-replicate, getD-replicate, List·getD-append, List·getD-eq-default}
 use lib.Dec.{lit≤}
 use lib.Seq.{getD-append-add, getD-drop, drop-append-le, take-all}
-use Rattle.bytes.specs.Bytes.{Bytes, fix, value, numeral, At}
+use Rattle.bytes.specs.Bytes.{Bytes, fix, value, At}
 use Rattle.bytes.proofs.Lists.{at-byte, bytes-at}
-use Rattle.bytes.proofs.Numerals.{numeral-true, digits-row}
+use Rattle.bytes.proofs.Numerals.{written-true, digits-row}
 use Rattle.frame.specs.Frame.{Rule, Length, Body, Good, GoodAt, front, trailer, sumOf}
 use Rattle.frame.specs.code.Walk.{Open}
 use Rattle.frame.specs.Mark.{MarkOk}
@@ -169,12 +169,12 @@ module _ (R : Rule) (ok : MarkOk (R .mark)) where
       comp-more (R .mark ++ ds) (1 ∷ [])
       (subst (λ (l : Bytes). Comp l) (sym (append-assoc (R .mark) ds (1 ∷ []))) (comp-fields ds [] L (omega (arith, L .low)) (λ i k _. absurd (omega arith)) (λ q a. omega (arith, a .0, ok .long)) (λ i. omega arith)))
 
-  pub comp-mark : 1 ≤ R .most → Comp (R .mark)
+  pub comp-mark : 1 ≤ R .size .most → Comp (R .mark)
   comp-mark h =
       comp-more (R .mark) (53 ∷ [])
       (comp-size (53 ∷ [])
       (record {
-        written = numeral-true (R .most) (53 ∷ []) (record { whole = digits-row (53 ∷ []) ((lit≤ tt, lit≤ tt), tt); some-digit = omega arith; few = h; no-zero = λ e. omega arith });
+        written = written-true (R .size) (53 ∷ []) (record { whole = digits-row (53 ∷ []) ((lit≤ tt, lit≤ tt), tt); some-digit = omega arith; few = h; no-zero = λ z e. omega arith });
         low = lit≤ tt;
         high = lit≤ tt;
       }))

@@ -11,9 +11,9 @@ use lib.Dec.{lit≤, ltb}
 use lib.ListN.{length, take, drop, getD, length-append, List·getD-append, List·getD-eq-default}
 use lib.Seq.{take-at, drop-at, take-length, getD-take, getD-append-add}
 use borrow.Author.Tests.{ltb-true}
-use Rattle.bytes.specs.Bytes.{Bytes, fix, sum, numeral}
+use Rattle.bytes.specs.Bytes.{Bytes, fix, sum, writes}
 use Rattle.bytes.proofs.Lists.{at-byte}
-use Rattle.bytes.proofs.Numerals.{numeral-means}
+use Rattle.bytes.proofs.Numerals.{written-means}
 use Rattle.bytes.proofs.Tests.{allBelow, at-below}
 use Rattle.frame.specs.Frame.{Rule, fixt, Good, GoodAt, front, trailer, sumOf}
 use Rattle.frame.specs.Reading.{frame, refusal, Reads}
@@ -32,21 +32,6 @@ module _ (R : Rule) where
       ap (λ (l : Bytes). drop (length g - 7) l) (G .whole) ∙ drop-at b t (length g - 7) n
       ∙ ap (λ (l : Bytes). trailer (sum l % 256)) (sym (ap (λ (l : Bytes). take (length g - 7) l) (G .whole) ∙ take-at b t (length g - 7) n))
 
-  -- the first digit of the length is no zero
-  good-first : (g : Bytes) → Good R g → getD g (length (R .mark)) 0 ≡ 48 → ⊥
-  good-first g G z =
-      let w = numeral-means (R .most) (G .digits) (G .len .written) in
-      w .no-zero
-      (sym
-      (ap (λ (k : ℕ). getD g k 0) (sym (add-zero (length (R .mark))))
-      ∙ ap (λ (l : Bytes). getD l (length (R .mark) + 0) 0) (G .whole ∙ regroup (R .mark) (G .digits) (G .body) (trailer (sumOf R (G .digits) (G .body))))
-      ∙ getD-append-add (R .mark) _ 0 0
-      ∙ List·getD-append (G .digits) _ 0 0 (w .some-digit))
-      ∙ z)
-    where
-      regroup : (m ds b t : Bytes) → m ++ (ds ++ (1 ∷ b)) ++ t ≡ m ++ (ds ++ ((1 ∷ b) ++ t))
-      regroup m ds b t = simp append-assoc
-
 small : (l : Bytes) → allBelow (length l) (λ i. ltb (getD l i 0) 256) ≡ true → (i : ℕ) → getD l i 0 < 256
 small l t i = go (decLt i (length l))
   where
@@ -56,7 +41,7 @@ small l t i = go (decLt i (length l))
 
 -- W1 is a good frame
 w1-good : Good fixt (fix "8=FIXT.1.1|9=5|35=0|10=241|")
-unfolding fixt numeral
+unfolding fixt writes
 w1-good =
     good-make fixt fixt-ok (fix "5") (fix "35=0|") (record { written = refl; low = lit≤ tt; high = lit≤ tt })
     (record { sized = refl; begins = (lit≤ tt, refl); ends = refl; bytes = small (fix "35=0|") refl })
@@ -78,24 +63,42 @@ W2 q m G =
     let z : _≡_ {A = ℕ} 50 49 = ap (λ (l : Bytes). getD l 5 0) e in
     omega arith
 
--- W3 has one byte more than the shortest frame: a frame would begin at its first byte or at its second
-third : (q m : ℕ) → GoodAt fixt (fix "8=FIXT.1.1|9=05|35=0|10=241|") q m → Dec (q < 1) → ⊥
+-- W3 with its old sum has one byte more than the shortest frame: a frame would be all of it, would end one byte before, or would begin at its second byte
+third : (q m : ℕ) → GoodAt fixt (fix "8=FIXT.1.1|9=05|35=0|10=241|") q m → Dec (q < 1) → Dec (m < 28) → ⊥
 unfolding fixt
-third q m G (yes l) =
+third q m G (yes l) (no k) =
     let s = fix "8=FIXT.1.1|9=05|35=0|10=241|" in
-    let e : q ≡ 0 = omega arith in
-    let k = (good-at-length fixt G) .0 in
-    let z : getD (take m (drop q s)) 13 0 ≡ 48 = getD-take m (drop q s) 13 0 (omega arith) ∙ ap (λ (i : ℕ). getD (drop i s) 13 0) e in
-    good-first fixt (take m (drop q s)) (G .good) z
-third q m G (no l) =
+    let e = good-sum fixt s (all-of s q m (omega arith) (omega (arith, G .inside)) G) in
+    let z : _≡_ {A = ℕ} 50 48 = ap (λ (l : Bytes). getD l 3 0) e in
+    omega arith
+third q m G (yes l) (yes k) =
     let s = fix "8=FIXT.1.1|9=05|35=0|10=241|" in
-    let k = (good-at-length fixt G) .0 in
+    let n = (good-at-length fixt G) .0 in
+    let e₁ : m ≡ 27 = omega arith in
+    let e₂ : q ≡ 0 = omega arith in
+    let e = good-sum fixt (take 27 s) (subst (λ (g : Bytes). Good fixt g) (ap₂ (λ (i j : ℕ). take i (drop j s)) e₁ e₂) (G .good)) in
+    let z : _≡_ {A = ℕ} 1 49 = ap (λ (l : Bytes). getD l 0 0) e in
+    omega arith
+third q m G (no l) k =
+    let s = fix "8=FIXT.1.1|9=05|35=0|10=241|" in
+    let n = (good-at-length fixt G) .0 in
     let e : q ≡ 1 = omega (arith, G .inside) in
     let z : _≡_ {A = ℕ} 61 56 = ap (λ (i : ℕ). getD s (i + 0) 0) (sym e) ∙ at-byte s q (fixt .mark) (good-at-mark fixt G) 0 (omega arith) in
     omega arith
 
 pub W3 : (q m : ℕ) → GoodAt fixt (fix "8=FIXT.1.1|9=05|35=0|10=241|") q m → ⊥
-W3 q m G = third q m G (decLt q 1)
+W3 q m G = third q m G (decLt q 1) (decLt m 28)
+
+-- "W3 becomes a frame when its sum is made right."
+w3-good : Good fixt (fix "8=FIXT.1.1|9=05|35=0|10=033|")
+unfolding fixt writes
+w3-good =
+    good-make fixt fixt-ok (fix "05") (fix "35=0|") (record { written = refl; low = lit≤ tt; high = lit≤ tt })
+    (record { sized = refl; begins = (lit≤ tt, refl); ends = refl; bytes = small (fix "35=0|") refl })
+    (λ q a. omega (arith, a .0))
+
+pub W3-summed : Reads fixt (fix "8=FIXT.1.1|9=05|35=0|10=033|") (frame 0 28)
+W3-summed = record { here = record { inside = lit≤ tt; good = w3-good }; left = λ q m l. absurd (omega arith) }
 
 nothing-in : (s : Bytes) → length s < 27 → (q m : ℕ) → GoodAt fixt s q m → ⊥
 unfolding fixt

@@ -9,8 +9,8 @@ use lib.ListN.{length, take, drop, length-append, take-append-drop}
 use lib.Seq.{take-append-seam, drop-append-seam, take-length, take-at}
 use Rattle.bytes.specs.Bytes.{Bytes, value, At}
 use Rattle.bytes.proofs.Lists.{part-length, at-part, at-whole, at-more, part-more}
-use Rattle.bytes.proofs.Numerals.{Digits, numeral-means, split-digits, row-digits, few-enough}
-use Rattle.frame.specs.Frame.{Rule, longestDigits, Good, GoodAt, Live, front, trailer, sumOf, longest}
+use Rattle.bytes.proofs.Numerals.{Digits, written-means, split-digits, row-digits}
+use Rattle.frame.specs.Frame.{Rule, Good, GoodAt, Live, front, trailer, sumOf, longest}
 use Rattle.frame.specs.code.Walk.{Open}
 
 -- a mark, digits and `|` taken together
@@ -23,7 +23,7 @@ same-start x y c d h e = sym (take-at x c (length x) refl) ∙ ap (λ (l : Bytes
 
 module _ (R : Rule) where
   pub good-digits : (g : Bytes) (G : Good R g) → Digits (G .digits)
-  good-digits g G = row-digits (G .digits) ((numeral-means (R .most) (G .digits) (G .len .written)) .whole)
+  good-digits g G = row-digits (G .digits) ((written-means (R .size) (G .digits) (G .len .written)) .whole)
 
   pub good-length : (g : Bytes) (G : Good R g) → length g ≡ length (R .mark) + (length (G .digits) + (value (G .digits) + 8))
   good-length g G =
@@ -34,14 +34,12 @@ module _ (R : Rule) where
       let e₄ = length-append (G .digits) (1 ∷ G .body) in
       omega (arith, G .inner .sized)
 
-  -- "The longest frame is 2,073 bytes"
+  -- "The longest frame becomes 2,075 bytes"
   pub good-longest : (g : Bytes) (G : Good R g) → length g ≤ longest R
-  good-longest g G =
-      let few = few-enough (R .most) (length longestDigits) (G .digits) (numeral-means (R .most) (G .digits) (G .len .written)) (omega (arith, G .len .high)) in
-      omega (arith, good-length g G, G .len .high)
+  good-longest g G = omega (arith, good-length g G, (written-means (R .size) (G .digits) (G .len .written)) .few, G .len .high)
 
   pub good-shortest : (g : Bytes) (G : Good R g) → length (R .mark) + 14 ≤ length g
-  good-shortest g G = omega (arith, good-length g G, (numeral-means (R .most) (G .digits) (G .len .written)) .some-digit, G .len .low)
+  good-shortest g G = omega (arith, good-length g G, (written-means (R .size) (G .digits) (G .len .written)) .some-digit, G .len .low)
 
   -- the frame, and what is behind it, behind the mark
   pub good-split : (g u : Bytes) (G : Good R g) → g ++ u ≡ R .mark ++ (G .digits ++ (1 ∷ (G .body ++ (trailer (sumOf R (G .digits) (G .body)) ++ u))))

@@ -9,7 +9,7 @@ use lib.ListN.{length, getD, length-append, List·getD-append}
 use lib.Seq.{getD-append-add}
 use Rattle.bytes.specs.Bytes.{Bytes, value, At}
 use Rattle.bytes.proofs.Lists.{at-byte, bytes-at}
-use Rattle.bytes.proofs.Numerals.{Digits, digit-at, numeral-means, row-digits}
+use Rattle.bytes.proofs.Numerals.{Digits, digit-at, written-means, row-digits}
 use Rattle.frame.specs.Frame.{Rule, Length, Body, Good, front, trailer, sumOf}
 use Rattle.frame.specs.Mark.{MarkOk}
 
@@ -106,7 +106,7 @@ module _ (R : Rule) (ok : MarkOk (R .mark)) where
         inner = B;
         whole = refl;
         once = λ q h a.
-            one-mark (R .mark) ds b tr ok (row-digits ds ((numeral-means (R .most) ds (L .written)) .whole)) (omega (arith, B .sized, L .low)) (ap (λ (k : ℕ). getD b (k - 1) 0) (B .sized) ∙ B .ends) refl refl none q h
+            one-mark (R .mark) ds b tr ok (row-digits ds ((written-means (R .size) ds (L .written)) .whole)) (omega (arith, B .sized, L .low)) (ap (λ (k : ℕ). getD b (k - 1) 0) (B .sized) ∙ B .ends) refl refl none q h
             (subst (λ (g : Bytes). At g q (R .mark)) (simp append-assoc) a);
       }
     where

@@ -10,7 +10,7 @@ use lib.Seq.{getD-drop}
 use Rattle.bytes.specs.Bytes.{Bytes, value, At}
 use Rattle.bytes.specs.code.Leaf.{Here, Searched}
 use Rattle.bytes.proofs.Lists.{at-part, at-more}
-use Rattle.bytes.proofs.Numerals.{Digits, digit-at, numeral-means, row-digits}
+use Rattle.bytes.proofs.Numerals.{Digits, digit-at, written-means, row-digits}
 use Rattle.frame.specs.Frame.{Rule, Good, Live, front, trailer, sumOf}
 use Rattle.frame.specs.code.Walk.{MarkSeen, SizeSeen, BodySeen, Past}
 use Rattle.frame.specs.Mark.{MarkOk}
@@ -63,7 +63,7 @@ module _ (R : Rule) (s : Bytes) where
     in-size p a n S q l k v = go₁ (decLt q (p + length (R .mark)))
       where
         hd : Digits (S .digits)
-        hd = row-digits (S .digits) ((numeral-means (R .most) (S .digits) (S .len .written)) .whole)
+        hd = row-digits (S .digits) ((written-means (R .size) (S .digits) (S .len .written)) .whole)
 
         place : a ≡ p + (length (R .mark) + (length (S .digits) + 1))
         place = body-place R s p a n S

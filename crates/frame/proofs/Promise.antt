@@ -7,9 +7,9 @@ use mathlib.Core.Logic.{_⊎_, inl, inr}
 use mathlib.Core.List.{List, [], _∷_, _++_, append-assoc, append-nil, append-cancel-left}
 use lib.Dec.{lit≤}
 use lib.ListN.{length, length-append, length-drop}
-use Rattle.bytes.specs.Bytes.{Bytes, value}
-use Rattle.bytes.proofs.Numerals.{Digits, numeral-true, digits-row, split-digits}
-use Rattle.frame.specs.Frame.{Rule, fixt, fix42, longestDigits, Length, Good, GoodAt, longest}
+use Rattle.bytes.specs.Bytes.{Bytes, fix, value, writes}
+use Rattle.bytes.proofs.Numerals.{written-means, row-digits, split-digits}
+use Rattle.frame.specs.Frame.{Rule, fixt, fix42, longestBody, Length, Good, GoodAt, longest}
 use Rattle.frame.specs.Reading.{refusal, Reads}
 use Rattle.frame.specs.Mark.{MarkOk}
 use Rattle.frame.specs.Promise.{SameFrame, NoOverlap, Promise, FixtNumbers}
@@ -49,27 +49,12 @@ module _ (R : Rule) (ok : MarkOk (R .mark)) where
       empty [] e = refl
       empty (x ∷ l) e = absurd (omega arith)
 
-  -- ---- the longest frame: a body of 2,048 bytes, its length written in four digits
-  four : Digits longestDigits
-  four = ((lit≤ tt, lit≤ tt), ((lit≤ tt, lit≤ tt), ((lit≤ tt, lit≤ tt), ((lit≤ tt, lit≤ tt), tt))))
-
-  longest-length : 4 ≤ R .most → Length R longestDigits
-  longest-length h =
-      record {
-        written = numeral-true (R .most) longestDigits
-            (record { some-digit = omega arith; few = h; whole = digits-row longestDigits four; no-zero = λ e. omega arith });
-        low = lit≤ tt;
-        high = lit≤ tt;
-      }
-
-  longest-good : 4 ≤ R .most → (g : Bytes) × Good R g × (length g ≡ longest R)
-  longest-good h = (g, w .good, good-length R g (w .good) ∙ ap (λ (x : Bytes). length (R .mark) + (length x + (value x + 8))) (sym digits))
+  -- ---- the longest frame: a body of 2,048 bytes, its length written in all the digits that it may have
+  longest-good : (ds : Bytes) → Length R ds → length ds ≡ R .size .most → value ds ≡ longestBody → (g : Bytes) × Good R g × (length g ≡ longest R)
+  longest-good ds L n v = (g, w .good, omega (arith, good-length R g (w .good), ap length digits, ap value digits))
     where
-      ds : Bytes
-      ds = longestDigits
-
       w : Comp R ok (R .mark ++ (ds ++ (1 ∷ [])))
-      w = comp-fields R ok ds [] (longest-length h) (lit≤ tt) (λ i k _. absurd (omega arith)) (λ q a. omega (arith, a .0, ok .long)) (λ i. omega arith)
+      w = comp-fields R ok ds [] L (omega (arith, v)) (λ i k _. absurd (omega arith)) (λ q a. omega (arith, a .0, ok .long)) (λ i. omega arith)
 
       g : Bytes
       g = R .mark ++ (ds ++ (1 ∷ [])) ++ w .rest
@@ -79,7 +64,7 @@ module _ (R : Rule) (ok : MarkOk (R .mark)) where
 
       digits : ds ≡ w .good .digits
       digits =
-          split-digits ds (w .good .digits) _ _ four (good-digits R g (w .good))
+          split-digits ds (w .good .digits) _ _ (row-digits ds (written-means (R .size) ds (L .written) .whole)) (good-digits R g (w .good))
           (append-cancel-left (R .mark) _ _ (sym (regroup (R .mark) ds (w .rest)) ∙ good-split R g [] (w .good)))
 
   -- ---- the pending rest
@@ -119,10 +104,10 @@ pub fix42-promise : Promise fix42
 fix42-promise = promise fix42 fix42-ok
 
 pub fixt-numbers : FixtNumbers
-unfolding fixt
+unfolding fixt writes
 fixt-numbers =
     record {
       none-longer = fixt-promise .longest-frame .none-longer;
-      attained = fixt-promise .longest-frame .attained (lit≤ tt);
+      attained = fixt-promise .longest-frame .attained (fix "002048") (record { written = refl; low = lit≤ tt; high = lit≤ tt }) refl refl;
       refused = fixt-promise .pending-rest .refused;
     }

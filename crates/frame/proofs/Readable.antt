@@ -7,9 +7,9 @@ use mathlib.Core.Logic.{_⊎_, inl, inr}
 use mathlib.Core.List.{[], _∷_, _++_, append-nil, append-assoc}
 use lib.ListN.{length, take, drop, getD, length-append, take-append-drop, List·getD-append}
 use lib.Seq.{take-at, drop-at, length-take-le, getD-append-add, getD-drop, getD-take}
-use Rattle.bytes.specs.Bytes.{Bytes, fix, value, numeral, At}
+use Rattle.bytes.specs.Bytes.{Bytes, fix, value, writes, At}
 use Rattle.bytes.proofs.Lists.{part-length}
-use Rattle.bytes.proofs.Numerals.{digit-at, numeral-means}
+use Rattle.bytes.proofs.Numerals.{digit-at, written-means}
 use Rattle.frame.specs.Frame.{Rule, longestBody, Length, Body, Good, GoodAt, Live, front, trailer, sumOf, longest}
 use Rattle.frame.specs.Reading.{Answer, frame, refusal, Reads}
 use Rattle.frame.specs.Mark.{MarkOk}
@@ -21,7 +21,7 @@ module _ (R : Rule) where
   length? : (ds : Bytes) → Dec (Length R ds)
   length? ds =
       turn (λ w. record { written = w .0; low = w .1 .0; high = w .1 .1 }) (λ L. (L .written, (L .low, L .high)))
-      (both? (holds? (numeral (R .most) ds)) (both? (decLe 5 (value ds)) (decLe (value ds) longestBody)))
+      (both? (holds? (writes (R .size) ds)) (both? (decLe 5 (value ds)) (decLe (value ds) longestBody)))
 
   body? : (n : ℕ) (b : Bytes) → Dec (Body n b)
   body? n b =
@@ -71,18 +71,18 @@ module _ (R : Rule) where
   pub good? : (g : Bytes) → Dec (Good R g)
   good? g =
       turn to from
-      (some-below (λ k. (k ≤ R .most) × Parts g (digitsIn g k) (bodyIn g k)) (λ k. both? (decLe k (R .most)) (parts? g (digitsIn g k) (bodyIn g k))) (suc (R .most)) (λ k w. omega (arith, w .0)))
+      (some-below (λ k. (k ≤ R .size .most) × Parts g (digitsIn g k) (bodyIn g k)) (λ k. both? (decLe k (R .size .most)) (parts? g (digitsIn g k) (bodyIn g k))) (suc (R .size .most)) (λ k w. omega (arith, w .0)))
     where
-      to : (k : ℕ) × ((k ≤ R .most) × Parts g (digitsIn g k) (bodyIn g k)) → Good R g
+      to : (k : ℕ) × ((k ≤ R .size .most) × Parts g (digitsIn g k) (bodyIn g k)) → Good R g
       to w =
           let x = w .1 .1 in
           record { digits = digitsIn g (w .0); body = bodyIn g (w .0); len = x .len; inner = x .inner; whole = x .whole; once = x .once }
 
-      from : Good R g → (k : ℕ) × ((k ≤ R .most) × Parts g (digitsIn g k) (bodyIn g k))
+      from : Good R g → (k : ℕ) × ((k ≤ R .size .most) × Parts g (digitsIn g k) (bodyIn g k))
       from G = (
         length (G .digits),
         (
-          (numeral-means (R .most) (G .digits) (G .len .written)) .few,
+          (written-means (R .size) (G .digits) (G .len .written)) .few,
           subst (λ (x : Bytes). Parts g x (bodyIn g (length (G .digits)))) (sym (digits-in g G))
               (subst (λ (x : Bytes). Parts g (G .digits) x) (sym (body-in g G)) (record { len = G .len; inner = G .inner; whole = G .whole; once = G .once })),
         ),

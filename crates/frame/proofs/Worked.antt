@@ -175,7 +175,7 @@ module _ (R : Rule) where
         drained-at (append-nil (drop d s)) refl refl (drained-late [] K (drained-at (sym (append-nil s)) refl refl K))
     drained-again (hand p n A D) = drained-again D
 
-    -- "Under refusal 1 at most 2,072 bytes stay pending": less than a longest frame
+    -- "the pending rest 2,074": less than a longest frame
     pub rest-short : (s : Bytes) {d : ℕ} → Unfinished R s d → length (drop d s) < longest R
     rest-short s {d} U = go (U .stop)
       where

@@ -1,20 +1,21 @@
--- Document 01, "The good frame", sentence by sentence, over a rule.
+-- Document 01, "The good frame", sentence by sentence, over a rule, with the body length of document 02's Q-3.
 use Prim.Native.Nat.{ℕ, _+_, _-_, _/_, _%_, _≤_, _<_}
 use mathlib.Core.Path.{_≡_}
 use mathlib.Core.Bool.{Bool, true}
 use mathlib.Core.List.{[], _∷_, _++_}
 use lib.ListN.{length, take, drop, getD}
-use Rattle.bytes.specs.Bytes.{Bytes, byte, fix, sum, value, numeral, At}
+use Rattle.bytes.specs.Bytes.{Bytes, byte, fix, sum, value, Writing, with-zeros, writes, At}
 
--- What may differ from edition to edition: the start mark, and how many digits the body length may have.
+-- What may differ from edition to edition: the start mark, and how the body length is written.
 pub record Rule : Type 0 where
   pub mark : Bytes
-  pub most : ℕ
+  pub size : Writing
 
+-- "the body length up to 6 digits"; "the FIX integer type permits" zeros in front
 abbrev pub ruleOf : Bytes → Rule
-ruleOf mark = record { mark = mark; most = 4 }
+ruleOf mark = record { mark = mark; size = with-zeros 6 }
 
--- "The start mark is the 13 bytes `8=FIXT.1.1|9=`." "the body length, 1 to 4 digits"
+-- "The start mark is the 13 bytes `8=FIXT.1.1|9=`."
 unfoldable pub fixt : Rule
 fixt = ruleOf (fix "8=FIXT.1.1|9=")
 
@@ -22,16 +23,13 @@ fixt = ruleOf (fix "8=FIXT.1.1|9=")
 unfoldable pub fix42 : Rule
 fix42 = ruleOf (fix "8=FIX.4.2|9=")
 
--- "2,048": the longest body, and its length in digits
+-- "2,048": the longest body
 abbrev pub longestBody : ℕ
 longestBody = 2048
 
-abbrev pub longestDigits : Bytes
-longestDigits = fix "2048"
-
--- "the body length, 1 to 4 digits, no leading zero, value 5 to 2,048"
+-- "the body length up to 6 digits with the value still 5 to 2,048"
 pub record Length (R : Rule) (digits : Bytes) : Type 0 where
-  pub written : numeral (R .most) digits ≡ true
+  pub written : writes (R .size) digits ≡ true
   pub low : 5 ≤ value digits
   pub high : value digits ≤ longestBody
 
@@ -67,10 +65,9 @@ pub record Good (R : Rule) (g : Bytes) : Type 0 where
   pub whole : g ≡ front R digits body ++ trailer (sumOf R digits body)
   pub once : (q : ℕ) → 0 < q → At g q (R .mark) → ⊥
 
--- "The longest frame is 2,073 bytes": the mark, the digits of 2,048, `|`, 2,048 bytes, the trailer. (A greater digit limit makes no longer frame: no
--- zero leads, so a length up to 2,048 has no more than these digits.)
+-- "The longest frame becomes 2,075 bytes": the mark, as many digits as the body length may have, `|`, 2,048 bytes, the trailer
 abbrev pub longest : Rule → ℕ
-longest R = length (R .mark) + (length longestDigits + (length (fix "|") + (longestBody + length (trailer 0))))
+longest R = length (R .mark) + (R .size .most + (length (fix "|") + (longestBody + length (trailer 0))))
 
 -- A good frame of n bytes stands in s at p.
 pub record GoodAt (R : Rule) (s : Bytes) (p n : ℕ) : Type 0 where

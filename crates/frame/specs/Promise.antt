@@ -1,17 +1,17 @@
 -- What the frame layer promises, in document 01's words, over a rule R: one reading, the frames of a stream, demand 3, every cutting, bytes without `|`,
 -- the longest frame and the pending rest.
 --
--- Shown in proofs/Promise.antt for every rule whose mark is as specs/Mark.antt asks, and so for `8=FIXT.1.1|9=` and `8=FIX.4.2|9=`. Of the digit limit
--- R .most nothing is asked: all of this holds for every limit. One field has a premise on it: a frame of the longest length has a body length of four
--- digits, so there is one where the limit is at least 4.
+-- Shown in proofs/Promise.antt for every rule whose mark is as specs/Mark.antt asks, and so for `8=FIXT.1.1|9=` and `8=FIX.4.2|9=`. Of the way in which the
+-- body length is written nothing is asked: all of this holds for every greatest number of digits, with zeros in front or without. One field has a premise on
+-- it: there is a frame of the longest length where 2,048 can be written in as many digits as there may be.
 use Prim.Native.Nat.{ℕ, suc, _+_, _-_, _≤_, _<_}
 use mathlib.Core.Path.{_≡_}
 use mathlib.Core.Logic.{_⊎_}
 use mathlib.Core.List.{List, [], _∷_, _++_}
 use mathlib.Core.Bool.{false}
 use lib.ListN.{length, take, drop, getD}
-use Rattle.bytes.specs.Bytes.{Bytes, byte, has}
-use Rattle.frame.specs.Frame.{Rule, fixt, Good, GoodAt, longest}
+use Rattle.bytes.specs.Bytes.{Bytes, byte, has, value}
+use Rattle.frame.specs.Frame.{Rule, fixt, longestBody, Length, Good, GoodAt, longest}
 use Rattle.frame.specs.Reading.{Answer, refusal, Reads}
 use Rattle.frame.specs.Stream.{Frames, Fed, joined}
 
@@ -82,14 +82,14 @@ pub record WithoutBar (R : Rule) : Type 0 where
 
 -- THE LONGEST FRAME
 pub record LongestFrame (R : Rule) : Type 0 where
-  -- "The longest frame is 2,073 bytes": no good frame is longer,
+  -- "The longest frame is 2,073 bytes", and document 02: "The longest frame becomes 2,075 bytes": no good frame is longer,
   pub none-longer : (g : Bytes) → Good R g → length g ≤ longest R
-  -- and one is as long
-  pub attained : 4 ≤ R .most → (g : Bytes) × Good R g × (length g ≡ longest R)
+  -- and one is as long, with the body length written in all the digits that it may have
+  pub attained : (digits : Bytes) → Length R digits → length digits ≡ R .size .most → value digits ≡ longestBody → (g : Bytes) × Good R g × (length g ≡ longest R)
 
 -- THE PENDING REST
 pub record PendingRest (R : Rule) : Type 0 where
-  -- "Under refusal 1 at most 2,072 bytes stay pending": under every refusal 1,
+  -- "Under refusal 1 at most 2,072 bytes stay pending", and document 02: "the pending rest 2,074": under every refusal 1,
   pub refused : (s : Bytes) (d : ℕ) → Reads R s (refusal 1 d) → length s - d ≤ longest R - 1
   -- and behind every piece
   pub kept : {xs : List Bytes} {fss : List (List Bytes)} {r : Bytes} → Fed R [] xs fss r → length r ≤ longest R - 1
@@ -107,8 +107,7 @@ pub record Promise (R : Rule) : Type 0 where
 
 -- ITS NUMBERS for `8=FIXT.1.1|9=`
 pub record FixtNumbers : Type 0 where
-  -- "The longest frame is 2,073 bytes."
-  pub none-longer : (g : Bytes) → Good fixt g → length g ≤ 2073
-  pub attained : (g : Bytes) × Good fixt g × (length g ≡ 2073)
-  -- "Under refusal 1 at most 2,072 bytes stay pending."
-  pub refused : (s : Bytes) (d : ℕ) → Reads fixt s (refusal 1 d) → length s - d ≤ 2072
+  -- "The longest frame becomes 2,075 bytes and the pending rest 2,074."
+  pub none-longer : (g : Bytes) → Good fixt g → length g ≤ 2075
+  pub attained : (g : Bytes) × Good fixt g × (length g ≡ 2075)
+  pub refused : (s : Bytes) (d : ℕ) → Reads fixt s (refusal 1 d) → length s - d ≤ 2074

@@ -94,7 +94,7 @@ pub fn body_of<'a>(f: &'a [u8]) -> &'a [u8]
     ensures { λ r. ⌜ BodyOf fixt (now (f .entry)) (now r) ⌝ }
 {
     if is_frame(f) {
-        let n = number(f, 13, 4);
+        let n = number(f, 13, 6);
         let c = n.count;
         let a = 14 + c;
         let e = f.len() - 7;

@@ -47,30 +47,27 @@ fn step_mark(s: &[u8], p: usize, mark: &[u8]) -> Step
     Step::Wrong(p + 1)
 }
 
-// "the body length, 1 to 4 digits, no leading zero, value 5 to 2,048; `|`"
+// "the body length up to 6 digits with the value still 5 to 2,048", then `|`. Where the bytes end with the digits, or before the first, a further digit can
+// still make them worth 5 or more, as long as one may follow.
 fn step_size(s: &[u8], p: usize, a: usize, mark: &[u8]) -> Step
     requires { ⌜ MarkOk (now mark) ⌝ }
     requires { ⌜ MarkSeen (ruleOf (now mark)) (now s) p a ⌝ }
     ensures { λ r. ⌜ Stepped (ruleOf (now (mark .entry))) (now (s .entry)) p (SizeSeen (ruleOf (now (mark .entry))) (now (s .entry)) p) r ⌝ }
 {
-    let n = number(s, a, 4);
+    let n = number(s, a, 6);
     let count = n.count;
     let value = n.value;
     let e = a + count;
-    if count == 0 {
-        if e == s.len() {
-            return Step::Short;
+    if e == s.len() {
+        if value <= 2048 {
+            if count < 6 {
+                return Step::Short;
+            }
+            if 5 <= value {
+                return Step::Short;
+            }
         }
         return Step::Wrong(a);
-    }
-    if s[a] == 48 {
-        return Step::Wrong(a);
-    }
-    if 2048 < value {
-        return Step::Wrong(a);
-    }
-    if e == s.len() {
-        return Step::Short;
     }
     if s[e] != 1 {
         return Step::Wrong(a);
@@ -78,10 +75,13 @@ fn step_size(s: &[u8], p: usize, a: usize, mark: &[u8]) -> Step
     if value < 5 {
         return Step::Wrong(a);
     }
+    if 2048 < value {
+        return Step::Wrong(a);
+    }
     Step::On(e + 1, value)
 }
 
-// "a body of that many bytes that begins `35=` and ends with `|`", with no second mark in it
+// "a body of that many bytes that begins `35=` and ends with `|`", with no second mark in it. None begins with the `3`, since no mark's second byte is a digit.
 fn step_fields(s: &[u8], p: usize, a: usize, n: usize, mark: &[u8]) -> Step
     requires { ⌜ MarkOk (now mark) ⌝ }
     requires { ⌜ SizeSeen (ruleOf (now mark)) (now s) p a n ⌝ }
@@ -96,7 +96,7 @@ fn step_fields(s: &[u8], p: usize, a: usize, n: usize, mark: &[u8]) -> Step
         return Step::Wrong(a);
     }
     if end - a < n {
-        let q = holds(s, a, end, mark);
+        let q = holds(s, a + 1, end, mark);
         if q < end {
             return Step::Wrong(q);
         }
@@ -106,7 +106,7 @@ fn step_fields(s: &[u8], p: usize, a: usize, n: usize, mark: &[u8]) -> Step
     if s[e - 1] != 1 {
         return Step::Wrong(a);
     }
-    let q = holds(s, a, e, mark);
+    let q = holds(s, a + 1, e, mark);
     if q < e {
         return Step::Wrong(q);
     }

@@ -32,7 +32,7 @@ pub record OnTheLine (R : Rule) : Type 0 where
   pub goes-on : {l l′ : Line} {xs : List Bytes} {fss : List (List Bytes)} → Lent R l → Hosted R l xs fss l′ → Lent R l′
   -- and there is always room once reading has answered refusal 1:
   pub some-room : (l : Line) (d : ℕ) → Lent R l → Reads R (pending l) (refusal 1 d) → 0 < room (dropped l d)
-  -- all but 2,072 bytes of the buffer
+  -- all but 2,074 bytes of the buffer
   pub much-room : (l : Line) (d : ℕ) → Within l → Reads R (pending l) (refusal 1 d) → length (l .buffer) - (longest R - 1) ≤ room (dropped l d)
 
 -- THE HOST THAT SPARES READINGS
@@ -52,7 +52,7 @@ pub record ReadingsSpared (R : Rule) : Type 0 where
 
 -- THE PENDING REST
 pub record PendingRest (R : Rule) : Type 0 where
-  -- "Under refusal 1 at most 2,072 bytes stay pending": in every line buffer, when refusal 1's bytes are dropped,
+  -- "Under refusal 1 at most 2,072 bytes stay pending", and document 02: "the pending rest 2,074": in every line buffer, when refusal 1's bytes are dropped,
   pub held : (l : Line) (d : ℕ) → Reads R (pending l) (refusal 1 d) → dropped l d .held ≤ longest R - 1
   -- and behind every piece
   pub hosted : {buffer : Bytes} {l : Line} {xs : List Bytes} {fss : List (List Bytes)} → Hosted R (line buffer 0) xs fss l → l .held ≤ longest R - 1
@@ -65,5 +65,5 @@ pub record Promise (R : Rule) : Type 0 where
 
 -- ITS NUMBER for `8=FIXT.1.1|9=`
 pub record FixtNumbers : Type 0 where
-  -- "Under refusal 1 at most 2,072 bytes stay pending.", so that a lent buffer of 4,096 bytes then has room for 2,024 bytes of the next piece
-  pub room-left : (l : Line) (d : ℕ) → Within l → length (l .buffer) ≡ 4096 → Reads fixt (pending l) (refusal 1 d) → 2024 ≤ room (dropped l d)
+  -- "the pending rest 2,074", so that a lent buffer of 4,096 bytes then has room for 2,022 bytes of the next piece
+  pub room-left : (l : Line) (d : ℕ) → Within l → length (l .buffer) ≡ 4096 → Reads fixt (pending l) (refusal 1 d) → 2022 ≤ room (dropped l d)

@@ -3,99 +3,92 @@ use denote.Ref.{now}
 use borrow.Author.Needs.{needs}
 use native.Mathlib.Omega.{arith}
 use Prim.Native.Nat.{ℕ, _+_, _-_, _≤_, _<_}
+use mathlib.Core.Path.{refl}
 use Rattle.frame.specs.Frame.{ruleOf}
-use Rattle.frame.proofs.AtSize.{size-next, size-wrong-none, size-wrong-zero, size-wrong-high, size-wrong-next, size-wrong-low, size-short-none, size-short}
+use Rattle.frame.proofs.AtSize.{size-next, size-wrong-full, size-wrong-high, size-wrong-next, size-wrong-low, size-short, size-short-more}
 use Rattle.frame.proofs.Past.{past-mark}
 use Rattle.frame.proofs.parts.step_size.Statement.{statement}
 use Rattle.frame.proofs.parts.step_size.Tie as tie
 
 returns : tie.Need-returns
 returns c =
-    let a = c .before .before .before .before .before .args in
+    let d = c .before .before .before in
+    let a = d .before .before .before .args in
     let R = ruleOf (now (a .mark)) in
     let s = now (a .s) in
-    let S = c .before .before .before .before .before .pre .1 in
-    let v = c .before .before .number .result .value in
-    let k = c .before .before .number .result .count in
-    let D = c .before .before .number .ensures in
-    size-short-none R s (a .p) (a .a) S v k D (c .before .before .before .before .before .pre .0) (c .if2 .taken) (c .before .if1 .taken) (omega arith)
+    let ok = d .before .before .before .pre .0 in
+    let S = d .before .before .before .pre .1 in
+    size-short-more R s (a .p) (a .a) S _ _ (d .number .ensures) ok (c .before .before .if1 .taken) refl (omega arith) (omega arith)
 
 returns-2 : tie.Need-returns-2
 returns-2 c =
-    let a = c .before .before .before .before .before .args in
+    let d = c .before .before .before .before in
+    let a = d .before .before .before .args in
     let R = ruleOf (now (a .mark)) in
     let s = now (a .s) in
-    let S = c .before .before .before .before .before .pre .1 in
-    let v = c .before .before .number .result .value in
-    let k = c .before .before .number .result .count in
-    let D = c .before .before .number .ensures in
-    past-mark R s (c .before .before .before .before .before .pre .0) (a .p) (a .a) S (λ w. size-wrong-none R s (a .p) (a .a) S v k D w (c .before .if1 .taken) (c .if2 .left) (omega arith))
+    let ok = d .before .before .before .pre .0 in
+    let S = d .before .before .before .pre .1 in
+    size-short R s (a .p) (a .a) S _ _ (d .number .ensures) ok (c .before .before .before .if1 .taken) refl (omega arith) (omega arith)
 
 returns-3 : tie.Need-returns-3
 returns-3 c =
-    let a = c .before .before .before .before .before .before .args in
+    let d = c .before .before .before .before in
+    let a = d .before .before .before .args in
     let R = ruleOf (now (a .mark)) in
     let s = now (a .s) in
-    let S = c .before .before .before .before .before .before .pre .1 in
-    let v = c .before .before .before .number .result .value in
-    let k = c .before .before .before .number .result .count in
-    let D = c .before .before .before .number .ensures in
-    past-mark R s (c .before .before .before .before .before .before .pre .0) (a .p) (a .a) S (λ w. size-wrong-zero R s (a .p) (a .a) S v k D w (omega arith) (c .if3 .taken))
+    let ok = d .before .before .before .pre .0 in
+    let S = d .before .before .before .pre .1 in
+    past-mark R s ok (a .p) (a .a) S (λ w. size-wrong-full R s (a .p) (a .a) S _ _ (d .number .ensures) w (omega arith) (omega arith))
 
 returns-4 : tie.Need-returns-4
 returns-4 c =
-    let a = c .before .before .before .before .before .before .before .args in
+    let d = c .before .before in
+    let a = d .before .before .before .args in
     let R = ruleOf (now (a .mark)) in
     let s = now (a .s) in
-    let S = c .before .before .before .before .before .before .before .pre .1 in
-    let v = c .before .before .before .before .number .result .value in
-    let k = c .before .before .before .before .number .result .count in
-    let D = c .before .before .before .before .number .ensures in
-    past-mark R s (c .before .before .before .before .before .before .before .pre .0) (a .p) (a .a) S (λ w. size-wrong-high R s (a .p) (a .a) S v k D w (omega arith))
+    let ok = d .before .before .before .pre .0 in
+    let S = d .before .before .before .pre .1 in
+    past-mark R s ok (a .p) (a .a) S (λ w. size-wrong-high R s (a .p) (a .a) S _ _ (d .number .ensures) w (omega arith))
 
 returns-5 : tie.Need-returns-5
 returns-5 c =
-    let a = c .before .before .before .before .before .before .before .before .args in
+    let d = c .before .before .before in
+    let a = d .before .before .before .args in
     let R = ruleOf (now (a .mark)) in
     let s = now (a .s) in
-    let S = c .before .before .before .before .before .before .before .before .pre .1 in
-    let v = c .before .before .before .before .before .number .result .value in
-    let k = c .before .before .before .before .before .number .result .count in
-    let D = c .before .before .before .before .before .number .ensures in
-    size-short R s (a .p) (a .a) S v k D (c .before .before .before .before .before .before .before .before .pre .0) (c .if5 .taken) (omega arith) (c .before .before .if3 .left) (omega arith) (omega arith)
+    let ok = d .before .before .before .pre .0 in
+    let S = d .before .before .before .pre .1 in
+    past-mark R s ok (a .p) (a .a) S (λ w. size-wrong-next R s (a .p) (a .a) S _ _ (d .number .ensures) w (omega arith) (c .if5 .taken))
 
 returns-6 : tie.Need-returns-6
 returns-6 c =
-    let a = c .before .before .before .before .before .before .before .before .before .before .args in
+    let d = c .before .before .before .before in
+    let a = d .before .before .before .args in
     let R = ruleOf (now (a .mark)) in
     let s = now (a .s) in
-    let S = c .before .before .before .before .before .before .before .before .before .before .pre .1 in
-    let v = c .before .before .before .before .before .before .before .number .result .value in
-    let k = c .before .before .before .before .before .before .before .number .result .count in
-    let D = c .before .before .before .before .before .before .before .number .ensures in
-    past-mark R s (c .before .before .before .before .before .before .before .before .before .before .pre .0) (a .p) (a .a) S (λ w. size-wrong-next R s (a .p) (a .a) S v k D w (omega arith) (c .if6 .taken))
+    let ok = d .before .before .before .pre .0 in
+    let S = d .before .before .before .pre .1 in
+    past-mark R s ok (a .p) (a .a) S (λ w. size-wrong-low R s (a .p) (a .a) S _ _ (d .number .ensures) w (omega arith) (c .before .if5 .left) (omega arith))
 
 returns-7 : tie.Need-returns-7
 returns-7 c =
-    let a = c .before .before .before .before .before .before .before .before .before .before .before .args in
+    let d = c .before .before .before .before .before in
+    let a = d .before .before .before .args in
     let R = ruleOf (now (a .mark)) in
     let s = now (a .s) in
-    let S = c .before .before .before .before .before .before .before .before .before .before .before .pre .1 in
-    let v = c .before .before .before .before .before .before .before .before .number .result .value in
-    let k = c .before .before .before .before .before .before .before .before .number .result .count in
-    let D = c .before .before .before .before .before .before .before .before .number .ensures in
-    past-mark R s (c .before .before .before .before .before .before .before .before .before .before .before .pre .0) (a .p) (a .a) S (λ w. size-wrong-low R s (a .p) (a .a) S v k D w (omega arith) (c .before .if6 .left) (omega arith))
+    let ok = d .before .before .before .pre .0 in
+    let S = d .before .before .before .pre .1 in
+    past-mark R s ok (a .p) (a .a) S (λ w. size-wrong-high R s (a .p) (a .a) S _ _ (d .number .ensures) w (omega arith))
 
 returns-8 : tie.Need-returns-8
 returns-8 c =
-    let a = c .before .before .before .before .before .before .before .before .before .before .before .args in
+    let d = c .before .before .before .before .before in
+    let a = d .before .before .before .args in
     let R = ruleOf (now (a .mark)) in
     let s = now (a .s) in
-    let S = c .before .before .before .before .before .before .before .before .before .before .before .pre .1 in
-    let v = c .before .before .before .before .before .before .before .before .number .result .value in
-    let k = c .before .before .before .before .before .before .before .before .number .result .count in
-    let D = c .before .before .before .before .before .before .before .before .number .ensures in
-    size-next R s (a .p) (a .a) S v k D (omega arith) (c .before .before .before .before .before .if3 .left) (omega arith) (omega arith) (omega arith) (c .before .if6 .left)
+    let ok = d .before .before .before .pre .0 in
+    let S = d .before .before .before .pre .1 in
+    size-next R s (a .p) (a .a) S _ _ (d .number .ensures) refl (omega arith) (omega arith) (omega arith) (c .before .before .if5 .left)
 
 pub step-size-spec : {M : Type 1} → statement M
 step-size-spec =
@@ -105,11 +98,10 @@ step-size-spec =
     (λ c. search needs)
     returns
     returns-2
-    (λ c. search needs)
     returns-3
     returns-4
-    returns-5
     (λ c. search needs)
+    returns-5
     returns-6
     returns-7
     (λ c. search needs)
