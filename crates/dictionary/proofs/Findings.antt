@@ -8,9 +8,9 @@ use mathlib.Core.Option.{Option, none, some}
 use lib.Dec.{eqb, leb}
 use lib.ListN.{length}
 use borrow.Author.Tests.{leb-true, eqb-true}
-use Rattle.bytes.specs.Bytes.{Bytes, byte, any, all, has, value}
+use Rattle.bytes.specs.Bytes.{Bytes, byte, any, all, has, value, no-zeros}
 use Rattle.bytes.proofs.Tests.{both}
-use Rattle.bytes.proofs.Numerals.{numeral-means, value-below}
+use Rattle.bytes.proofs.Numerals.{written-means, value-below}
 use Rattle.fields.specs.Field.{Part, field, malformed, partOf, isTag, before, behind, parts, isBody}
 use Rattle.kinds.specs.Kind.{formed, allowed}
 use Rattle.table.specs.declared.MsgType.{MsgType}
@@ -113,7 +113,7 @@ low-part p = go (has p (byte "=")) (isTag (before (byte "=") p)) refl
   where
     go : (a b : Bool) → isTag (before (byte "=") p) ≡ b → LowPart (cond (a && b) (field (value (before (byte "=") p)) (behind (byte "=") p)) malformed)
     go true true e =
-        let N = numeral-means 5 (before (byte "=") p) e in
+        let N = written-means (no-zeros 5) (before (byte "=") p) e in
         let l : value (before (byte "=") p) < 10 ^ 5 = value-below 5 (before (byte "=") p) (N .whole) (N .few) in
         omega arith
     go true false e = tt

@@ -218,7 +218,7 @@ module _ {body : Bytes} {at : ℕ} {item : Item} (C : Cut body at item) {st : St
           onto-joined = rw (is-first (A .goes) ∙ f) at onto
 
           opening : Stood (opened (groupsOf AE) (e .tag) (valueIn body start end)) [] inner
-          opening = P .opens AE [] (rule6-silent AE (e .tag) (sym (quiet .silent6))) (quiet .silent9)
+          opening = P .opens AE [] (rule6-silent AE (e .tag) (sym (quiet .silent6))) (quiet .silent9, quiet .silent10)
 
           pub joins : inner .group ≡ 0 → (i : Item) → Along body s g gs from (set met p true) st (To next i)
           joins z i = record { later = joins-to; goes = joined-goes; is = rw (stood-none opening z) at onto-joined }

@@ -1,27 +1,28 @@
 -- The state behind a field outside groups: the header that may be over, and the group that a count field opens.
-use Prim.Native.Nat.{ℕ}
+use Prim.Native.Nat.{ℕ, _≤_, _<_}
 use native.Mathlib.Omega.{arith}
-use borrow.Author.Tests.{eqb-true, not-true}
+use borrow.Author.Tests.{eqb-true, leb-true, not-true}
 use mathlib.Core.Path.{_≡_, refl, ap, sym, _∙_, subst}
 use mathlib.Core.List.{List, [], _∷_, _++_, append-assoc}
 use mathlib.Core.Bool.{Bool, true, false, cond, not, _||_, false≢true}
 use mathlib.Core.Logic.{inl, inr}
 use lib.Dec.{eqb}
 use Rattle.bytes.specs.Bytes.{Bytes, any, all, value}
-use Rattle.kinds.specs.Kind.{Kind, text, number_to_, Y/N, time, day, decimal, among, formed, isNumber}
+use Rattle.kinds.specs.Kind.{Kind, text, number_to_, Y/N, time, day, decimal, among, formed, allowed, isNumber}
 use Rattle.kinds.specs.Judged.{meaning, numberOf}
 use Rattle.kinds.specs.declared.Number.{Number}
 use Rattle.kinds.specs.declared.Number.the-variants.{Is, Bad}
 use Rattle.table.specs.Dictionary.{Row, Group, №453, №580, №552, groups, header, fields, listed, kindIn, groupsAmong, allMembers, groupsOf, rowsOf}
-use Rattle.dictionary.specs.Verdict.{Open, _when_, opened, rule9}
+use Rattle.dictionary.specs.Verdict.{Open, _when_, opened, rule9, rule10}
 use Rattle.table.specs.code.Held.{bitOf, isNumeric, kindFor, Three, Right}
-use Rattle.dictionary.specs.code.Held.{Flat, away, within, Over, Counted, Noted, outsideOf}
+use Rattle.dictionary.specs.code.Held.{Flat, away, within, Over, Counted, RightValue, Noted, outsideOf}
 use Rattle.dictionary.specs.code.Nested.{Opened}
 use Rattle.table.specs.declared.MsgType.{MsgType}
 use Rattle.dictionary.specs.declared.Says.the-variants.{Nothing, Reason}
 use Rattle.dictionary.specs.declared.groups.State.{State}
 use Rattle.table.specs.declared.lines.Entry.{Entry}
 use Rattle.bytes.proofs.Tests.{any-append, both}
+use Rattle.bytes.proofs.Numerals.{within-is}
 use Rattle.table.proofs.Groups.{closed-down}
 use Rattle.dictionary.proofs.FourToEight.{listed-rows}
 
@@ -36,11 +37,15 @@ module _ {e : Entry} {over b : Bool} (R : Right e) (p : b ≡ bitOf (e .marks) 2
 -- the count
 pub counted-is : (v : Bytes) (r : Number) (n : ℕ) → r ≡ numberOf v → r ≡ Is n → Counted v n
 unfolding numberOf
-counted-is v r n p q = record { is = λ h. let e : Is n ≡ Is (value v) = sym q ∙ p ∙ rw h in cc }
+counted-is v r n p q = record { is = λ h k. let e : Is n ≡ Is (value v) = sym q ∙ p ∙ rw h in cc }
+
+pub counted-large : (v : Bytes) (r : Number) (n : ℕ) → r ≡ numberOf v → r ≡ Is n → 999_999_999 < n → Counted v 0
+unfolding numberOf
+counted-large v r n p q l = record { is = λ h k. let e : Is n ≡ Is (value v) = sym q ∙ p ∙ rw h in let z : n ≡ value v = cc in absurd (omega arith) }
 
 pub counted-bad : (v : Bytes) (r : Number) (n : ℕ) → r ≡ numberOf v → r ≡ Bad → Counted v n
 unfolding numberOf
-counted-bad v r n p q = record { is = λ h. let e : Bad ≡ Is (value v) = sym q ∙ p ∙ rw h in let z : _≡_ {A = ℕ} 0 1 = cc in absurd (omega arith) }
+counted-bad v r n p q = record { is = λ h k. let e : Bad ≡ Is (value v) = sym q ∙ p ∙ rw h in let z : _≡_ {A = ℕ} 0 1 = cc in absurd (omega arith) }
 
 -- the groups of a message that lists the count tag are those of the document with that count tag
 opened-among : (gs : List Group) (rows : List Row) (t : ℕ) (v : Bytes) → listed rows t ≡ true → opened (groupsAmong gs rows) t v ≡ opened gs t v
@@ -130,13 +135,38 @@ numeric day v h = absurd (false≢true h)
 numeric decimal v h = absurd (false≢true h)
 numeric (among l) v h = absurd (false≢true h)
 
-rule9-silent : (m : MsgType) (t : ℕ) (v : Bytes) → rule9 m t v ≡ Nothing → formed (kindIn (rowsOf m) t) v ≡ true
-unfolding rule9
-rule9-silent m t v = go (formed (kindIn (rowsOf m) t) v)
-  where
-    go : (b : Bool) → (Reason 6 t when not b) ≡ Nothing → b ≡ true
-    go true h = refl
-    go false h = let z : _≡_ {A = ℕ} 0 1 = cc in absurd (omega arith)
+numeric-small : (k : Kind) (v : Bytes) → isNumeric k ≡ true → allowed k v ≡ true → value v ≤ 999_999_999
+unfolding allowed
+numeric-small (text n) v h a = absurd (false≢true h)
+numeric-small (number x to y) v h a = omega (arith, within-is x y (value v) a .1, leb-true y 999_999_999 h)
+numeric-small Y/N v h a = absurd (false≢true h)
+numeric-small time v h a = absurd (false≢true h)
+numeric-small day v h a = absurd (false≢true h)
+numeric-small decimal v h a = absurd (false≢true h)
+numeric-small (among l) v h a = absurd (false≢true h)
+
+silent-when : (b : Bool) (n t : ℕ) → (Reason n t when not b) ≡ Nothing → b ≡ true
+silent-when true n t h = refl
+silent-when false n t h = let z : _≡_ {A = ℕ} 0 1 = cc in absurd (omega arith)
+
+-- a count of which nothing is said
+module _ {e : Entry} {v : Bytes} {n : ℕ} (R : Right e) (c : bitOf (e .marks) 30 ≡ true) (C : Counted v n) (m : MsgType) (l : listed (rowsOf m) (e .tag) ≡ true) (s : RightValue m (e .tag) v) where
+  k : Kind
+  k = meaning (kindFor m (e .kind))
+
+  formed-here : formed k v ≡ true
+  unfolding rule9 k
+  formed-here = ap (λ (x : Kind). formed x v) (R .kind-in m l) ∙ silent-when _ 6 (e .tag) (s .0)
+
+  allowed-here : allowed k v ≡ true
+  unfolding rule10 k
+  allowed-here = ap (λ (x : Kind). allowed x v) (R .kind-in m l) ∙ silent-when _ 5 (e .tag) (s .1)
+
+  count-is : n ≡ value v
+  unfolding k
+  count-is =
+      let i = R .counts-number m c in
+      C .is (sym (numeric k v i) ∙ formed-here) (numeric-small k v i allowed-here)
 
 module _ {e : Entry} {st : State} {v : Bytes} {over b : Bool} (R : Right e) (O : Over (st .over) (e .tag) over) (p : b ≡ bitOf (e .marks) 30) where
   pub noted-count : {n : ℕ} → b ≡ true → Counted v n → Noted st (e .tag) v (record { over = over; group = e .tag; count = n; begun = 0 })
@@ -149,9 +179,8 @@ module _ {e : Entry} {st : State} {v : Bytes} {over b : Bool} (R : Right e) (O :
         let g = w .0 in
         let f = own-field m (e .tag) (ap (listed header) (w .1 .1) ∙ no-header g (w .1 .0)) l in
         let k : listed (rowsOf m) (e .tag) ≡ true = rw (listed-rows m (e .tag), l) in
-        let i : isNumber v ≡ true = sym (numeric (meaning (kindFor m (e .kind))) v (R .counts-number m (sym p ∙ q))) ∙ ap (λ (x : Kind). formed x v) (R .kind-in m k) ∙ rule9-silent m (e .tag) v s in
         rw (opens-here m (e .tag) v (own-listed m (e .tag) f), w .1 .2)
-        (within (record { three = w .1 .0; counter = w .1 .1; count = C .is i; begun = refl; last = λ z. absurd (false≢true (sym z)) }));
+        (within (record { three = w .1 .0; counter = w .1 .1; count = count-is R (sym p ∙ q) C m k s; begun = refl; last = λ z. absurd (false≢true (sym z)) }));
   }
 
   pub noted-other : {r : State} → b ≡ false → r ≡ outsideOf over → Noted st (e .tag) v r
@@ -170,9 +199,8 @@ module _ {e : Entry} {v : Bytes} {b : Bool} (R : Right e) (p : b ≡ bitOf (e .m
     opens = λ m met l s.
         let w = opens-three (e .tag) v (sym (R .counts) ∙ sym p ∙ q) in
         let f = own-row m (e .tag) (ap (listed header) (w .1 .1) ∙ no-header (w .0) (w .1 .0)) l in
-        let i : isNumber v ≡ true = sym (numeric (meaning (kindFor m (e .kind))) v (R .counts-number m (sym p ∙ q))) ∙ ap (λ (x : Kind). formed x v) (R .kind-in m l) ∙ rule9-silent m (e .tag) v s in
         rw (opens-here m (e .tag) v f, w .1 .2)
-        (within (record { three = w .1 .0; counter = w .1 .1; count = C .is i; begun = refl; last = λ z. absurd (false≢true (sym z)) }));
+        (within (record { three = w .1 .0; counter = w .1 .1; count = count-is R (sym p ∙ q) C m l s; begun = refl; last = λ z. absurd (false≢true (sym z)) }));
   }
 
   pub opened-other : {r : State} → b ≡ false → r ≡ outsideOf true → Opened (e .tag) v r

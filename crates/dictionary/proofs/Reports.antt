@@ -2,7 +2,7 @@
 use mathlib.Core.Path.{_≡_, refl}
 use mathlib.Core.List.{List, [], _∷_, _++_}
 use Prim.Native.String.{String}
-use Rattle.bytes.specs.Bytes.{Bytes, fix, numeral, decimal}
+use Rattle.bytes.specs.Bytes.{Bytes, fix, writes, decimal}
 use Rattle.fields.specs.Field.{partOf, firstField, isBody}
 use Rattle.decimals.specs.Decimal.{isDecimal}
 use Rattle.dates.specs.Date.{goodDay, goodClock}
@@ -42,7 +42,7 @@ pub nested : Told (
     ("", Finding 1 552) ∷
     []
     )
-unfolding verdict said taken after rules4to10 rule1 rule2 rule3 rule4 rule5 rule6 rule7 rule8 rule9 rule10 left incomplete closing skipped №453 №580 №552 header code35 fields typeOf administrative groupsOf member rowsOf inDictionary partOf firstField isBody isDecimal kindOf isNumber formed allowed goodDay goodClock numeral decimal
+unfolding verdict said taken after rules4to10 rule1 rule2 rule3 rule4 rule5 rule6 rule7 rule8 rule9 rule10 left incomplete closing skipped №453 №580 №552 header code35 fields typeOf administrative groupsOf member rowsOf inDictionary partOf firstField isBody isDecimal kindOf isNumber formed allowed goodDay goodClock writes decimal
 nested = (refl, (refl, (refl, (refl, (refl, (refl, (refl, (refl, (refl, (refl, (refl, (refl, (refl, (refl, (refl, (refl, (refl, (refl, tt))))))))))))))))))
 
 -- "walked as AD and F are": an unknown tag, another message's tag, a header tag and a tag again, in a group and behind it
@@ -65,5 +65,5 @@ pub others : Told (
     ("552=1|54=1|8=x|", Finding 13 8) ∷
     []
     )
-unfolding verdict said taken after rules4to10 rule1 rule2 rule3 rule4 rule5 rule6 rule7 rule8 rule9 rule10 left incomplete closing skipped №453 №580 №552 header code35 fields typeOf administrative groupsOf member rowsOf inDictionary partOf firstField isBody isDecimal kindOf isNumber formed allowed goodDay goodClock numeral decimal
+unfolding verdict said taken after rules4to10 rule1 rule2 rule3 rule4 rule5 rule6 rule7 rule8 rule9 rule10 left incomplete closing skipped №453 №580 №552 header code35 fields typeOf administrative groupsOf member rowsOf inDictionary partOf firstField isBody isDecimal kindOf isNumber formed allowed goodDay goodClock writes decimal
 others = (refl, (refl, (refl, (refl, (refl, (refl, (refl, (refl, (refl, (refl, (refl, (refl, (refl, (refl, (refl, (refl, tt))))))))))))))))

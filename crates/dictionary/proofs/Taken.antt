@@ -12,7 +12,7 @@ use borrow.Author.Tests.{eq-eqb}
 use Rattle.bytes.specs.Bytes.{Bytes, any, has, within, decimal}
 use Rattle.bytes.proofs.Numerals.{within-is}
 use Rattle.bytes.proofs.Tests.{or-last}
-use Rattle.bytes.proofs.Decimals.{decimal-numeral, decimal-worth}
+use Rattle.bytes.proofs.Decimals.{decimal-written, decimal-worth}
 use Rattle.fields.specs.Field.{partOf, field, parts, isBody}
 use Rattle.fields.proofs.Items.{field-part}
 use Rattle.table.specs.Dictionary.{Row, header, fields, administrative, listed, groupsOf, member, rowsOf, frameTag, inDictionary}
@@ -42,7 +42,7 @@ pub record Taken (m : MsgType) (seen : List ℕ) (t : ℕ) (v : Bytes) : Type 0 
 pub part-written : (t : ℕ) (v : Bytes) → within 1 99_999 t ≡ true → partOf (decimal t ++ (61 ∷ v)) ≡ field t v
 part-written t v h =
     let w = within-is 1 99_999 t h in
-    let N = decimal-numeral 4 t (omega arith) (omega arith) in
+    let N = decimal-written 4 t (omega arith) (omega arith) in
     field-part (decimal t) (N .whole) v N ∙ ap (λ (n : ℕ). field n v) (decimal-worth t)
 
 -- in an administrative message, which has no groups

@@ -105,7 +105,7 @@ module _ {body : Bytes} {seen : List Bool} {over : Bool} {at : ℕ} {item : Item
       module _ {w : Reached} (B : Behind body (e .tag) (take (end - start) (drop start body)) next w) where
         came : onward (past (e .tag ∷ A .met) []) body w ≡ walk AE nothingYet (parts body)
         unfolding v
-        came = B .is (e .tag ∷ A .met) (rule6-silent AE (e .tag) (sym (heard .silent6))) (heard .silent9) ∙ sym rest-taken
+        came = B .is (e .tag ∷ A .met) (rule6-silent AE (e .tag) (sym (heard .silent6))) (heard .silent9, heard .silent10) ∙ sym rest-taken
 
         pub behind-faults : {a t : ℕ} → w ≡ Found a t → Finding a t ≡ walk AE nothingYet (parts body)
         behind-faults h = ap (onward (past (e .tag ∷ A .met) []) body) (sym h) ∙ came

@@ -101,7 +101,7 @@ module _ {e : Entry} {p : ℕ} {st : State} {v : Bytes} {seen met : List Bool} {
         (record {
           marked = mark-more L k (S .marked);
           over = N .over .is (w .seen) (S .over);
-          stood = N .opens m met (outside-listed m (e .tag) (x .silent6) (rw o at (x .silent8))) (x .silent9);
+          stood = N .opens m met (outside-listed m (e .tag) (x .silent6) (rw o at (x .silent8))) (x .silent9, x .silent10);
         });
     few = omega (arith, N .none);
     seen-long = length-set seen p true ∙ k;

@@ -86,14 +86,17 @@ pub fn rule_1(st: State, met: &[bool; 128], group: u32, first: bool) -> Says
     Says::Nothing
 }
 
-// The number that the value of a count field writes.
+// The number that the value of a count field writes; a larger one than any count may be is none.
 pub fn count_of(v: &[u8]) -> u32
     ensures { λ r. ⌜ Counted (now (v .entry)) r ⌝ }
 {
-    match kinds::read_number(v) {
-        kinds::Number::Is(n) => n,
-        kinds::Number::Bad => 0,
+    let kinds::Number::Is(n) = kinds::read_number(v) else {
+        return 0;
+    };
+    if 999999999 < n {
+        return 0;
     }
+    n as u32
 }
 
 // A tag outside the header was met, this one included.

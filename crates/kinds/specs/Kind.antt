@@ -7,7 +7,7 @@ use Prim.Native.Nat.{ℕ}
 use mathlib.Core.List.{List, [], _∷_}
 use mathlib.Core.Bool.{Bool, true, cond, _&&_, _||_}
 use lib.ListN.{length}
-use Rattle.bytes.specs.Bytes.{Bytes, fix, any, has, same, within, value, numeral}
+use Rattle.bytes.specs.Bytes.{Bytes, fix, any, has, same, within, value, with-zeros, writes}
 use Rattle.dates.specs.Date.{isTime, isDay, goodDay, goodClock}
 use Rattle.decimals.specs.Decimal.{isDecimal, wholeOf, placesOf, inRange}
 
@@ -45,9 +45,9 @@ kindBy (l ∷ ls) t = cond (has (l .0) t) (l .1) (kindBy ls t)
 unfoldable pub kindOf : ℕ → Kind
 kindOf t = kindBy kinds t
 
--- "Numbers are 1 to 9 digits with no leading zero ("0" itself stands)."
+-- "Field numbers (31 and 32 apart) may have up to 12 digits with their value ranges unchanged" (document 02, Q-3), zeros in front among them.
 unfoldable pub isNumber : Bytes → Bool
-isNumber v = numeral 9 v || same v (fix "0")
+isNumber v = writes (with-zeros 12) v
 
 -- The form of a value ("numbers, Y/N, the shape of dates").
 unfoldable pub formed : Kind → Bytes → Bool

@@ -34,9 +34,9 @@ pub enum Choice {
     Roles,
 }
 
-// A number of 1 to 9 digits, or other bytes.
+// A number of 1 to 12 digits, or other bytes.
 pub enum Number {
-    Is(u32),
+    Is(u64),
     Bad,
 }
 
@@ -57,7 +57,7 @@ pub fn same(a: &[u8], b: &[u8]) -> bool
     true
 }
 
-// The number that the bytes write: 1 to 9 digits with no leading zero, "0" itself stands.
+// The number that the bytes write: 1 to 12 digits, zeros in front among them.
 pub fn read_number(v: &[u8]) -> Number
     ensures { λ r. ⌜ r ≡ numberOf (now (v .entry)) ⌝ }
 {
@@ -65,18 +65,11 @@ pub fn read_number(v: &[u8]) -> Number
     if n == 0 {
         return Number::Bad;
     }
-    let d = digits(v, 0, 9);
-    let value = d.value as u32;
+    let d = digits(v, 0, 12);
     if d.count != n {
         return Number::Bad;
     }
-    if v[0] != 48 {
-        return Number::Is(value);
-    }
-    if n == 1 {
-        return Number::Is(0);
-    }
-    Number::Bad
+    Number::Is(d.value as u64)
 }
 
 // The finding on a value of a kind: 6 for its form, 5 for its value, 0 for none.
@@ -114,10 +107,10 @@ pub fn judge_number(v: &[u8], least: u32, most: u32) -> u32
     let Number::Is(n) = read else {
         return 6;
     };
-    if n < least {
+    if n < (least as u64) {
         return 5;
     }
-    if most < n {
+    if (most as u64) < n {
         return 5;
     }
     0

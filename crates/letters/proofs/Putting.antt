@@ -21,7 +21,8 @@ use Rattle.message.proofs.Writes.{chain, nothing}
 use Rattle.replies.specs.Replied.{replyRoom, sendable, nineDigits, echoable, Replied}
 use borrow.Author.Tests.{le-leb}
 use Rattle.moves.specs.Session.{fresh}
-use Rattle.moves.specs.Seen.{repeated}
+use Rattle.moves.specs.Words.{_otherwise_}
+use Rattle.moves.specs.Seen.{repeated, numberIn}
 use Rattle.moves.specs.Moves as Words
 use Rattle.moves.specs.Moves.{letter, #}
 use Rattle.moves.specs.code.Plan.{lettersOf, behind, isNothing, Ready}
@@ -31,20 +32,20 @@ use Rattle.moves.specs.declared.record.Record.{Record}
 use Rattle.moves.specs.declared.plan.Letter.{Letter}
 use Rattle.moves.specs.declared.plan.Letter.the-variants.{Nothing, Echo, Logon, Ask, Reject, RejectType, Logout, Test}
 use Rattle.letters.proofs.Replying.{was-put}
-use Rattle.letters.proofs.Carried.{logon-seconds}
 
 -- A LOGON with 98=0, a number as 108 and 1137=9 is that of the replies
-pub plain-logon : (ours peers : Bytes) (n : ℕ) (stamp : Bytes) (k : ℕ) (reset : Value) → letter ours peers n stamp (Words.Logon (bytes (fix "0")) (bytes (decimal k)) (bytes (fix "9")) reset) ≡ Reply.logon ours peers n stamp k reset
+pub plain-logon : (ours peers : Bytes) (n : ℕ) (stamp : Bytes) (k : ℕ) (reset : Value) → letter ours peers n stamp (Words.Logon (bytes (fix "0")) k (bytes (fix "9")) reset) ≡ Reply.logon ours peers n stamp k reset
 unfolding written order own fields code35 Reply.logon
 plain-logon ours peers n stamp k reset = refl
 
 -- OUR LOGON repeats the peer's 98, 108 and 1137
-pub repeats : (ours peers stamp body : Bytes) (n : ℕ) (reset : Value) → FitLogon (repeated (firstField 98 body)) (repeated (firstField 108 body)) (repeated (firstField 1137 body)) reset
-    → letter ours peers n stamp (Words.Logon (repeated (firstField 98 body)) (repeated (firstField 108 body)) (repeated (firstField 1137 body)) reset) ≡ logonOf ours peers n stamp body reset
-unfolding #
-repeats ours peers stamp body n reset F =
-    rw (F .is98, F .is108, F .is1137)
-    (plain-logon ours peers n stamp (F .interval) reset ∙ ap (λ (k : ℕ). Reply.logon ours peers n stamp k reset) (sym (logon-seconds (fresh [] []) body F)))
+module _ (ours peers stamp body : Bytes) (n : ℕ) (reset : Value) where
+  abbrev seconds : ℕ
+  seconds = numberIn 0 999_999_999 (firstField 108 body) otherwise 0
+
+  pub repeats : FitLogon (repeated (firstField 98 body)) seconds (repeated (firstField 1137 body)) reset
+      → letter ours peers n stamp (Words.Logon (repeated (firstField 98 body)) seconds (repeated (firstField 1137 body)) reset) ≡ logonOf ours peers n stamp body reset
+  repeats F = rw (F .is98, F .is1137) (plain-logon ours peers n stamp seconds reset)
 
 -- LISTS OF MESSAGES
 pub bytes-append : (ours peers stamp : Bytes) (xs ys : List (ℕ × Words.Letter)) → bytesOf ours peers stamp (xs ++ ys) ≡ bytesOf ours peers stamp xs ++ bytesOf ours peers stamp ys

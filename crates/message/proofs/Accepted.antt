@@ -8,10 +8,10 @@ use mathlib.Core.Bool.{Bool, true, false, cond, not, _||_, false≢true}
 use lib.Dec.{eqb, leb}
 use lib.ListN.{length}
 use borrow.Author.Tests.{not-false}
-use Rattle.bytes.specs.Bytes.{Bytes, fix, any, has, same, within, digit, numeral, decimal}
+use Rattle.bytes.specs.Bytes.{Bytes, fix, any, has, same, within, digit, value, with-zeros, decimal}
 use Rattle.bytes.proofs.Tests.{both, neither}
-use Rattle.bytes.proofs.Numerals.{within-is, numeral-true, numeral-means}
-use Rattle.bytes.proofs.Decimals.{decimal-numeral, decimal-worth}
+use Rattle.bytes.proofs.Numerals.{within-is, written-true, written-means}
+use Rattle.bytes.proofs.Decimals.{decimal-read, decimal-worth, no-longer}
 use Rattle.dates.specs.Date.{like, shapes}
 use Rattle.kinds.specs.Kind.{Kind, text, number_to_, Y/N, time, day, among, formed, allowed, isNumber}
 use Rattle.kinds.specs.Kind as Kinds
@@ -19,7 +19,7 @@ use Rattle.kinds.proofs.Values.{same-true}
 use Rattle.table.specs.declared.MsgType.{MsgType}
 use Rattle.table.specs.Dictionary.{rowsOf, listed, kindIn}
 use Rattle.message.specs.Unfit.{rejected}
-use Rattle.message.specs.code.Writable.{longest, most}
+use Rattle.message.specs.code.Writable.{longest, most, asRead, asWritten}
 use Rattle.message.proofs.Pointed.{decimal-length}
 
 pub record Accepted (m : MsgType) (t : ℕ) (v : Bytes) : Type 0 where
@@ -59,20 +59,16 @@ any-length f n (w ∷ l) g h = go (f w) refl h (any-length f n l g)
     go true e k r = omega (arith, g w e)
     go false e k r = omega (arith, r k)
 
-number-length : (v : Bytes) → isNumber v ≡ true → length v ≤ 9
+number-length : (v : Bytes) → isNumber v ≡ true → length v ≤ 12
 unfolding isNumber
-number-length v h = go (numeral 9 v) refl h
-  where
-    go : (b : Bool) → numeral 9 v ≡ b → (b || same v (fix "0")) ≡ true → length v ≤ 9
-    go true e k = numeral-means 9 v e .few
-    go false e k = omega (arith, ap length (same-true v (fix "0") k))
+number-length v h = written-means (with-zeros 12) v h .few
 
 flag-length : (v : Bytes) (b c : Bool) → (same v (fix "Y")) ≡ b → (same v (fix "N")) ≡ c → (b || c) ≡ true → length v ≤ 1
 flag-length v true c e f h = omega (arith, ap length (same-true v (fix "Y") e))
 flag-length v false true e f h = omega (arith, ap length (same-true v (fix "N") f))
 flag-length v false false e f h = absurd (false≢true h)
 
-pub kind-length : (k : Kind) (v : Bytes) → formed k v ≡ true → allowed k v ≡ true → length v ≤ most k
+pub kind-length : (k : Kind) (v : Bytes) → formed k v ≡ true → allowed k v ≡ true → length v ≤ most asRead k
 unfolding formed allowed
 kind-length (text n) v f a = within-is 1 n (length v) a .1
 kind-length (number x to y) v f a = number-length v f
@@ -82,11 +78,21 @@ kind-length day v f a = omega (arith, like-length (fix "YYYYMMDD") v f)
 kind-length Kinds.decimal v f a = decimal-length v f a
 kind-length (among l) v f a = any-length (λ w. same v w) (length v) l (λ w e. ap length (same-true v w e)) a
 
+-- a number of the kind, as it is written
+pub written-length : (k : Kind) (n : ℕ) → formed k (decimal n) ≡ true → allowed k (decimal n) ≡ true → length (decimal n) ≤ most asWritten k
+unfolding allowed
+written-length (text l) n f a = kind-length (text l) (decimal n) f a
+written-length (number x to y) n f a = no-longer n y (omega (arith, within-is x y (value (decimal n)) a .1, decimal-worth n))
+written-length Y/N n f a = kind-length Y/N (decimal n) f a
+written-length time n f a = kind-length time (decimal n) f a
+written-length day n f a = kind-length day (decimal n) f a
+written-length Kinds.decimal n f a = kind-length Kinds.decimal (decimal n) f a
+written-length (among l) n f a = kind-length (among l) (decimal n) f a
+
 -- A NUMBER of a kind from a to b, written in digits, is accepted if it lies between
-pub number-formed : (n : ℕ) → n < 10 ^ 9 → isNumber (decimal n) ≡ true
-unfolding isNumber decimal numeral
-number-formed zero h = refl
-number-formed (suc n) h = rw (numeral-true 9 (decimal (suc n)) (decimal-numeral 8 (suc n) (omega arith) h))
+pub number-formed : (n : ℕ) → n < 10 ^ 12 → isNumber (decimal n) ≡ true
+unfolding isNumber
+number-formed n h = written-true (with-zeros 12) (decimal n) (decimal-read 11 n h)
 
 pub number-allowed : (a b n : ℕ) → allowed (number a to b) (decimal n) ≡ within a b n
 unfolding allowed

@@ -13,7 +13,7 @@ use borrow.Author.Tests.{eqb-true, eqb-false, ne-eqb}
 use Rattle.bytes.specs.Bytes.{Bytes, fix, has, same, starts, value, decimal}
 use Rattle.bytes.proofs.Tests.{neither, any-append}
 use Rattle.bytes.proofs.Numerals.{Digits, row-digits}
-use Rattle.bytes.proofs.Decimals.{decimal-numeral, decimal-worth}
+use Rattle.bytes.proofs.Decimals.{decimal-written, decimal-worth}
 use Rattle.fields.specs.Field.{parts, firstOfParts, firstField}
 use Rattle.kinds.proofs.Values.{same-true, same-refl}
 use Rattle.message.specs.Message.{Field, _is_, shown, tagged, row}
@@ -26,7 +26,7 @@ below-power (suc n) = omega (arith, pow-suc 10 (suc n), below-power n)
 pub decimal-digits : (n : ℕ) → Digits (decimal n)
 unfolding decimal
 decimal-digits zero = ((omega arith, omega arith), tt)
-decimal-digits (suc n) = row-digits (decimal (suc n)) (decimal-numeral (suc n) (suc n) (omega arith) (below-power (suc n)) .whole)
+decimal-digits (suc n) = row-digits (decimal (suc n)) (decimal-written (suc n) (suc n) (omega arith) (below-power (suc n)) .whole)
 
 -- two numbers have the same digits only if they are the same
 pub same-decimal : (t u : ℕ) → same (decimal t) (decimal u) ≡ eqb t u

@@ -12,8 +12,8 @@ use Rattle.bytes.proofs.Lists.{at-byte}
 use Rattle.bytes.proofs.Numerals.{Digits}
 use Rattle.frame.proofs.Make.{good-make}
 use Rattle.frame.proofs.Marks.{fixt-ok}
-use Rattle.bytes.proofs.Numerals.{numeral-true}
-use Rattle.bytes.proofs.Decimals.{decimal-numeral, decimal-worth}
+use Rattle.bytes.proofs.Numerals.{written-true}
+use Rattle.bytes.proofs.Decimals.{decimal-read, decimal-worth}
 use Rattle.message.specs.Message.{Field, _is_, shown, tagged, row, framed}
 use Rattle.message.proofs.Cutting.{decimal-digits, part-field}
 use Rattle.message.proofs.Rows.{Plain, Fit, FitOne, plain-part}
@@ -99,7 +99,7 @@ pub length-good : (n : ℕ) → 5 ≤ n → n ≤ 2048 → Length fixt (decimal 
 unfolding fixt
 length-good n l h =
     record {
-      written = numeral-true 4 (decimal n) (decimal-numeral 3 n (omega arith) (omega arith));
+      written = written-true (fixt .size) (decimal n) (decimal-read 5 n (omega arith));
       low = subst (λ (k : ℕ). 5 ≤ k) (sym (decimal-worth n)) l;
       high = subst (λ (k : ℕ). k ≤ 2048) (sym (decimal-worth n)) h;
     }

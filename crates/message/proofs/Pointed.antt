@@ -50,7 +50,7 @@ no-zero (x ∷ l) r n s e = false≢true (sym s ∙ rw (eq-eqb 48 x (sym e)))
 numeral-short : (l r : Bytes) → (length l ≡ 0 → ⊥) → starts (fix "0") l ≡ false → all digit (l ++ r) ≡ true → value (l ++ r) < 10 ^ 15 → length (l ++ r) ≤ 15
 numeral-short l r n s d h =
     few-enough (length (l ++ r)) 15 (l ++ r)
-    (record { some-digit = omega (arith, n, length-append l r); few = omega arith; whole = d; no-zero = no-zero l r n s }) h
+    (record { some-digit = omega (arith, n, length-append l r); few = omega arith; whole = d; no-zero = λ _. no-zero l r n s }) h
 
 pub decimal-length : (v : Bytes) → isDecimal v ≡ true → inRange (wholeOf v) (length (placesOf v)) ≡ true → length v ≤ 16
 unfolding isDecimal

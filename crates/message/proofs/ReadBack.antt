@@ -27,7 +27,7 @@ use Rattle.message.proofs.Accepted.{accepted}
 use Rattle.message.proofs.Seven.{known, withType, message-is, type-fits, type-read}
 use Rattle.dictionary.proofs.Taken.{verdict-walks}
 use Rattle.message.proofs.Clean.{message-clean}
-use Rattle.message.proofs.Sizes.{Fine, fine-first, fine-later, type-byte, body-length, body-longest}
+use Rattle.message.proofs.Sizes.{Fine, AsNumbers, fine-first, fine-later, type-byte, body-length, body-longest}
 
 -- the bytes of a value are bytes
 abbrev pub OfBytes : Option Bytes → Type 0
@@ -77,7 +77,7 @@ plain-bytes (x ∷ l) h (suc i) = plain-bytes l (h .1) i
 pub decimal-bytes : (n : ℕ) → Byted (decimal n)
 decimal-bytes n = plain-bytes (decimal n) (plain-decimal n)
 
-module _ (m : MsgType) (a : administrative m ≡ true) (vs : ℕ → Value) (fine : Fine m vs (order m)) (of-bytes : (t : ℕ) → OfBytes (shown (vs t))) where
+module _ (m : MsgType) (a : administrative m ≡ true) (vs : ℕ → Value) (fine : Fine m vs (order m)) (numbers : AsNumbers m vs) (of-bytes : (t : ℕ) → OfBytes (shown (vs t))) where
   abbrev body : Bytes
   body = row (message m vs)
 
@@ -103,7 +103,7 @@ module _ (m : MsgType) (a : administrative m ≡ true) (vs : ℕ → Value) (fin
 
   -- A GOOD FRAME, with the row of the fields as its body
   its-bounds : (5 ≤ length body) × (length body ≤ 2048)
-  its-bounds = (omega (arith, body-length m a vs), omega (arith, body-longest m a vs fine))
+  its-bounds = (omega (arith, body-length m a vs), omega (arith, body-longest m a vs fine numbers))
 
   written-good : (G : Good fixt (written m vs)) × (G .body ≡ body)
   unfolding written
@@ -141,5 +141,5 @@ module _ (m : MsgType) (a : administrative m ≡ true) (vs : ℕ → Value) (fin
         type = first-is 35;
         values = value-back;
         no-other = no-other;
-        longest = body-longest m a vs fine;
+        longest = body-longest m a vs fine numbers;
       }

@@ -8,56 +8,71 @@ use lib.Dec.{eqb}
 use lib.ListN.{length, take, drop, getD, length-append}
 use lib.Seq.{take-at}
 use borrow.Author.Tests.{eqb-true, eq-eqb, ne-eqb}
-use Rattle.bytes.specs.Bytes.{Bytes, fix, starts, same, within, value, decimal, At}
+use Rattle.bytes.specs.Bytes.{Bytes, fix, all, digit, starts, same, within, value, writes, decimal, At}
 use Rattle.frame.specs.Frame.{fixt, Good, front, trailer, sumOf}
-use Rattle.bytes.proofs.Numerals.{within-is, is-within}
-use Rattle.fields.specs.Field.{behind, isBody}
+use Rattle.bytes.proofs.Numerals.{within-is, is-within, digit-is, written-means}
+use Rattle.fields.specs.Field.{before, behind, isBody}
 use Rattle.bytes.proofs.Tests.{both, or-last}
-use Rattle.bytes.proofs.Numerals.{numeral-means}
-use Rattle.bytes.proofs.Decimals.{numeral-decimal}
 use Rattle.kinds.proofs.Values.{same-true, same-refl}
 use Rattle.message.specs.Message.{framed}
-use Rattle.message.specs.Whole.{occurs, bodyIn, good}
+use Rattle.message.specs.Whole.{occurs, bodyIn, digitsIn, good}
 use Rattle.message.proofs.Rows.{Plain, plain-append, plain-decimal}
-use Rattle.message.proofs.Frames.{length-good, inside, framed-is}
+use Rattle.message.proofs.Frames.{framed-is}
 
--- THE BODY OF WHAT IS WRITTEN
+-- THE DIGITS AND THE BODY OF A FRAME
 behind-plain : (p r : Bytes) → Plain p → behind 1 (p ++ (1 ∷ r)) ≡ r
 behind-plain [] r h = refl
 behind-plain (x ∷ p) r h = rw (ne-eqb x 1 (h .0 .0)) (behind-plain p r (h .1))
 
+before-plain : (p r : Bytes) → Plain p → before 1 (p ++ (1 ∷ r)) ≡ p
+before-plain [] r h = refl
+before-plain (x ∷ p) r h = rw (ne-eqb x 1 (h .0 .0)) (ap (λ (l : Bytes). x ∷ l) (before-plain p r (h .1)))
+
 regroup : (m d b t : Bytes) → m ++ (d ++ (1 ∷ b)) ++ t ≡ m ++ (d ++ (1 ∷ (b ++ t)))
 regroup m d b t = simp append-assoc
 
+module _ (ds b : Bytes) (h : Plain ds) where
+  tl : Bytes
+  tl = trailer (sumOf fixt ds b)
+
+  digits-between : digitsIn (front fixt ds b ++ tl) ≡ ds
+  unfolding fixt
+  digits-between = ap (λ (l : Bytes). before 1 (drop 13 l)) (regroup (fixt .mark) ds b tl) ∙ before-plain ds (b ++ tl) h
+
+  body-between : bodyIn (front fixt ds b ++ tl) ≡ b
+  unfolding bodyIn fixt tl
+  body-between =
+      let nine : Plain (fix "9=") = (((λ x. omega arith), omega arith), (((λ x. omega arith), omega arith), tt)) in
+      let c : behind 1 (behind 1 (front fixt ds b ++ tl)) ≡ b ++ tl =
+      ap (λ (l : Bytes). behind 1 (behind 1 l)) (regroup (fixt .mark) ds b tl) ∙ behind-plain (fix "9=" ++ ds) (b ++ tl) (plain-append (fix "9=") ds nine h) in
+      ap (λ (l : Bytes). take (length l - 7) l) c ∙ take-at b tl (length (b ++ tl) - 7) (omega (arith, length-append b tl))
+
+-- of what is written
 pub body-back : (b : Bytes) → bodyIn (framed b) ≡ b
-unfolding bodyIn fixt
-body-back b = ap (λ (l : Bytes). take (length l - 7) l) c ∙ take-at b tl (length (b ++ tl) - 7) (omega (arith, length-append b tl))
-  where
-    tl : Bytes
-    tl = trailer (sumOf fixt (decimal (length b)) b)
-
-    nine : Plain (fix "9=")
-    nine = (((λ x. omega arith), omega arith), (((λ x. omega arith), omega arith), tt))
-
-    c : behind 1 (behind 1 (framed b)) ≡ b ++ tl
-    c =
-        ap (λ (l : Bytes). behind 1 (behind 1 l)) (framed-is b ∙ regroup (fixt .mark) (decimal (length b)) b tl)
-        ∙ behind-plain (fix "9=" ++ decimal (length b)) (b ++ tl) (plain-append (fix "9=") (decimal (length b)) nine (plain-decimal (length b)))
+unfolding tl
+body-back b = ap bodyIn (framed-is b) ∙ body-between (decimal (length b)) b (plain-decimal (length b))
 
 -- two bodies in the same frame are the same
 pub framed-one : (b c : Bytes) → framed b ≡ framed c → b ≡ c
 framed-one b c e = sym (body-back b) ∙ ap bodyIn e ∙ body-back c
 
--- a good frame is what would be written around its body
-pub good-is : (f : Bytes) (G : Good fixt f) → f ≡ framed (G .body)
-unfolding fixt
-good-is f G =
-    let d : G .digits ≡ decimal (length (G .body)) =
-    sym (numeral-decimal 4 (G .digits) (numeral-means 4 (G .digits) (G .len .written))) ∙ ap decimal (sym (G .inner .sized)) in
-    G .whole ∙ ap (λ (ds : Bytes). front fixt ds (G .body) ++ trailer (sumOf fixt ds (G .body))) d ∙ sym (framed-is (G .body))
+-- of a good frame
+digits-plain : (l : Bytes) → all digit l ≡ true → Plain l
+digits-plain [] h = tt
+digits-plain (d ∷ l) h =
+    let w = both (digit d) (all digit l) h in let D = digit-is d (w .0) in (((λ x. omega arith), omega arith), digits-plain l (w .1))
 
-pub body-is : (f : Bytes) (G : Good fixt f) → bodyIn f ≡ G .body
-body-is f G = ap bodyIn (good-is f G) ∙ body-back (G .body)
+module _ (f : Bytes) (G : Good fixt f) where
+  its-digits : Plain (G .digits)
+  its-digits = digits-plain (G .digits) (written-means (fixt .size) (G .digits) (G .len .written) .whole)
+
+  digits-is : digitsIn f ≡ G .digits
+  unfolding tl
+  digits-is = ap digitsIn (G .whole) ∙ digits-between (G .digits) (G .body) its-digits
+
+  pub body-is : bodyIn f ≡ G .body
+  unfolding tl
+  body-is = ap bodyIn (G .whole) ∙ body-between (G .digits) (G .body) its-digits
 
 -- WHERE BYTES OCCUR
 starts-at : (m s : Bytes) → At s 0 m → starts m s ≡ true
@@ -124,9 +139,8 @@ good-true f G =
     let n : length (G .body) ≡ value (G .digits) = G .inner .sized in
     let B : IsBody (G .body) =
     record { low = omega (arith, G .len .low); high = omega (arith, G .len .high); begins = G .inner .begins; ends = ap (λ (k : ℕ). getD (G .body) (k - 1) 0) n ∙ G .inner .ends } in
-    let t : isBody (bodyIn f) ≡ true = ap isBody (body-is f G) ∙ body-true (G .body) B in
-    let e : same f (framed (bodyIn f)) ≡ true = ap (same f) (ap framed (body-is f G) ∙ sym (good-is f G)) ∙ same-refl f in
-    rw (t, e) (go (occurs (fixt .mark) (drop 1 f)) refl)
+    rw (digits-is f G, body-is f G, G .len .written, eq-eqb (value (G .digits)) (length (G .body)) (sym n), body-true (G .body) B, ← G .whole, same-refl f)
+    (go (occurs (fixt .mark) (drop 1 f)) refl)
   where
     go : (b : Bool) → occurs (fixt .mark) (drop 1 f) ≡ b → not b ≡ true
     go true e = let w = behind-first (fixt .mark) f (omega arith) e in absurd (G .once (w .0) (w .1 .0) (w .1 .1))
@@ -150,16 +164,27 @@ bytes-behind (x ∷ l) h = go (eqb x 1) (bytes-behind l (λ j. h (suc j)))
 pub true-good : (f : Bytes) → ((i : ℕ) → getD f i 0 < 256) → good f ≡ true → Good fixt f
 unfolding good fixt bodyIn
 true-good f bytes h =
-    let x = both (isBody (bodyIn f) && same f (framed (bodyIn f))) (not (occurs (fixt .mark) (drop 1 f))) h in
-    let y = both (isBody (bodyIn f)) (same f (framed (bodyIn f))) (x .0) in
-    let B : IsBody (bodyIn f) = body-means (bodyIn f) (y .0) in
+    let ds = digitsIn f in
+    let b = bodyIn f in
+    let x = both (writes (fixt .size) ds && eqb (value ds) (length b) && isBody b && same f (front fixt ds b ++ trailer (sumOf fixt ds b))) (not (occurs (fixt .mark) (drop 1 f))) h in
+    let y = both (writes (fixt .size) ds && eqb (value ds) (length b) && isBody b) (same f (front fixt ds b ++ trailer (sumOf fixt ds b))) (x .0) in
+    let z = both (writes (fixt .size) ds && eqb (value ds) (length b)) (isBody b) (y .0) in
+    let w = both (writes (fixt .size) ds) (eqb (value ds) (length b)) (z .0) in
+    let n : value ds ≡ length b = eqb-true (value ds) (length b) (w .1) in
+    let B : IsBody b = body-means b (z .1) in
     let rest : Bytes = behind 1 (behind 1 f) in
     record {
-      digits = decimal (length (bodyIn f));
-      body = bodyIn f;
-      len = length-good (length (bodyIn f)) (B .low) (B .high);
-      inner = inside (bodyIn f) (bytes-take (length rest - 7) rest (bytes-behind (behind 1 f) (bytes-behind f bytes))) (B .begins) (B .ends);
-      whole = same-true f (framed (bodyIn f)) (y .1) ∙ framed-is (bodyIn f);
+      digits = ds;
+      body = b;
+      len = record { written = w .0; low = omega (arith, B .low); high = omega (arith, B .high) };
+      inner =
+          record {
+            sized = sym n;
+            begins = B .begins;
+            ends = ap (λ (k : ℕ). getD b (k - 1) 0) n ∙ B .ends;
+            bytes = bytes-take (length rest - 7) rest (bytes-behind (behind 1 f) (bytes-behind f bytes));
+          };
+      whole = same-true f (front fixt ds b ++ trailer (sumOf fixt ds b)) (y .1);
       once = λ q l a.
           let o : occurs (fixt .mark) (drop 1 f) ≡ true = first-behind (fixt .mark) f q l (omega arith) a in
           false≢true (sym (ap not o) ∙ x .1);

@@ -10,7 +10,7 @@ use lib.ListN.{length, take, drop, getD, set, length-append, List·getD-append}
 use lib.Seq.{sets, sets-eq, take-suc, drop-at, length-take-le, take-append-seam}
 use borrow.Author.Tests.{lt-ltb}
 use Rattle.bytes.specs.Bytes.{Bytes, all, digit, value, decimal}
-use Rattle.bytes.proofs.Decimals.{decimal-numeral}
+use Rattle.bytes.proofs.Decimals.{decimal-written}
 use Rattle.bytes.proofs.Rightmost.{length-small, length-step}
 use Rattle.message.specs.Message.{Field, field, row}
 use Rattle.message.specs.Wrote.{Wrote}
@@ -68,7 +68,7 @@ more xs ys a b = reword (sym (row-append xs ys)) (chain a b)
 pub few-digits : (k n : ℕ) → n < 10 ^ suc k → (1 ≤ length (decimal n)) × (length (decimal n) ≤ suc k)
 unfolding decimal
 few-digits k zero h = (omega arith, omega arith)
-few-digits k (suc n) h = let N = decimal-numeral k (suc n) (omega arith) h in (N .some-digit, N .few)
+few-digits k (suc n) h = let N = decimal-written k (suc n) (omega arith) h in (N .some-digit, N .few)
 
 -- the four sizes of a body's length
 pub digits-1 : (n : ℕ) → n < 10 → n + 22 ≡ n + length (decimal n) + 21

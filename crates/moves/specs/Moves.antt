@@ -10,7 +10,7 @@ use Rattle.fields.specs.Field.{firstField}
 use Rattle.table.specs.declared.MsgType.{MsgType}
 use Rattle.table.specs.declared.MsgType.the-variants as MsgType
 use Rattle.dictionary.specs.Verdict.{verdict, msgType}
-use Rattle.message.specs.Message.{Value, absent, bytes, _is_, written}
+use Rattle.message.specs.Message.{Value, number, absent, bytes, _is_, written}
 use Rattle.replies.specs.Reply as Reply
 use Rattle.moves.specs.Words.{_=?_, _<?_, _≤?_, if_then_else_, _when_, first, _otherwise_, speaks}
 use Rattle.moves.specs.Session.{Session, Replay}
@@ -21,7 +21,7 @@ use Rattle.moves.specs.declared.record.Status.the-variants.{Active, Clos
 -- THE MESSAGES of a session, with the values that each carries behind its header
 pub data Letter : Type 0 where
   Heartbeat : Value → Letter  -- 112
-  Logon : Value → Value → Value → Value → Letter  -- 98, 108, 1137, 141
+  Logon : Value → ℕ → Value → Value → Letter  -- 98, 108, 1137, 141
   ResendRequest : ℕ → Letter  -- 7
   Reject : ℕ → ℕ → Value → ℕ → Letter  -- 45, 371, 372, 373
   GapFill : ℕ → Letter  -- 36; only a replay sends one
@@ -32,7 +32,7 @@ pub data Letter : Type 0 where
 abbrev pub letter : Bytes → Bytes → ℕ → Bytes → Letter → Bytes
 letter ours peers n time (Heartbeat id) = Reply.heartbeat ours peers n time id
 letter ours peers n time (Logon method seconds version reset) =
-    written MsgType.Logon (Reply.values ours peers n time (98 is method ∷ 108 is seconds ∷ 1137 is version ∷ 141 is reset ∷ []))
+    written MsgType.Logon (Reply.values ours peers n time (98 is method ∷ 108 is number seconds ∷ 1137 is version ∷ 141 is reset ∷ []))
 letter ours peers n time (ResendRequest expected) = Reply.resendRequest ours peers n time expected
 letter ours peers n time (Reject refused tag type reason) = Reply.reject ours peers n time refused tag type reason
 letter ours peers n time (GapFill new) = Reply.gapFill ours peers n time new
@@ -110,10 +110,11 @@ module _ (s : Session) (body : Bytes) where
   unfoldable pub acceptable : Bool
   acceptable = speaks readable && 49 holds s .peers && 56 holds s .ours && clean
 
-  -- "An accepted logon sets Active and the heartbeat; our Logon repeats its 98, 108 and 1137."
+  -- "An accepted logon sets Active and the heartbeat; our Logon repeats its 98, 108 and 1137." Document 02: "what we write has none", no zeros in front of
+  -- the number that its 108 is.
   unfoldable pub logon : Value → Deeds
   logon with-141 =
-      Write (Logon (repeated (the 98)) (repeated (the 108)) (repeated (the 1137)) with-141) ∷
+      Write (Logon (repeated (the 98)) (# 108) (repeated (the 1137)) with-141) ∷
       Becomes Active ∷
       Heartbeat-becomes (# 108) ∷
       []

@@ -63,13 +63,13 @@ pub fn number_at(body: &[u8], tag: u32, place: Place, least: u32) -> u64
     let Number::Is(n) = read_number(&body[start..end]) else {
         return 0;
     };
-    if n < least {
+    if n < (least as u64) {
         return 0;
     }
     if 999999999 < n {
         return 0;
     }
-    n as u64
+    n
 }
 
 // The number of a field from least on, or 0.

@@ -9,7 +9,7 @@ use mathlib.Core.Bool.{Bool, true, false, cond, not, _||_, false≢true}
 use mathlib.Core.Option.{Option, none, some}
 use lib.Dec.{eqb}
 use lib.ListN.{length, drop}
-use Rattle.bytes.specs.Bytes.{Bytes, decimal, numeral, any, has, starts}
+use Rattle.bytes.specs.Bytes.{Bytes, decimal, writes, any, has, starts}
 use Rattle.bytes.proofs.Tests.{neither, allBelow, at-below, any-append}
 use Rattle.fields.specs.Field.{Part, field, malformed, partOf, onFirst, parts, firstOfParts, firstField}
 use Rattle.fields.proofs.Firsts.{tagged, tag-part, part-split}
@@ -109,7 +109,7 @@ members-fit (a ∷ j) (b ∷ l) (c ∷ k) J L K = rw (J .0, L .0, K .0) (members
 
 -- a count from 1 to 8
 count-tests : allBelow 9 (λ (n : ℕ). eqb n 0 || not (rejected TradeCaptureReport 453 (decimal n))) ≡ true
-unfolding rejected rowsOf header fields groupsOf №453 №580 №552 formed allowed isNumber decimal numeral kindOf
+unfolding rejected rowsOf header fields groupsOf №453 №580 №552 formed allowed isNumber decimal writes kindOf
 count-tests = refl
 
 count-fits : (n : ℕ) → n ≤ 7 → Fits 453 (decimal (suc n))
@@ -122,7 +122,7 @@ group-fits [] h k = refl
 group-fits (p ∷ ps) h k = rw (count-fits (length ps) (omega arith)) k
 
 one-side : Fits 552 (decimal 1)
-unfolding rejected rowsOf header fields groupsOf №453 №580 №552 formed allowed isNumber decimal numeral kindOf
+unfolding rejected rowsOf header fields groupsOf №453 №580 №552 formed allowed isNumber decimal writes kindOf
 one-side = refl
 
 -- THE SIDE: "group 552, exactly once, of 54": there is one, which begins with 54

@@ -1,6 +1,6 @@
 -- The worked reports, by computation.
 use mathlib.Core.Path.{refl}
-use Rattle.bytes.specs.Bytes.{numeral, decimal}
+use Rattle.bytes.specs.Bytes.{writes, decimal}
 use Rattle.frame.specs.Frame.{fixt}
 use Rattle.fields.specs.Field.{partOf, firstField, isBody}
 use Rattle.dates.specs.Date.{goodDay, goodClock}
@@ -18,7 +18,7 @@ use Rattle.report.specs.Layout.{valuesGiven}
 use Rattle.report.specs.Cases.{Told}
 
 pub told : Told
-unfolding numeral decimal fixt partOf firstField isBody kindOf isNumber formed goodDay goodClock allowed isDecimal decimalOf №453 №580 №552 header code35 fields groupsOf rowsOf framed bodyIn yearDays inYear dateOf utc microseconds amountText amountIn rejected required takes sent again everyField valuesIn reportIn compID sendable read valuesGiven
+unfolding writes decimal fixt partOf firstField isBody kindOf isNumber formed goodDay goodClock allowed isDecimal decimalOf №453 №580 №552 header code35 fields groupsOf rowsOf framed bodyIn yearDays inYear dateOf utc microseconds amountText amountIn rejected required takes sent again everyField valuesIn reportIn compID sendable read valuesGiven
 told =
     record {
       as-listed = λ v. refl;

@@ -7,7 +7,7 @@ use mathlib.Core.Bool.{true}
 use mathlib.Core.Option.{some}
 use lib.ListN.{length, length-append}
 use Rattle.bytes.specs.Bytes.{Bytes, fix, decimal}
-use Rattle.bytes.proofs.Decimals.{decimal-numeral}
+use Rattle.bytes.proofs.Decimals.{decimal-written}
 use Rattle.calendar.specs.Time.{utc}
 use Rattle.calendar.proofs.Times.{utc-length}
 use Rattle.message.specs.Message.{Value, absent, number, bytes, Field, _is_, tagged, field, row}
@@ -35,7 +35,7 @@ module _ (us them : Bytes) (r : Report) where
   again-split t = row-append (head us them (r .number) (bytes (fix "Y")) t (bytes (utc (r .time)))) (own (r .values))
 
   two : (t : ℕ) → 1 ≤ t → t < 100 → length (decimal t) ≤ 2
-  two t h k = decimal-numeral 1 t h k .few
+  two t h k = decimal-written 1 t h k .few
 
   module _ (ours : compID us ≡ true) (peers : compID them ≡ true) (low : 1 ≤ r .number) (high : r .number ≤ 999_999_999) where
     pub head-long : length (row (head us them (r .number) absent (r .time) absent)) ≤ 77
@@ -46,7 +46,7 @@ module _ (us them : Bytes) (r : Report) where
         let c : Bytes = tagged 56 (some them) in
         let d : Bytes = tagged 34 (some n) in
         let e : Bytes = tagged 52 (some (utc (r .time))) in
-        let N = decimal-numeral 8 (r .number) low (omega arith) in
+        let N = decimal-written 8 (r .number) low (omega arith) in
         omega (arith, length-append a (b ++ (c ++ (d ++ (e ++ [])))), length-append b (c ++ (d ++ (e ++ []))), length-append c (d ++ (e ++ [])), length-append d (e ++ []), length-append e [], length-tagged 35 (fix "AE"), length-tagged 49 us, length-tagged 56 them, length-tagged 34 n, length-tagged 52 (utc (r .time)), two 35 (omega arith) (omega arith), two 49 (omega arith) (omega arith), two 56 (omega arith) (omega arith), two 34 (omega arith) (omega arith), two 52 (omega arith) (omega arith), utc-length (r .time), comp-long us ours .1, comp-long them peers .1, N .few)
 
     -- a body buffer of 768 bytes holds every report whose values are taken, also one that refusal 12 is for

@@ -14,7 +14,7 @@ use Rattle.table.specs.declared.MsgType.the-variants.{TradeCaptureReport}
 use Rattle.message.specs.Message.{Value, absent, bytes, Field, _is_, field, part}
 use Rattle.message.specs.Unfit.{rejected, required, unfit}
 use Rattle.message.specs.Wrote.{Wrote}
-use Rattle.message.specs.code.Writable.{most, unwritten}
+use Rattle.message.specs.code.Writable.{most, asRead, unwritten}
 use Rattle.message.proofs.Accepted.{kind-length}
 use Rattle.message.proofs.Fitness.{fit-empty}
 use Rattle.message.proofs.Writes.{chain, nothing, reword, row-append, few-digits}
@@ -74,7 +74,7 @@ pub part-fit : (k : Kind) (s : Bytes) (a b : ℕ) {r z : Bool} → a ≤ b → b
 part-fit k s a b h g e f = ap (λ (v : Bytes). not (unwritten k v)) (part-inside s a b h g) ∙ sym e ∙ f
 
 -- a value that can be written is no longer than its kind allows
-pub fit-short : (k : Kind) (v : Bytes) {r : Bool} → r ≡ not (unwritten k v) → r ≡ true → length v ≤ most k
+pub fit-short : (k : Kind) (v : Bytes) {r : Bool} → r ≡ not (unwritten k v) → r ≡ true → length v ≤ most asRead k
 unfolding unwritten
 fit-short k v e f =
     let u = not-true _ (sym e ∙ f) in

@@ -9,7 +9,7 @@ use mathlib.Core.Bool.{Bool, true, false, not, _||_, and-false}
 use lib.Dec.{eqb, leb}
 use lib.ListN.{length, drop}
 use borrow.Author.Tests.{lt-leb, not-true}
-use Rattle.bytes.specs.Bytes.{Bytes, any, has, numeral, decimal}
+use Rattle.bytes.specs.Bytes.{Bytes, any, has, writes, decimal}
 use Rattle.bytes.proofs.Tests.{allBelow, at-below, or-last}
 use Rattle.bytes.proofs.Decimals.{decimal-worth}
 use Rattle.kinds.specs.Kind.{Kind, text, time, day, among, kindOf, isNumber, formed, allowed}
@@ -85,7 +85,7 @@ unfolding rowsOf header fields groupsOf №453 №580 №552 kindOf
 has-452 = record { own = refl; kind = refl }
 
 pub once-fit : unfit TradeCaptureReport (552 is number 1) ≡ false
-unfolding rejected rowsOf header fields groupsOf №453 №580 №552 kindOf formed allowed isNumber numeral decimal
+unfolding rejected rowsOf header fields groupsOf №453 №580 №552 kindOf formed allowed isNumber writes decimal
 once-fit = refl
 
 -- THE NUMBER OF PARTIES
@@ -94,7 +94,7 @@ unfolding rowsOf header fields groupsOf №453 №580 №552 kindOf
 kind-453 = record { own = refl; kind = refl }
 
 up-to-eight : allBelow 8 (λ k. not (unfit TradeCaptureReport (453 is number (suc k)))) ≡ true
-unfolding rejected rowsOf header fields groupsOf №453 №580 №552 kindOf formed allowed isNumber numeral decimal
+unfolding rejected rowsOf header fields groupsOf №453 №580 №552 kindOf formed allowed isNumber writes decimal
 up-to-eight = refl
 
 pub count-fit : (n : ℕ) → (n ≡ 0 → ⊥) → n ≤ 8 → unfit TradeCaptureReport (453 is number n) ≡ false

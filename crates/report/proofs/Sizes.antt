@@ -6,7 +6,7 @@ use mathlib.Core.List.{[], _++_}
 use mathlib.Core.Option.{some}
 use lib.ListN.{length, length-append}
 use Rattle.bytes.specs.Bytes.{Bytes, fix, decimal}
-use Rattle.bytes.proofs.Decimals.{decimal-numeral}
+use Rattle.bytes.proofs.Decimals.{decimal-written}
 use Rattle.calendar.specs.Time.{utc}
 use Rattle.calendar.proofs.Times.{utc-length}
 use Rattle.message.specs.Message.{bytes, tagged, row}
@@ -50,5 +50,5 @@ module _ (us them : Bytes) (r : Report) (t : ℕ) where
   unfolding sent again
   again-fits h =
       let n : length resent < 10 ^ 3 = omega (arith, framed-length fresh, body-more) in
-      let N = decimal-numeral 2 (length resent) (omega (arith, body-more)) n in
+      let N = decimal-written 2 (length resent) (omega (arith, body-more)) n in
       omega (arith, framed-length fresh, framed-length resent, body-more, N .few)

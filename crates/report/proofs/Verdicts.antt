@@ -7,9 +7,9 @@ use mathlib.Core.Bool.{true, false}
 use mathlib.Core.Option.{Option, none, some}
 use lib.ListN.{length, take, length-append}
 use borrow.Author.Tests.{ne-eqb}
-use Rattle.bytes.specs.Bytes.{Bytes, fix, any, decimal}
-use Rattle.bytes.proofs.Numerals.{is-within, numeral-true}
-use Rattle.bytes.proofs.Decimals.{decimal-numeral, decimal-worth}
+use Rattle.bytes.specs.Bytes.{Bytes, fix, any, decimal, with-zeros}
+use Rattle.bytes.proofs.Numerals.{is-within, written-true}
+use Rattle.bytes.proofs.Decimals.{decimal-read, decimal-worth}
 use Rattle.fields.specs.Field.{parts, firstField}
 use Rattle.kinds.specs.Kind.{kindOf, isNumber, formed, allowed}
 use Rattle.calendar.specs.Time.{utc, limit}
@@ -49,8 +49,8 @@ fits-56 c h =
 fits-34 : (n : ℕ) → 1 ≤ n → n ≤ 999_999_999 → rejected TradeCaptureReport 34 (decimal n) ≡ false
 unfolding rejected rowsOf header fields groupsOf №453 №580 №552 kindOf formed allowed isNumber
 fits-34 n l h =
-    let N = decimal-numeral 8 n l (omega arith) in
-    rw (ne-eqb (length (decimal n)) 0 (λ e. omega (arith, N .some-digit)), decimal-free n, numeral-true 9 (decimal n) N, decimal-worth n, is-within 1 999_999_999 n l h)
+    let N = decimal-read 11 n (omega arith) in
+    rw (ne-eqb (length (decimal n)) 0 (λ e. omega (arith, N .some-digit)), decimal-free n, written-true (with-zeros 12) (decimal n) N, decimal-worth n, is-within 1 999_999_999 n l h)
 
 fits-52 : (t : ℕ) → t < limit → rejected TradeCaptureReport 52 (utc t) ≡ false
 unfolding rejected rowsOf header fields groupsOf №453 №580 №552 kindOf

@@ -14,7 +14,7 @@ ghost use lib.ListN.{length};
 ghost use Rattle.kinds.specs.Kind as Words;
 ghost use Rattle.kinds.specs.Judged.{meaning};
 ghost use Rattle.message.specs.Message.{bytes, _is_, part};
-ghost use Rattle.message.specs.code.Writable.{most};
+ghost use Rattle.message.specs.code.Writable.{most, asRead};
 ghost use Rattle.amounts.specs.Amount.{amountText};
 ghost use Rattle.report.specs.Values.{optional};
 ghost use Rattle.report.specs.Layout.{needed, mayBe, amountAt};
@@ -34,9 +34,9 @@ pub fn put_label(body: &mut [u8], at: usize, tag: u64) -> usize
 
 // The bytes of the text from a start to an end, and `|`.
 pub fn put_value(body: &mut [u8], at: usize, start: u64, end: u64, text: &[u8], kind: Kind) -> usize
-    requires { ⌜ at + most (meaning kind) + 1 ≤ length (now body) ⌝ }
+    requires { ⌜ at + most asRead (meaning kind) + 1 ≤ length (now body) ⌝ }
     ensures bytes { λ r. ⌜ Put (meaning kind) (now (body .entry)) (now (body .exit)) at r (part (now (text .entry)) start end) ⌝ }
-    ensures room { λ r. ⌜ r ≤ at + most (meaning kind) + 1 ⌝ }
+    ensures room { λ r. ⌜ r ≤ at + most asRead (meaning kind) + 1 ⌝ }
 {
     if at == 0 {
         return 0;
@@ -66,9 +66,9 @@ pub fn put_needed(
     text: &[u8],
     kind: Kind,
 ) -> usize
-    requires { ⌜ (k ≤ 10) × (at + most (meaning kind) + 1 ≤ length (now body)) ⌝ }
+    requires { ⌜ (k ≤ 10) × (at + most asRead (meaning kind) + 1 ≤ length (now body)) ⌝ }
     ensures bytes { λ r. ⌜ Put (meaning kind) (now (body .entry)) (now (body .exit)) at r (needed (now (values .entry)) (now (text .entry)) k) ⌝ }
-    ensures room { λ r. ⌜ r ≤ at + most (meaning kind) + 1 ⌝ }
+    ensures room { λ r. ⌜ r ≤ at + most asRead (meaning kind) + 1 ⌝ }
 {
     let w = 3 * k;
     if values[w] == 0 {
@@ -112,9 +112,9 @@ pub fn put_optional(
     text: &[u8],
     kind: Kind,
 ) -> usize
-    requires { ⌜ (tag < 100_000) × (k ≤ 10) × (at + most (meaning kind) + 7 ≤ length (now body)) ⌝ }
+    requires { ⌜ (tag < 100_000) × (k ≤ 10) × (at + most asRead (meaning kind) + 7 ≤ length (now body)) ⌝ }
     ensures bytes { λ r. ⌜ (Optional tag (meaning kind) → Puts (now (body .entry)) (now (body .exit)) at r (tag is optional (mayBe (now (values .entry)) (now (text .entry)) k) ∷ [])) ⌝ }
-    ensures room { λ r. ⌜ r ≤ at + labelRoom tag + most (meaning kind) + 1 ⌝ }
+    ensures room { λ r. ⌜ r ≤ at + labelRoom tag + most asRead (meaning kind) + 1 ⌝ }
 {
     let w = 3 * k;
     if values[w] == 0 {

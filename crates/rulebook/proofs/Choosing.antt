@@ -154,7 +154,7 @@ module _ (s : Session) (body : Bytes) where
       seconds = T .is
 
       pub logon-anew : y ≡ true → n ≡ 1 → {p : Plan} → p ≡ accepts true Nothing 2 t → planned body s p ≡ summed s (waiting s body)
-      unfolding waiting reset logon reject readable
+      unfolding # waiting reset logon reject readable
       logon-anew h l pw = rw (pw, ← p, h, ← (is-N s R), eq-eqb n 1 l, seconds)
 
       pub logon-late : y ≡ true → (n ≡ 1 → ⊥) → {p : Plan} → p ≡ closes s (Logout 101) Nothing (s .E) → planned body s p ≡ summed s (waiting s body)
@@ -166,11 +166,11 @@ module _ (s : Session) (body : Bytes) where
       logon-low h l pw = rw (pw, ← p, h, ← (is-N s R), lt-ltb n (s .E) l)
 
       pub logon-next : y ≡ false → s .E ≤ n → n ≡ s .E → {p : Plan} → p ≡ accepts false Nothing (s .E + 1) t → planned body s p ≡ summed s (waiting s body)
-      unfolding waiting reset no-reset logon reject readable
+      unfolding # waiting reset no-reset logon reject readable
       logon-next h l q pw = rw (pw, ← p, h, ← (is-N s R), le-ltb n (s .E) l, eq-eqb n (s .E) q, seconds)
 
       pub logon-high : y ≡ false → s .E ≤ n → (n ≡ s .E → ⊥) → {p : Plan} → p ≡ accepts false (Ask (s .E)) (s .E) t → planned body s p ≡ summed s (waiting s body)
-      unfolding waiting reset no-reset logon reject readable
+      unfolding # waiting reset no-reset logon reject readable
       logon-high h l q pw = let k : s .E < n = omega arith in rw (pw, ← p, h, ← (is-N s R), le-ltb n (s .E) l, ne-eqb n (s .E) q, lt-ltb (s .E) n k, seconds)
 
 pub ruleset choosing = (turn-report, turn-verdict, turn-1, turn-2, turn-4, turn-5, turn-A, turn-AD, turn-F, turn-other, first-1, first-2, first-3, first-4, first-5, first-6, logon-anew, logon-late, logon-low, logon-next, logon-high)

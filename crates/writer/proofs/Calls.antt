@@ -24,8 +24,8 @@ use Rattle.writer.specs.declared.types.Put.the-variants as Was
 use Rattle.writer.specs.code.Held.{typeIn, PutAll, PutBody}
 use Rattle.message.proofs.Writes.{chain, reword, spliced}
 use Rattle.message.proofs.Frames.{framed-length}
-use Rattle.message.proofs.Sizes.{all-fine, body-longest}
-use Rattle.writer.proofs.Tagged.{order-fine, all-tags}
+use Rattle.message.proofs.Sizes.{all-fine, body-length}
+use Rattle.writer.proofs.Tagged.{all-tags, tags-short}
 
 -- THE BODY
 pub body-put : (m : MsgType) → administrative m ≡ true → (vs : ℕ → Value) (v d d₁ d₂ : Bytes) (at : ℕ) → v ≡ code35 m → Wrote d d₁ 0 at (field (35 is bytes v))
@@ -35,7 +35,7 @@ body-put m a vs v d d₁ d₂ at e w (Was.At to) P =
     let f = all-fine m vs tags (P .0) in
     let x = chain w (reword (all-tags m a vs f) (P .1)) in
     let y = subst (λ (c : Bytes). Wrote d d₂ 0 to (row (35 is bytes c ∷ valued vs (order m)))) e x in
-    (P .0, omega (arith, y .next, body-longest m a vs (order-fine m a vs (P .0))), y)
+    (P .0, omega (arith, y .next, body-length m a vs, ap length (all-tags m a vs f), tags-short m a vs f), y)
 body-put m a vs v d d₁ d₂ at e w Was.Unfit P = P
 
 -- the answer by its case

@@ -1,6 +1,6 @@
 -- The worked messages and calls of specs/Cases.antt, by computation.
 use mathlib.Core.Path.{refl}
-use Rattle.bytes.specs.Bytes.{numeral, decimal}
+use Rattle.bytes.specs.Bytes.{writes, decimal}
 use Rattle.frame.specs.Frame.{fixt}
 use Rattle.dates.specs.Date.{goodDay, goodClock}
 use Rattle.kinds.specs.Kind.{kindOf, isNumber, formed, allowed}
@@ -12,7 +12,7 @@ use Rattle.writer.specs.Call.{valueIn, refused8, admin, write}
 use Rattle.writer.specs.Cases.{Cases}
 
 pub cases : Cases
-unfolding write valueIn rejected required refused8 admin written framed order own tags numeric kindOf isNumber formed allowed goodDay goodClock №453 №580 №552 header code35 fields typeOf administrative groupsOf rowsOf numeral decimal fixt
+unfolding write valueIn rejected required refused8 admin written framed order own tags numeric kindOf isNumber formed allowed goodDay goodClock №453 №580 №552 header code35 fields typeOf administrative groupsOf rowsOf writes decimal fixt
 cases =
     record {
       by-call = λ buf. refl;

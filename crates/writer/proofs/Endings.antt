@@ -26,6 +26,7 @@ use Rattle.writer.specs.declared.Written.the-variants.{Unfit, Short}
 use Rattle.message.proofs.Wholes.{bytes-take, framed-one}
 use Rattle.message.proofs.ReadBack.{OfBytes, decimal-bytes, reads-back}
 use Rattle.writer.proofs.Tagged.{order-fine, values-back}
+use Rattle.writer.proofs.Given.{as-numbers}
 use Rattle.writer.proofs.Named.{named-by}
 
 -- VALUES OF BYTES
@@ -95,7 +96,7 @@ module _ (type : Bytes) (vs : Values) (s d : Bytes) where
       let w : Bytes = written m (valueIn vs s) in
       let q : length w ≡ n = ap (λ (p : Option ℕ × List ℕ). getD (p .1) 0 0) e in
       let N = named-by type m (sym a) in
-      let R = reads-back m (N .administers) (valueIn vs s) (order-fine m (N .administers) (valueIn vs s) r) (value-bytes vs s b) in
+      let R = reads-back m (N .administers) (valueIn vs s) (order-fine m (N .administers) (valueIn vs s) r) (as-numbers m (N .administers) vs s) (value-bytes vs s b) in
       record {
         message = m;
         administers = N .administers;

@@ -29,8 +29,8 @@ use Rattle.writer.specs.declared.types.Marks.{Marks}
 use Rattle.writer.specs.declared.types.Slot.{Slot}
 use Rattle.writer.specs.declared.types.Entry.{Entry}
 use Rattle.writer.specs.declared.types.Put.{Put}
-use Rattle.writer.specs.code.Held.{bitOf, tagAt, Marked, sevenRows, Slots, Holds, valueOf, PutOne}
-use Rattle.message.specs.code.Writable.{most}
+use Rattle.writer.specs.code.Held.{bitOf, tagAt, Marked, sevenRows, Slots, Holds, valueOf, nineDigits, PutOne}
+use Rattle.message.specs.code.Writable.{most, asRead}
 use Rattle.message.proofs.Writes.{more, reword}
 use Rattle.message.proofs.Seven.{each}
 use Rattle.writer.proofs.Tagged.{not-listed}
@@ -52,7 +52,7 @@ unfoldable pub soundAt : ℕ → Bool
 soundAt k =
     eqb (placeIn tags (tagAt k)) k
     && (agree (numeric (tagAt k)) (isNumeric (kindIn sevenRows (tagAt k)))
-    && (ltb (tagAt k) 100_000 && (leb (most (kindIn sevenRows (tagAt k))) 256 && has tags (tagAt k))))
+    && (ltb (tagAt k) 100_000 && (leb (most asRead (kindIn sevenRows (tagAt k))) 256 && (nineDigits (kindIn sevenRows (tagAt k)) && has tags (tagAt k)))))
 
 sound : allBelow 21 soundAt ≡ true
 unfolding soundAt tags numeric kindOf sevenRows header fields
@@ -62,7 +62,8 @@ pub record SoundAt (k : ℕ) : Type 0 where
   pub placed : placeIn tags (tagAt k) ≡ k
   pub numbered : numeric (tagAt k) ≡ isNumeric (kindIn sevenRows (tagAt k))
   pub tag-small : tagAt k < 100_000
-  pub value-short : most (kindIn sevenRows (tagAt k)) ≤ 256
+  pub value-short : most asRead (kindIn sevenRows (tagAt k)) ≤ 256
+  pub value-small : nineDigits (kindIn sevenRows (tagAt k)) ≡ true
   pub among : has tags (tagAt k) ≡ true
 
 pub sound-at : (k : ℕ) → k < 21 → SoundAt k
@@ -71,13 +72,15 @@ sound-at k h =
     let a = both (eqb (placeIn tags (tagAt k)) k) _ (at-below 21 soundAt sound k h) in
     let b = both (agree (numeric (tagAt k)) (isNumeric (kindIn sevenRows (tagAt k)))) _ (a .1) in
     let c = both (ltb (tagAt k) 100_000) _ (b .1) in
-    let d = both (leb (most (kindIn sevenRows (tagAt k))) 256) (has tags (tagAt k)) (c .1) in
+    let d = both (leb (most asRead (kindIn sevenRows (tagAt k))) 256) _ (c .1) in
+    let e = both (nineDigits (kindIn sevenRows (tagAt k))) (has tags (tagAt k)) (d .1) in
     record {
       placed = eqb-true _ k (a .0);
       numbered = agree-true _ _ (b .0);
       tag-small = ltb-true _ 100_000 (c .0);
       value-short = leb-true _ 256 (d .0);
-      among = d .1;
+      value-small = e .0;
+      among = e .1;
     }
 
 -- a tag has the same kind in every message
@@ -119,8 +122,12 @@ module _ (table : List Slot) (S : Slots table) (k : ℕ) (h : k < 21) where
   slot-kind =
       sym (List·getD-map (λ (s : Slot). meaning (s .1)) table k noSlot) ∙ ap (λ (l : List Kind). getD l k (meaning (Text 0))) (S .kinds-are) ∙ map-at (kindIn sevenRows) 0 (meaning (Text 0)) tags k (omega (arith, many-tags))
 
-  pub slot-bounds : (getD table k noSlot .0 < 100_000) × (most (meaning (getD table k noSlot .1)) ≤ 256)
-  slot-bounds = (subst (λ (t : ℕ). t < 100_000) (sym slot-tag) (sound-at k h .tag-small), subst (λ (x : Kind). most x ≤ 256) (sym slot-kind) (sound-at k h .value-short))
+  pub slot-bounds : (getD table k noSlot .0 < 100_000) × (most asRead (meaning (getD table k noSlot .1)) ≤ 256) × (nineDigits (meaning (getD table k noSlot .1)) ≡ true)
+  slot-bounds = (
+    subst (λ (t : ℕ). t < 100_000) (sym slot-tag) (sound-at k h .tag-small),
+    subst (λ (x : Kind). most asRead x ≤ 256) (sym slot-kind) (sound-at k h .value-short),
+    ap nineDigits slot-kind ∙ sound-at k h .value-small,
+  )
 
   module _ (values : Values) (s : Bytes) (marks : Marks) (o n : Bool) (eo : o ≡ bitOf (marks .own) k) (en : n ≡ bitOf (marks .needed) k) where
     abbrev pub entry : Entry

@@ -17,9 +17,10 @@ use Rattle.table.specs.declared.MsgType.{MsgType}
 use Rattle.table.specs.Dictionary.{№453, №580, №552, header, fields, code35, administrative, groupsOf, rowsOf, listed}
 use Rattle.message.specs.Message.{Value, shown, tagged, row, valued, own, order, message}
 use Rattle.message.specs.Unfit.{unfit}
+use Rattle.message.specs.code.Writable.{asRead}
 use Rattle.message.specs.ReadsBack.{ReadsBack}
 use Rattle.message.proofs.Seven.{each}
-use Rattle.message.proofs.Sizes.{Fine, not-own, all-fine, width, widths, row-short}
+use Rattle.message.proofs.Sizes.{Fine, not-own, all-fine, width, widths, row-short, as-read}
 use Rattle.writer.specs.Tags.{tags}
 use Rattle.writer.specs.Call.{refused8}
 
@@ -40,7 +41,7 @@ filtered-has p (t ∷ ts) u h k = go (eqb t u) refl k (p t) refl h (filtered-has
     go false e g true x h f = f (sym (rw e) ∙ h) g
     go false e g false x h f = f h g
 
-all-has : (p : ℕ → Bool) (ts : List ℕ) (u : ℕ) → all p ts ≡ true → has ts u ≡ true → p u ≡ true
+pub all-has : (p : ℕ → Bool) (ts : List ℕ) (u : ℕ) → all p ts ≡ true → has ts u ≡ true → p u ≡ true
 all-has p [] u h k = absurd (false≢true k)
 all-has p (t ∷ ts) u h k = let w = both (p t) (all p ts) h in go (eqb t u) refl k (w .0) (all-has p ts u (w .1))
   where
@@ -86,20 +87,25 @@ all-tags m a vs f =
     row-filtered (listed (rowsOf m)) vs tags (λ t h l. not-own m t (shown (vs t)) (f t h) l) ∙ ap (λ (ts : List ℕ). row (valued vs ts)) (its-tags m a .only)
 
 -- HOW LONG the row of the first k values is
-widths-short : (m : MsgType) → administrative m ≡ true → leb (widths m tags) 485 ≡ true
+widths-short : (m : MsgType) → administrative m ≡ true → leb (widths asRead m tags) 497 ≡ true
 unfolding width widths tags rowsOf header fields groupsOf №453 №580 №552 kindOf decimal
 widths-short =
-    each (λ m. leb (widths m tags) 485 ≡ true)
+    each (λ m. leb (widths asRead m tags) 497 ≡ true)
     (record { heartbeat = refl; test-request = refl; resend-request = refl; reject = refl; sequence-reset = refl; logout = refl; logon = refl })
 
-widths-first : (m : MsgType) (k : ℕ) (ts : List ℕ) → widths m (take k ts) ≤ widths m ts
+pub tags-short : (m : MsgType) → administrative m ≡ true → (vs : ℕ → Value) → Fine m vs tags → length (row (valued vs tags)) ≤ 497
+tags-short m a vs f = omega (arith, row-short asRead m vs tags f (λ t h. as-read m t (shown (vs t)) (f t h)), leb-true (widths asRead m tags) 497 (widths-short m a))
+
+widths-first : (m : MsgType) (k : ℕ) (ts : List ℕ) → widths asRead m (take k ts) ≤ widths asRead m ts
 unfolding widths
 widths-first m zero ts = omega arith
 widths-first m (suc k) [] = omega arith
 widths-first m (suc k) (t ∷ ts) = omega (arith, widths-first m k ts)
 
-pub first-short : (m : MsgType) → administrative m ≡ true → (vs : ℕ → Value) (k : ℕ) → any (unfit m) (valued vs (take k tags)) ≡ false → length (row (valued vs (take k tags))) ≤ 485
-first-short m a vs k h = omega (arith, row-short m vs (take k tags) (all-fine m vs (take k tags) h), widths-first m k tags, leb-true (widths m tags) 485 (widths-short m a))
+pub first-short : (m : MsgType) → administrative m ≡ true → (vs : ℕ → Value) (k : ℕ) → any (unfit m) (valued vs (take k tags)) ≡ false → length (row (valued vs (take k tags))) ≤ 497
+first-short m a vs k h =
+    let f = all-fine m vs (take k tags) h in
+    omega (arith, row-short asRead m vs (take k tags) f (λ t e. as-read m t (shown (vs t)) (f t e)), widths-first m k tags, leb-true (widths asRead m tags) 497 (widths-short m a))
 
 -- THE VALUES OF A CALL that is not refused
 module _ (m : MsgType) (a : administrative m ≡ true) (vs : ℕ → Value) (ok : refused8 m vs ≡ false) where

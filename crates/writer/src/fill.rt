@@ -18,10 +18,10 @@ ghost use lib.ListN.{length};
 ghost use Rattle.bytes.specs.Bytes.{decimal};
 ghost use Rattle.kinds.specs.Judged.{meaning};
 ghost use Rattle.table.specs.Dictionary.{administrative};
-ghost use Rattle.message.specs.code.Writable.{most};
+ghost use Rattle.message.specs.code.Writable.{most, asRead};
 ghost use Rattle.writer.specs.Tags.{isNumeric};
 ghost use Rattle.writer.specs.Call.{admin, valueIn};
-ghost use Rattle.writer.specs.code.Held.{typeIn, Holds, valueOf, PutText, PutOne, PutAll};
+ghost use Rattle.writer.specs.code.Held.{typeIn, Holds, valueOf, nineDigits, PutText, PutOne, PutAll};
 
 // The message that a type names.
 pub fn admin_of(v: &[u8]) -> Admin
@@ -72,7 +72,7 @@ fn is_number(kind: Kind) -> bool
 
 // The field of a value given as bytes, if it is fit.
 fn put_bytes_value(buf: &mut [u8], at: usize, tag: u64, kind: Kind, v: &[u8]) -> Put
-    requires { ⌜ (tag < 100_000) × (most (meaning kind) ≤ 256) × (at + 263 ≤ length (now buf)) ⌝ }
+    requires { ⌜ (tag < 100_000) × (most asRead (meaning kind) ≤ 256) × (at + 263 ≤ length (now buf)) ⌝ }
     ensures { λ r. ⌜ PutText (meaning kind) tag (now (v .entry)) (now (buf .entry)) (now (buf .exit)) at r ⌝ }
 {
     if is_fit(kind, v) {
@@ -83,7 +83,7 @@ fn put_bytes_value(buf: &mut [u8], at: usize, tag: u64, kind: Kind, v: &[u8]) ->
 
 // The field of a value given as a number, if it is fit.
 fn put_number_value(buf: &mut [u8], at: usize, tag: u64, kind: Kind, n: u64) -> Put
-    requires { ⌜ (tag < 100_000) × (most (meaning kind) ≤ 256) × (isNumeric (meaning kind) ≡ true) × (at + 263 ≤ length (now buf)) ⌝ }
+    requires { ⌜ (tag < 100_000) × (most asRead (meaning kind) ≤ 256) × (isNumeric (meaning kind) ≡ true) × (nineDigits (meaning kind) ≡ true) × (at + 263 ≤ length (now buf)) ⌝ }
     ensures { λ r. ⌜ PutText (meaning kind) tag (decimal n) (now (buf .entry)) (now (buf .exit)) at r ⌝ }
 {
     if 999999999 < n {
@@ -96,8 +96,8 @@ fn put_number_value(buf: &mut [u8], at: usize, tag: u64, kind: Kind, n: u64) -> 
 
 // The field of a value that is given.
 fn put_given(buf: &mut [u8], at: usize, e: Entry, text: &[u8]) -> Put
-    requires { ⌜ (e .tag < 100_000) × (most (meaning (e .kind)) ≤ 256) × (at + 263 ≤ length (now buf)) ⌝ }
-    requires { ⌜ (e .given ≡ true) × (e .own ≡ true) ⌝ }
+    requires { ⌜ (e .tag < 100_000) × (most asRead (meaning (e .kind)) ≤ 256) × (at + 263 ≤ length (now buf)) ⌝ }
+    requires { ⌜ (e .given ≡ true) × (e .own ≡ true) × (nineDigits (meaning (e .kind)) ≡ true) ⌝ }
     ensures { λ r. ⌜ ((m : MsgType) → Holds m e → PutOne m (e .tag) (valueOf e (now (text .entry))) (now (buf .entry)) (now (buf .exit)) at r) ⌝ }
 {
     let tag = e.tag;
@@ -118,7 +118,8 @@ fn put_given(buf: &mut [u8], at: usize, e: Entry, text: &[u8]) -> Put
 
 // The field of a value, nothing where it may be absent and is.
 fn put_entry(buf: &mut [u8], at: usize, e: Entry, text: &[u8]) -> Put
-    requires { ⌜ (e .tag < 100_000) × (most (meaning (e .kind)) ≤ 256) × (at + 263 ≤ length (now buf)) ⌝ }
+    requires { ⌜ (e .tag < 100_000) × (most asRead (meaning (e .kind)) ≤ 256) × (at + 263 ≤ length (now buf)) ⌝ }
+    requires { ⌜ nineDigits (meaning (e .kind)) ≡ true ⌝ }
     ensures { λ r. ⌜ ((m : MsgType) → Holds m e → PutOne m (e .tag) (valueOf e (now (text .entry))) (now (buf .entry)) (now (buf .exit)) at r) ⌝ }
 {
     if e.given {
@@ -135,7 +136,7 @@ fn put_entry(buf: &mut [u8], at: usize, e: Entry, text: &[u8]) -> Put
 
 // The fields of all values, in order.
 pub fn put_values(buf: &mut [u8], at: usize, m: MsgType, values: Values, text: &[u8]) -> Put
-    requires { ⌜ (administrative m ≡ true) × (at + 748 ≤ length (now buf)) ⌝ }
+    requires { ⌜ (administrative m ≡ true) × (at + 760 ≤ length (now buf)) ⌝ }
     ensures { λ r. ⌜ PutAll m (valueIn values (now (text .entry))) (now (buf .entry)) (now (buf .exit)) at r ⌝ }
 {
     let table = slots();

@@ -126,11 +126,15 @@ pub record Over (over : Bool) (t : ℕ) (r : Bool) : Type 0 where
   pub is : (seen : List ℕ) → over ≡ pastHeader seen → r ≡ pastHeader (t ∷ seen)
 
 pub record Counted (v : Bytes) (r : ℕ) : Type 0 where
-  pub is : isNumber v ≡ true → r ≡ value v
+  pub is : isNumber v ≡ true → value v ≤ 999_999_999 → r ≡ value v
+
+-- nothing is said of the value's form, nor of the value
+abbrev pub RightValue : MsgType → ℕ → Bytes → Type 0
+RightValue m t v = (rule9 m t v ≡ Nothing) × (rule10 m t v ≡ Nothing)
 
 pub record Noted (st : State) (t : ℕ) (v : Bytes) (r : State) : Type 0 where
   pub over : Over (st .over) t (r .over)
-  pub opens : (m : MsgType) (met : List Bool) → listed (header ++ fields m) t ≡ true → rule9 m t v ≡ Nothing → Stood (opened (groupsOf m) t v) met r
+  pub opens : (m : MsgType) (met : List Bool) → listed (header ++ fields m) t ≡ true → RightValue m t v → Stood (opened (groupsOf m) t v) met r
   pub none : r .begun ≡ 0
 
 -- .. one that leaves no group open, and a first member

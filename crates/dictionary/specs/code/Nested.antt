@@ -13,8 +13,8 @@ use Rattle.fields.specs.declared.Item.{Item}
 use Rattle.fields.specs.declared.Item.the-variants.{Field, Malformed, End, NoBody}
 use Rattle.table.specs.Dictionary.{Row, Group, №453, №552, listed, groupsOf, rowsOf}
 use Rattle.table.specs.code.Held.{Looked, Marked}
-use Rattle.dictionary.specs.Verdict.{Open, Past, _when_, firstMember, incomplete, rule9, said, opened, walk}
-use Rattle.dictionary.specs.code.Held.{InGroup, Stood, pastHeader, outsideOf, Ended}
+use Rattle.dictionary.specs.Verdict.{Open, Past, _when_, firstMember, incomplete, said, opened, walk}
+use Rattle.dictionary.specs.code.Held.{InGroup, Stood, pastHeader, outsideOf, Ended, RightValue}
 use Rattle.table.specs.declared.MsgType.{MsgType}
 use Rattle.table.specs.declared.MsgType.the-variants.{TradeCaptureReport}
 use Rattle.table.specs.declared.lines.Entry.{Entry}
@@ -81,7 +81,7 @@ pub record OfOwn (seen : List Bool) (over : Bool) (t : ℕ) (v : Bytes) (r : Say
 
 -- the state in the group that a count field opens, or where it opens none
 pub record Opened (t : ℕ) (v : Bytes) (r : State) : Type 0 where
-  pub opens : (m : MsgType) (met : List Bool) → listed (rowsOf m) t ≡ true → rule9 m t v ≡ Nothing → Stood (opened (groupsOf m) t v) met r
+  pub opens : (m : MsgType) (met : List Bool) → listed (rowsOf m) t ≡ true → RightValue m t v → Stood (opened (groupsOf m) t v) met r
   pub none : r .begun ≡ 0
 
 -- THE GROUP WALK AND THE INSTANCE WALK. Where a walk has come to: it found fault, or its group or instance ended at a part, not before the place that
@@ -129,7 +129,7 @@ pub record InstanceWalk (body : Bytes) (met : List Bool) (st : State) (from : �
 -- BEHIND A FIELD outside groups, of which nothing is said: the walk goes on as the words do, in the group that the field opens or in none
 pub record Behind (body : Bytes) (t : ℕ) (v : Bytes) (from : ℕ) (r : Reached) : Type 0 where
   pub lies : Lies body from r
-  pub is : (s : List ℕ) → listed (rowsOf AE) t ≡ true → rule9 AE t v ≡ Nothing → onward (past s []) body r ≡ walk AE (past s (opened (groupsOf AE) t v)) (parts (drop from body))
+  pub is : (s : List ℕ) → listed (rowsOf AE) t ≡ true → RightValue AE t v → onward (past s []) body r ≡ walk AE (past s (opened (groupsOf AE) t v)) (parts (drop from body))
 
 -- WHERE THE FIELDS END outside groups
 pub record Complete (seen : List Bool) (r : Verdict) : Type 0 where

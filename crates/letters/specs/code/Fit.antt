@@ -4,7 +4,7 @@ use mathlib.Core.Path.{_≡_}
 use mathlib.Core.Bool.{Bool, false}
 use mathlib.Core.Option.{Option}
 use lib.ListN.{length}
-use Rattle.bytes.specs.Bytes.{Bytes, fix, has, decimal, Byted}
+use Rattle.bytes.specs.Bytes.{Bytes, fix, has, Byted}
 use Rattle.table.specs.declared.MsgType.{MsgType}
 use Rattle.message.specs.Message.{Value, absent, number, bytes}
 use Rattle.replies.specs.Reply.{optional}
@@ -27,12 +27,10 @@ FitId absent = Unit {0}
 FitId (number n) = ⊥
 FitId (bytes v) = Text 64 v
 
-pub record FitLogon (method seconds version reset : Value) : Type 0 where
-  pub interval : ℕ
-  pub low : 1 ≤ interval
-  pub high : interval ≤ 60
+pub record FitLogon (method : Value) (seconds : ℕ) (version reset : Value) : Type 0 where
+  pub low : 1 ≤ seconds
+  pub high : seconds ≤ 60
   pub is98 : method ≡ bytes (fix "0")
-  pub is108 : seconds ≡ bytes (decimal interval)
   pub is1137 : version ≡ bytes (fix "9")
   pub anew : Bool
   pub is141 : reset ≡ optional anew (fix "Y")

@@ -64,7 +64,7 @@ summed s ds = adds (record { delivered = false; letters = []; status = s .status
 abbrev pub lettersOf : Bytes → ℕ → Letter → List (ℕ × Words.Letter)
 lettersOf body n Nothing = []
 lettersOf body n Echo = (n, Words.Heartbeat (repeated (firstField 112 body))) ∷ []
-lettersOf body n (Logon anew) = (cond anew 1 n, Words.Logon (repeated (firstField 98 body)) (repeated (firstField 108 body)) (repeated (firstField 1137 body)) (optional anew (fix "Y"))) ∷ []
+lettersOf body n (Logon anew) = (cond anew 1 n, Words.Logon (repeated (firstField 98 body)) (numberIn 0 999_999_999 (firstField 108 body) otherwise 0) (repeated (firstField 1137 body)) (optional anew (fix "Y"))) ∷ []
 lettersOf body n (Ask from) = (n, Words.ResendRequest from) ∷ []
 lettersOf body n (Reject reason tag) = (n, Words.Reject (numberIn 1 999_999_999 (firstField 34 body) otherwise 0) tag (repeated (codeOf (msgType body))) reason) ∷ []
 lettersOf body n RejectType = (n, Words.Reject (numberIn 1 999_999_999 (firstField 34 body) otherwise 0) 35 absent 11) ∷ []

@@ -93,9 +93,10 @@ written day = (4 ∷ []) ∷ []
 written decimal = (6 ∷ []) ∷ []
 written (among l) = (5 ∷ []) ∷ l
 
+-- a number up to 999,999,999 at most, as every count is
 abbrev pub isNumeric : Kind → Bool
 isNumeric (text n) = false
-isNumeric (number a to b) = true
+isNumeric (number a to b) = leb b 999_999_999
 isNumeric Y/N = false
 isNumeric time = false
 isNumeric day = false

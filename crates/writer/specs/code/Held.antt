@@ -4,10 +4,11 @@ use mathlib.Core.Path.{_≡_}
 use mathlib.Core.List.{List, _++_, map}
 use mathlib.Core.Bool.{Bool, true, false, cond}
 use mathlib.Core.Option.{Option, none, some}
-use lib.Dec.{eqb}
+use lib.Dec.{eqb, leb}
 use lib.ListN.{getD}
 use Rattle.bytes.specs.Bytes.{Bytes}
-use Rattle.kinds.specs.Kind.{Kind}
+use Rattle.kinds.specs.Kind as Kinds
+use Rattle.kinds.specs.Kind.{Kind, text, number_to_, Y/N, time, day, among}
 use Rattle.kinds.specs.Judged.{meaning}
 use Rattle.table.specs.declared.MsgType.{MsgType}
 use Rattle.table.specs.declared.MsgType.the-variants.{Heartbeat, ResendRequest, Reject, SequenceReset, Logout, Logon}
@@ -60,6 +61,16 @@ pub record Holds (m : MsgType) (e : Entry) : Type 0 where
 abbrev pub valueOf : Entry → Bytes → Value
 valueOf e s = cond (e .given) (cond (isNumeric (meaning (e .kind))) (Value.number (e .number)) (bytes (part s (e .start) (e .end)))) absent
 
+-- a kind of which no number is above 999,999,999
+abbrev pub nineDigits : Kind → Bool
+nineDigits (text n) = true
+nineDigits (number a to b) = leb b 999_999_999
+nineDigits Y/N = true
+nineDigits time = true
+nineDigits day = true
+nineDigits Kinds.decimal = true
+nineDigits (among l) = true
+
 -- what is put for a value: its field, or nothing but the answer that it is unfit
 abbrev pub PutText : Kind → ℕ → Bytes → Bytes → Bytes → ℕ → Put → Type 0
 PutText k t v d d′ at (At end) = (unwritten k v ≡ false) × Wrote d d′ at end (field (t is bytes v))
@@ -76,5 +87,5 @@ PutAll m vs d d′ at Unfit = refused8 m vs ≡ true
 
 -- and for the whole body, 35 before them
 abbrev pub PutBody : MsgType → (ℕ → Value) → Bytes → Bytes → Put → Type 0
-PutBody m vs d d′ (At end) = (refused8 m vs ≡ false) × (end ≤ 490) × Wrote d d′ 0 end (row (message m vs))
+PutBody m vs d d′ (At end) = (refused8 m vs ≡ false) × (end ≤ 502) × Wrote d d′ 0 end (row (message m vs))
 PutBody m vs d d′ Unfit = refused8 m vs ≡ true

@@ -30,5 +30,4 @@ number-at-spec =
     (λ c. search readings)
     (λ c. search readings)
     (λ c. search readings)
-    (λ c. search needs)
     (λ c. search readings))

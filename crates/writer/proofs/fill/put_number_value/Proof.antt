@@ -13,7 +13,7 @@ use Rattle.writer.proofs.fill.put_number_value.Statement.{statement}
 use Rattle.writer.proofs.fill.put_number_value.Tie as tie
 
 returns : tie.Need-returns
-returns c = unwritten-large _ _ (c .before .before .pre .2) (c .if1 .taken)
+returns c = unwritten-large _ _ (c .before .before .pre .2) (c .before .before .pre .3) (c .if1 .taken)
 
 put-decimal-requires : tie.Need-put-decimal-requires
 put-decimal-requires c κs =

@@ -44,7 +44,7 @@ put-entry-requires c κs =
     let S = c .before .before .before .before .before .before .before .before .before .before .before .slots in
     let t = slot-bounds (S .result) (S .ensures) (l .k) k in
     let f = first-short (s .args .m) (s .pre .0) vs (l .k) (l .inv .1 .1 .1 (s .args .m) (s .pre .0) M) in
-    (t .0, t .1, omega (arith, f, l .inv .1 .1 .0 .next, l .inv .1 .0, s .pre .1))
+    ((t .0, t .1, omega (arith, f, l .inv .1 .1 .0 .next, l .inv .1 .0, s .pre .1)), t .2)
 
 returns : tie.Need-returns Inv-loop μ-loop
 returns c =
