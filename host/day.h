@@ -151,8 +151,8 @@ static const struct entry day[] = {
     { AT(14, 0, 3, 0), 1, READ, 4096,
       "8=FIXT.1.1|9=181|35=AD|49=MM|56=GW|34=2|52=20240102-14:00:02.990|568=TR-0004|569=0|263=0|828=0|453=2|"
       "448=TRADER7|447=D|452=12|448=MEMBERFIRM|447=D|452=1|22=8|48=133215|580=2|75=20231228|75=20231229|10=229|" },
-    /* It comes back and forgets to log on; then it logs on with a heartbeat that is none; then with a number that has
-       leading zeros. */
+    /* It comes back and forgets to log on; then it logs on with a heartbeat that is none; then with zeros in front of its
+       numbers, which are numbers too, until one has thirteen digits. */
     { AT(14, 5, 0, 0), 1, CONNECT, 0, "" },
     { AT(14, 5, 0, 500000), 1, READ, 4096, "8=FIXT.1.1|9=48|35=0|49=MM2|56=GW|34=3|52=20240102-14:05:00.490|10=132|" },
     { AT(14, 6, 0, 0), 1, CONNECT, 0, "" },
@@ -160,9 +160,9 @@ static const struct entry day[] = {
       "8=FIXT.1.1|9=67|35=A|49=MM2|56=GW|34=3|52=20240102-14:06:00.490|98=0|108=90|1137=9|10=249|" },
     { AT(14, 7, 0, 0), 1, CONNECT, 0, "" },
     { AT(14, 7, 0, 500000), 1, READ, 4096,
-      "8=FIXT.1.1|9=67|35=A|49=MM2|56=GW|34=3|52=20240102-14:07:00.490|98=0|108=20|1137=9|10=243|" },
+      "8=FIXT.1.1|9=0071|35=A|49=MM2|56=GW|34=0003|52=20240102-14:07:00.490|98=0|108=020|1137=9|10=014|" },
     { AT(14, 7, 1, 500000), 1, READ, 4096,
-      "8=FIXT.1.1|9=51|35=0|49=MM2|56=GW|34=0004|52=20240102-14:07:01.490|10=018|" },
+      "8=FIXT.1.1|9=60|35=0|49=MM2|56=GW|34=0000000000004|52=20240102-14:07:01.490|10=194|" },
     /* The member falls silent for a while: it answers the first question of the venue, and not the second. */
     { AT(15, 0, 0, 0), 1, CONNECT, 0, "" },
     { AT(15, 0, 0, 10000), 1, READ, 4096,

@@ -1,6 +1,8 @@
 /* A message's fields as a host sees them, and the FIX names of types, tags and reasons. */
 #include "message.h"
 
+#define GREATEST_NUMBER 999999999
+
 struct message message_of(const uint8_t *frame, size_t len)
 {
     uint64_t body[2];
@@ -28,14 +30,14 @@ bool value_is(struct value value, const char *text)
 uint64_t number_in(struct value value)
 {
     uint64_t number = 0;
-    if (value.len == 0 || value.len > 9 || value.at[0] == '0')
+    if (value.len == 0 || value.len > 12)
         return 0;
     for (size_t i = 0; i < value.len; i++) {
         if (value.at[i] < '0' || value.at[i] > '9')
             return 0;
         number = 10 * number + (uint64_t)(value.at[i] - '0');
     }
-    return number;
+    return number <= GREATEST_NUMBER ? number : 0;
 }
 
 uint32_t type_of(const struct message *message)

@@ -23,7 +23,7 @@ struct value first_field(const struct message *message, uint32_t tag);
 
 bool value_is(struct value value, const char *text);
 
-/* A value of 1 to 9 digits without leading zero as a number; 0 for any other, and for "0". */
+/* A value of 1 to 12 digits, up to 999,999,999, as a number; 0 for any other. */
 uint64_t number_in(struct value value);
 
 /* The first field 35 as a number of fixgw_type. */

@@ -4,7 +4,7 @@
 #define FIXGW_H
 
 /* The version of this header, as major * 10000 + minor * 100 + patch. fixgw_version() answers that of the library. */
-#define FIXGW_VERSION 20000
+#define FIXGW_VERSION 20100
 
 /* Only these two headers are needed. A compiler that has none, but names its types, is served as well. */
 #ifdef __has_include
@@ -156,8 +156,8 @@ enum fixgw_tag {
 /* ---- Bytes of the line ------------------------------------------------------------------------------------------- */
 
 enum {
-    FIXGW_LONGEST_FRAME = 2073,
-    FIXGW_MOST_PENDING = 2072               /* what can stay in a line buffer once reading answers refusal 1 */
+    FIXGW_LONGEST_FRAME = 2075,
+    FIXGW_MOST_PENDING = 2074               /* what can stay in a line buffer once reading answers refusal 1 */
 };
 
 /* The version of the library: compare it with FIXGW_VERSION. */
