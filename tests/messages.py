@@ -14,9 +14,9 @@ def raw(text):
     return text.replace("|", "\x01").encode("latin-1")
 
 
-def framed(body):
-    """The frame around a body, its length and its sum made right."""
-    front = FRONT + b"%d" % len(body) + BAR + body
+def framed(body, digits=None):
+    """The frame around a body, its length and its sum made right; the length in these digits on request."""
+    front = FRONT + (digits or b"%d" % len(body)) + BAR + body
     return front + b"10=%03d" % (sum(front) % 256) + BAR
 
 

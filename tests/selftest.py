@@ -10,11 +10,11 @@ sys.dont_write_bytecode = True
 
 import model
 from worked import (basics, calls, decimals, desk, frames, kinds, lines, replays, report_lines, reporting, reports, reports_in,
-                    rules, sequence, store_lines, stores, sums, verdicts, waiting, writer)
+                    rules, sequence, store_lines, stores, sums, verdicts, waiting, writer, zeros)
 
 CASES = [desk, frames, verdicts, kinds, waiting, rules, calls, writer, lines]
-OF_REQUESTS = {1: [decimals, reports, reports_in, reporting, report_lines], 2: [sums], 4: [stores, replays, store_lines],
-               10: [sequence]}
+OF_REQUESTS = {1: [decimals, reports, reports_in, reporting, report_lines], 2: [sums], 3: [zeros],
+               4: [stores, replays, store_lines], 10: [sequence]}
 
 
 def main():

@@ -12,16 +12,18 @@ Made = namedtuple("Made", "word frame before answer")       # a call; its frame 
 
 
 def is_frame(data):
-    """01: the good frame. Its body is what stands between the length and the trailer's seven bytes."""
-    body = data[len(FRONT):].partition(BAR)[2][:-7]
-    return (5 <= len(body) <= 2048 and body.startswith(b"35=") and body.endswith(BAR) and data == framed(body)
-            and FRONT not in data[1:])
+    """01: the good frame. Its body is what stands between the length and the trailer's seven bytes. 02: the body length up
+    to 6 digits"""
+    digits, _, rest = data[len(FRONT):].partition(BAR)
+    body = rest[:-7]
+    return (digits.isdigit() and len(digits) <= 6 and int(digits) == len(body) and 5 <= len(body) <= 2048
+            and body.startswith(b"35=") and body.endswith(BAR) and data == framed(body, digits) and FRONT not in data[1:])
 
 
 def number(made, tag):
-    """01: numbers are 1 to 9 digits with no leading zero; those read here are 1 to 999,999,999. None if it is not one."""
+    """02: numbers have up to 12 digits; those read here are 1 to 999,999,999. None if it is not one."""
     value = first(made.frame, tag) or b""
-    return int(value) if value.isdigit() and len(value) <= 9 and value[:1] != b"0" else None
+    return int(value) if value.isdigit() and len(value) <= 12 and 1 <= int(value) <= 999_999_999 else None
 
 
 def is_type(made, kind):

@@ -2,7 +2,7 @@
 import model
 
 from .basics import OTHER_TYPES, OURS, PEER, TYPES, chance
-from .values import good_time, good_value
+from .values import good_time, good_value, written
 
 DICTIONARY_TAGS = tuple(model.IN_DICTIONARY)
 UNKNOWN_TAGS = (1, 6, 12, 33, 44, 55, 127, 128, 129, 255, 256, 447 + 65536, 453 - 256, 1129, 1138, 4096, 9999,
@@ -26,7 +26,7 @@ def group_block(r, count_tag, instances=None):
     group = model.GROUPS[count_tag]
     least, greatest = model.GROUP_RANGES[count_tag]
     times = instances or r.choice((least, greatest, r.randint(least, greatest), min(2, greatest)))
-    block = [part(count_tag, b"%d" % times)]
+    block = [part(count_tag, written(r, times))]
     for _ in range(times):
         others = [tag for tag, entry in group.members.items() if entry.required or chance(r, 0.5)]
         others.remove(group.first)

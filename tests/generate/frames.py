@@ -3,13 +3,18 @@ from .basics import BAR, MARK, TYPES, byte_mutated, chance, filler, framed, hexe
 from .bodies import message
 
 
+def with_zeros(r, body):
+    """A frame around a body, the body length as a rule without zeros in front, else in up to six digits."""
+    return framed(body, length=b"%0*d" % (r.randint(1, 6) if chance(r, 0.2) else 1, len(body)))
+
+
 def short_frame(r):
-    return framed(joined(message(r, r.choice(TYPES)))) if chance(r, 0.5) else framed(b"35=0\x01")
+    return with_zeros(r, joined(message(r, r.choice(TYPES))) if chance(r, 0.5) else b"35=0\x01")
 
 
 def long_frame(r):
     size = r.choice((2048, 2047, 2046, 1000, 999, 100, 99, 10, 9, 6, 5))
-    return framed(b"35=" + filler(r, size - 4) + BAR)
+    return with_zeros(r, b"35=" + filler(r, size - 4) + BAR)
 
 
 def wrong_sum(r):
@@ -24,7 +29,9 @@ def wrong_sum(r):
 
 LENGTHS = (b"", b"0", b"1", b"4", b"5", b"05", b"00", b"005", b"0005", b"00005", b"6", b"9", b"10", b"20", b"40",
            b"99", b"100", b"204", b"205", b"999", b"1000", b"2047", b"2048", b"2049", b"2050", b"9999", b"10000",
-           b"20480", b"65541", b"4294967301", b"x", b"5x", b"-5", b"+5", b" 5", b"5 ")
+           b"20480", b"65541", b"4294967301", b"x", b"5x", b"-5", b"+5", b" 5", b"5 ", b"00000", b"000000", b"0000000",
+           b"00004", b"000004", b"000005", b"0000005", b"000010", b"02048", b"02049", b"002048", b"002049", b"0002048",
+           b"000204", b"000205", b"00000x", b"000005x")
 
 
 def lying_length(r):
@@ -33,10 +40,10 @@ def lying_length(r):
 
 
 def true_odd_length(r):
-    """A body of a length at the limits, with its own length in front or one with a leading zero."""
+    """A body of a length at the limits, with its own length in front, zeros before it or not."""
     size = r.choice((4, 5, 6, 9, 10, 99, 100, 999, 1000, 2047, 2048, 2049))
     body = (b"35=" + filler(r, max(0, size - 4)) + BAR)[:size]
-    return framed(body, length=r.choice((b"%d", b"%d", b"0%d")) % size)
+    return framed(body, length=r.choice((b"%d", b"%d", b"0%d", b"%05d", b"%06d", b"%07d")) % size)
 
 
 def odd_body(r):

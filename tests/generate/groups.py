@@ -43,7 +43,8 @@ def group_swap(r, parts, at, end, group):
 
 
 def group_count(r, parts, at, end, group):
-    count = r.choice((b"0", b"1", b"2", b"3", b"4", b"8", b"9", b"01", b"x", b"", b"10000000000"))
+    count = r.choice((b"0", b"1", b"2", b"3", b"4", b"8", b"9", b"01", b"x", b"", b"10000000000", b"000000000002",
+                      b"0000000000002", b"999999999999", b"4294967297", b"4294967298"))
     parts[at] = part(group.count, count)
 
 

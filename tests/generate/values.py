@@ -5,7 +5,9 @@ from .basics import BAR, byte_mutated, chance, filler
 
 NUMBER_EDGES = (b"0", b"1", b"2", b"3", b"8", b"9", b"10", b"59", b"60", b"61", b"99", b"999999999", b"999999990",
                 b"1000000000", b"4294967297", b"4294967326", b"18446744073709551617", b"01", b"00", b"007", b"-1",
-                b"+1", b" 1", b"1 ", b"1.0", b"1e3", b"x", b"1x", b"0x1", b"000000000", b"000000001", b"0000000001")
+                b"+1", b" 1", b"1 ", b"1.0", b"1e3", b"x", b"1x", b"0x1", b"000000000", b"000000001", b"0000000001",
+                b"000000000000", b"0000000000000", b"000000000001", b"0000000000001", b"000999999999", b"001000000000",
+                b"0999999999999", b"999999999999", b"9999999999999", b"00000000001x", b"060", b"000000000061")
 YES_NO_EDGES = (b"Y", b"N", b"y", b"n", b"YY", b"YN", b"1", b" ", b"Y ", b"\xd9")
 TIME_EDGES = tuple(text.encode() for text in (
     "20240102-09:30:00", "20240102-09:30:00.000", "20240102-09:30:00.999999", "20240102-09:30:00.",
@@ -42,8 +44,13 @@ def good_time(r):
     return date + clock + r.choice((b"", b".%03d" % r.randrange(1000), b".%06d" % r.randrange(1000000)))
 
 
+def written(r, number):
+    """A number's digits, as a rule without zeros in front, else up to twelve."""
+    return b"%0*d" % (r.randint(1, 12) if chance(r, 0.2) else 1, number)
+
+
 def good_number(r, least, greatest):
-    return b"%d" % r.choice((least, greatest, r.randint(least, greatest), r.randint(least, min(greatest, least + 20))))
+    return written(r, r.choice((least, greatest, r.randint(least, greatest), r.randint(least, min(greatest, least + 20)))))
 
 
 def good_string(r, longest):

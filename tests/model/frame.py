@@ -1,10 +1,12 @@
 """The good frame of document 01: what it is, which positions are live, one reading, and reading in pieces."""
+from .landed import LANDED
 
 BAR = b"\x01"
 MARK = b"8=FIXT.1.1|9=".replace(b"|", BAR)
 LEAST_BODY, GREATEST_BODY = 5, 2048
+LENGTH_DIGITS = 6 if 3 in LANDED else 4
 TRAILER = len(b"10=ddd|")
-LONGEST_FRAME = 2073
+LONGEST_FRAME = 2075 if 3 in LANDED else 2073       # 02: The longest frame becomes 2,075 bytes
 
 
 def trailer(before):
@@ -13,8 +15,11 @@ def trailer(before):
 
 
 def body_length(digits):
-    """01: 1 to 4 digits, no leading zero, value 5 to 2,048. None for anything else."""
-    if not 1 <= len(digits) <= 4 or not digits.isdigit() or digits.startswith(b"0"):
+    """01: 1 to 4 digits, no leading zero, value 5 to 2,048. 02: the body length up to 6 digits with the value still 5 to
+    2,048. None for anything else."""
+    if not 1 <= len(digits) <= LENGTH_DIGITS or not digits.isdigit():
+        return None
+    if 3 not in LANDED and digits.startswith(b"0"):
         return None
     return int(digits) if LEAST_BODY <= int(digits) <= GREATEST_BODY else None
 
@@ -27,7 +32,7 @@ def good_frame(s, p=0):
     """Where the body of the good frame at p begins and where the frame ends, if one lies there whole; else None."""
     if not s.startswith(MARK, p):
         return None
-    bar = s.find(BAR, p + len(MARK), p + len(MARK) + 5)
+    bar = s.find(BAR, p + len(MARK), p + len(MARK) + LENGTH_DIGITS + 1)
     if bar < 0:
         return None
     size = body_length(s[p + len(MARK):bar])
@@ -44,18 +49,25 @@ def good_frame(s, p=0):
     return bar + 1, end
 
 
+def finished(digits):
+    """The digits of a body length that has begun, with one behind them where they are worth less than 5."""
+    if not digits.isdigit():
+        return digits or b"5"
+    further = b"5" if 3 in LANDED else b"0"             # 02 lets 0 become 05; 01 had 1 to 4 become 10 to 40
+    return digits + further if int(digits) < LEAST_BODY else digits
+
+
 def completed(rest):
     """rest with bytes behind it that make a good frame of it, if any bytes could.
 
-    Whatever is forced is put as it must be. What is free is put so that it harms nothing: the shortest body length that
-    goes on from the digits at hand, and `x` in the body, which stands in no mark. No forced byte can end a mark: it
+    Whatever is forced is put as it must be. What is free is put so that it harms nothing: a short body length that goes
+    on from the digits at hand, and `x` in the body, which stands in no mark. No forced byte can end a mark: it
     ends in `9=`, and the forced ones are `35=` behind a `|`, the body's last `|` and `10=ddd|`.
     """
     whole = rest + MARK[len(rest):]
-    bar = whole.find(BAR, len(MARK), len(MARK) + 5)
+    bar = whole.find(BAR, len(MARK), len(MARK) + LENGTH_DIGITS + 1)
     if bar < 0:
-        digits = whole[len(MARK):]
-        whole += (b"5" if digits == b"" else b"0" if digits in (b"1", b"2", b"3", b"4") else b"") + BAR
+        whole = whole[:len(MARK)] + finished(whole[len(MARK):]) + BAR
         bar = len(whole) - 1
     size = body_length(whole[len(MARK):bar])
     if size is None:

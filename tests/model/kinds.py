@@ -3,11 +3,15 @@ from .decimals import DECIMAL_SHAPE, decimal_in, decimal_range
 from .dictionary import (DATES, DECIMALS, FROM_ONE, FROM_ZERO, GROUP_RANGES, IN_DICTIONARY, STRING_LENGTHS, TIMES,
                          YES_OR_NO)
 from .frame import BAR
+from .landed import LANDED
 from .times import DATE_SHAPE, TIME_SHAPE, calendar_date, calendar_time
 
 
 def number_form(value):
-    """01: Numbers are 1 to 9 digits with no leading zero ("0" itself stands)."""
+    """01: Numbers are 1 to 9 digits with no leading zero ("0" itself stands). 02: Field numbers (31 and 32 apart) may have
+    up to 12 digits"""
+    if 3 in LANDED:
+        return 1 <= len(value) <= 12 and value.isdigit()
     return 1 <= len(value) <= 9 and value.isdigit() and (value == b"0" or not value.startswith(b"0"))
 
 

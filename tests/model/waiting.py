@@ -16,8 +16,9 @@ def waiting(move):
 
 
 def accept_logon(move, reset):
-    """01: An accepted logon sets Active and the heartbeat; our Logon repeats its 98, 108 and 1137."""
-    values = {98: move.first(98), 108: move.first(108), 1137: move.first(1137)}
+    """01: An accepted logon sets Active and the heartbeat; our Logon repeats its 98, 108 and 1137. 02: what we write has
+    none (zeros in front of numbers)"""
+    values = {98: move.first(98), 108: b"%d" % int(move.first(108)), 1137: move.first(1137)}
     if reset:
         values[141] = b"Y"
     move.send(b"A", values)

@@ -9,7 +9,7 @@ def test_desk_examples_of_frames():
     same(model.read(w1), (True, 0, 27))                                                                         # W1
     same(model.read(raw("8=FIXT.1.1|9=5|35=0|10=242|")), (False, 27))                                           # W2
     same(model.read(raw("8=FIXT.1.1|9=05|35=0|10=241|")), (False, 28))                                          # W3
-    same(model.read(raw("8=FIXT.1.1|9=05|35=0|10=033|")), (False, 28))
+    same(model.read(raw("8=FIXT.1.1|9=05|35=0|10=033|")), (True, 0, 28))            # 02: a frame when its sum is made right
     same(model.read(b""), (False, 0))                                                                           # W4
     same(model.read(raw("8=FIXT.1.1|9=40|") + w1), (True, 16, 27))                                              # W5
 
@@ -34,7 +34,7 @@ def test_desk_examples_of_the_session():
 
 
 def test_desk_examples_run_by_a_program():
-    same(len(framed(raw("35=0|58=" + "x" * 2039 + "|"))), 2073)
+    same(len(framed(raw("35=0|58=" + "x" * 2039 + "|"))), 2073)                 # with two zeros in front of 2048, 2,075
     same(is_good(framed(raw("35=0|58=" + "x" * 2039 + "|"))), True)             # a body of 2,048
     same(is_good(framed(raw("35=0|58=" + "x" * 2040 + "|"))), False)            # and of 2,049
     same(finding("0", "", HEADER.replace("20240102", "20230229")), (5, 52))

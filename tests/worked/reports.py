@@ -70,10 +70,10 @@ def test_outside_their_groups():
 def test_counts():
     for value in "0", "2", "3", "8", "999999999":
         same(side(f"552={value}|54=1|"), (5, 552))
-    for value in "x", "01", "1.", "-1", "+1", "1234567890":
+    for value in "x", "1.", "-1", "+1", "1234567890123":
         same(side(f"552={value}|54=1|"), (6, 552))
     same(side("552=|54=1|"), (4, 552))
-    for value, reason in ("0", 5), ("9", 5), ("x", 6), ("01", 6), ("", 4):
+    for value, reason in ("0", 5), ("9", 5), ("x", 6), ("09", 5), ("", 4):
         same(side(f"552=1|54=1|453={value}|" + PARTY), (reason, 453))
     same(side("552=1|54=1|453=9|" + PARTY * 9), (5, 453))
 

@@ -40,7 +40,7 @@ def test_from_a_stranger():
 
 
 def test_unreadable_number():
-    for number in "x", "0", "05", "":
+    for number in "x", "0", "0000000000005", "":
         same(stepped(body("AE", n=number)), (None, False, ["35=5|34=3|1409=101|"], after(status=CLOSED, wrote=1)))
 
 

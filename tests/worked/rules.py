@@ -6,7 +6,7 @@ from .basics import AT, HEADER, after, body, raw, record, same, stepped
 
 def test_rule_1():
     logout = (None, False, ["35=5|34=3|1409=101|"], after(status=CLOSED, wrote=1))
-    for unreadable in "34=x|", "34=|", "34=0|", "34=05|", "34=1234567890|", "", "34=x|34=5|":
+    for unreadable in "34=x|", "34=|", "34=0|", "34=00|", "34=1234567890|", "34=0000000000005|", "", "34=x|34=5|":
         for msg_type in "0", "4", "ZZ", "A":
             same(stepped(raw(f"35={msg_type}|49=XX|56=GW|{unreadable}36=9|")), logout)
 

@@ -111,7 +111,7 @@ fn answer_first(s: &[u8], n: usize) {
 }
 
 fn main() {
-    let mut buf = io::large_buffer();
+    let mut buf = [0u8; 131_072];
     let n = io::read_full(0, &mut buf);
     unbar(&mut buf);
     answer_first(&buf, n);
