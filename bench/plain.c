@@ -11,6 +11,7 @@
 #define MARK_RARE 4                 /* the place of the mark's X, which is scarce in numbers, dates and prices */
 #define LEAST_BODY 5
 #define GREATEST_BODY 2048
+#define LENGTH_DIGITS 6             /* of the body length, zeros in front among them */
 #define TRAILER_SIZE 7
 
 enum state { DEAD, LIVE, GOOD };
@@ -116,23 +117,28 @@ static struct look look_at_body(const uint8_t *s, size_t n, size_t p, size_t bod
     return look;
 }
 
+/* How many digits stand in front, at most n; what they are worth. */
+static inline size_t digits_in(const uint8_t *s, size_t n, size_t *worth)
+{
+    size_t count = 0;
+    for (; count < n && is_digit(s[count]); count++)
+        *worth = 10 * *worth + (size_t)(s[count] - '0');
+    return count;
+}
+
 /* The frame whose mark stands at p. */
 static struct look look_at(const uint8_t *s, size_t n, size_t p)
 {
-    size_t at = p + MARK_SIZE, size = 0, digits = 0;
-    struct look look = { DEAD, 0, at };
-    while (at < n && digits < 4 && is_digit(s[at])) {
-        size = 10 * size + (size_t)(s[at] - '0');
-        at++;
-        digits++;
-    }
-    if (size > GREATEST_BODY || (digits > 0 && s[p + MARK_SIZE] == '0'))
-        return look;
+    size_t from = p + MARK_SIZE, size = 0, left = n - from;
+    struct look look = { DEAD, 0, from };
+    size_t digits = left < LENGTH_DIGITS ? digits_in(s + from, left, &size) : digits_in(s + from, LENGTH_DIGITS, &size);
+    size_t at = from + digits;
     if (at == n) {
-        look.state = LIVE;
+        if (size <= GREATEST_BODY && (digits < LENGTH_DIGITS || size >= LEAST_BODY))
+            look.state = LIVE;                              /* a further digit can make it long enough */
         return look;
     }
-    if (s[at] != BAR || size < LEAST_BODY)
+    if (s[at] != BAR || size < LEAST_BODY || size > GREATEST_BODY)
         return look;
     return look_at_body(s, n, p, at + 1, size);
 }
@@ -293,13 +299,13 @@ static const struct message *message_of(const uint8_t *type)
 
 static uint32_t check_number(const struct entry *entry, const uint8_t *s, size_t n)
 {
-    uint32_t value = 0;
-    if (n > 9 || (s[0] == '0' && n > 1))
+    uint64_t value = 0;
+    if (n > NUMBER_DIGITS)
         return 6;
     for (size_t i = 0; i < n; i++) {                        /* few digits: not worth a vector */
         if (!is_digit(s[i]))
             return 6;
-        value = 10 * value + (uint32_t)(s[i] - '0');
+        value = 10 * value + (uint64_t)(s[i] - '0');
     }
     return value < entry->least || value > entry->greatest ? 5 : 0;
 }
@@ -383,7 +389,7 @@ static uint32_t end_of_group(struct walk *walk)
     return 0;
 }
 
-/* By the place and the value of a count, which has one digit by its kind. */
+/* By the place and the last digit of a count, which has no more by its kind. */
 static void open_group(struct walk *walk, unsigned place, uint8_t count)
 {
     walk->around[walk->depth++] = walk->in;
@@ -437,7 +443,7 @@ static inline void take(struct walk *walk, unsigned place, struct field field)
             walk->past_header = 1;
     }
     if (COUNTS & BIT(place))
-        open_group(walk, place, *field.value);
+        open_group(walk, place, field.end[-1]);
 }
 
 /* Steps 2 to 5 where the tag has no place: malformed, unknown, or one of 8, 9 and 10. */

@@ -9,6 +9,9 @@ typedef __UINT16_TYPE__ uint16_t;
 typedef __UINT32_TYPE__ uint32_t;
 typedef __UINT64_TYPE__ uint64_t;
 
+#define NUMBER_DIGITS 12                    /* of a number that is read, zeros in front among them */
+#define GREATEST_NUMBER 999999999
+
 void *memchr(const void *, int, size_t);
 int memcmp(const void *, const void *, size_t);
 void *memcpy(void *, const void *, size_t);

@@ -8,7 +8,7 @@
 #define BAR 1
 #define MARK "8=FIXT.1.1\0019="
 #define MARK_SIZE (sizeof MARK - 1)
-#define MOST_DIGITS 9
+#define MOST_DIGITS 9                       /* of a number that is written */
 #define LAST_USABLE 999999990
 #define LEAST_ROOM 600
 #define TRAILER_SIZE 7

@@ -35,11 +35,11 @@ static int is_yes(struct value value)
     return value.size == 1 && *value.at == 'Y';
 }
 
-/* A number of 1 to 9 digits without leading zero; 0 for anything else. */
+/* A number of 1 to 12 digits up to 999,999,999; 0 for anything else. */
 static uint64_t number(struct value value)
 {
     uint64_t total = 0;
-    if (value.size == 0 || value.size > MOST_DIGITS || *value.at == '0')
+    if (value.size == 0 || value.size > NUMBER_DIGITS)
         return 0;
     for (size_t i = 0; i < value.size; i++) {
         uint8_t digit = (uint8_t)(value.at[i] - '0');
@@ -47,7 +47,7 @@ static uint64_t number(struct value value)
             return 0;
         total = 10 * total + digit;
     }
-    return total;
+    return total > GREATEST_NUMBER ? 0 : total;
 }
 
 /* Where the pass over the header keeps the field at p, if it does. */
