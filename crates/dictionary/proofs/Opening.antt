@@ -12,7 +12,7 @@ use Rattle.kinds.specs.Kind.{Kind, text, number_to_, Y/N, time, day, decimal, a
 use Rattle.kinds.specs.Judged.{meaning, numberOf}
 use Rattle.kinds.specs.declared.Number.{Number}
 use Rattle.kinds.specs.declared.Number.the-variants.{Is, Bad}
-use Rattle.table.specs.Dictionary.{Row, Group, №453, №580, №552, groups, header, fields, listed, kindIn, groupsAmong, allMembers, groupsOf, rowsOf}
+use Rattle.table.specs.Dictionary.{Row, Group, №453, №580, №552, groups, header, fields, listed, groupsAmong, allMembers, groupsOf, rowsOf}
 use Rattle.dictionary.specs.Verdict.{Open, _when_, opened, rule9, rule10}
 use Rattle.table.specs.code.Held.{bitOf, isNumeric, kindFor, Three, Right}
 use Rattle.dictionary.specs.code.Held.{Flat, away, within, Over, Counted, RightValue, Noted, outsideOf}

@@ -1,17 +1,17 @@
 -- A candidate's body, where mark and length are read: what each answer about it means.
-use Prim.Native.Nat.{ℕ, zero, suc, _+_, _-_, _≤_, _<_}
-use native.Mathlib.Nat.{add-assoc, add-zero, zero-add}
+use Prim.Native.Nat.{ℕ, _+_, _-_, _≤_, _<_}
+use native.Mathlib.Nat.{add-assoc, zero-add}
 use native.Mathlib.Decide.{decLt}
 use native.Mathlib.Omega.{arith}
-use mathlib.Core.Path.{_≡_, refl, sym, ap, _∙_, subst}
-use mathlib.Core.List.{List, [], _∷_, _++_, append-assoc}
+use mathlib.Core.Path.{_≡_, sym, ap, _∙_, subst}
+use mathlib.Core.List.{List, _∷_, _++_, append-assoc}
 use lib.ListN.{length, take, drop, getD, length-append, length-drop, take-append-drop, List·getD-eq-default}
 use lib.Seq.{getD-drop, getD-take, drop-drop}
 use Rattle.bytes.specs.Bytes.{Bytes, value, At}
 use Rattle.bytes.specs.code.Leaf.{Matched, Stands, Here, Searched}
-use Rattle.bytes.proofs.Lists.{at-byte, bytes-at, matched-at, part-length, at-part, at-more}
+use Rattle.bytes.proofs.Lists.{at-byte, bytes-at, part-length, at-part, at-more}
 use Rattle.bytes.proofs.Numerals.{Digits, written-means, row-digits}
-use Rattle.frame.specs.Frame.{Rule, longestBody, Body, GoodAt, Live, trailer, sumOf}
+use Rattle.frame.specs.Frame.{Rule, longestBody, GoodAt, Live, trailer, sumOf}
 use Rattle.frame.specs.code.Walk.{SizeSeen, BodySeen, Open}
 use Rattle.frame.specs.Mark.{MarkOk}
 use Rattle.frame.proofs.Good.{good-length}

@@ -1,8 +1,8 @@
 -- A candidate's first bytes beside the mark; and what a live position gives to compare with, part by part.
 use Prim.Native.Nat.{ℕ, _+_, _≤_, _<_}
 use native.Mathlib.Omega.{arith}
-use mathlib.Core.Path.{_≡_, refl, sym, ap, ap₂, _∙_, subst}
-use mathlib.Core.List.{List, [], _∷_, _++_, append-assoc, append-cancel-left, tail-eq-of-cons-eq}
+use mathlib.Core.Path.{_≡_, sym, ap, ap₂, _∙_, subst}
+use mathlib.Core.List.{List, _∷_, _++_, append-assoc, append-cancel-left, tail-eq-of-cons-eq}
 use lib.ListN.{length, take, drop, getD, length-drop, take-append-drop, List·getD-append}
 use lib.Seq.{getD-drop, getD-take, drop-append-le, ext-getD, length-take-le, drop-drop}
 use Rattle.bytes.specs.Bytes.{Bytes, At}

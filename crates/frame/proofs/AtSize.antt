@@ -4,10 +4,10 @@ use native.Mathlib.Nat.{add-zero}
 use native.Mathlib.Decide.{decLt}
 use native.Mathlib.Numerals.{add-one}
 use native.Mathlib.Omega.{arith}
-use mathlib.Core.Path.{_≡_, refl, sym, ap, ap₂, _∙_, subst}
+use mathlib.Core.Path.{_≡_, sym, ap, ap₂, _∙_, subst}
 use mathlib.Core.Bool.{true, false, false≢true}
-use mathlib.Core.List.{List, [], _∷_, _++_, append-assoc, append-nil}
-use lib.ListN.{length, take, drop, getD, length-append, length-drop, take-append-drop, List·getD-append}
+use mathlib.Core.List.{[], _∷_, _++_, append-assoc, append-nil}
+use lib.ListN.{length, take, drop, getD, length-append, length-drop, take-append-drop}
 use lib.Seq.{getD-append-add, getD-drop, getD-take, take-all, ext-getD, length-take-le, drop-drop, drop-cons}
 use Rattle.bytes.specs.Bytes.{Bytes, fix, value, valueFrom, Digit}
 use Rattle.bytes.specs.code.Leaf.{Number}
@@ -16,7 +16,6 @@ use Rattle.bytes.proofs.Numerals.{Digits, Written, digit-at, digits-of, digits-
 use Rattle.frame.specs.Frame.{Rule, longestBody, Length, Live}
 use Rattle.frame.specs.code.Walk.{MarkSeen, SizeSeen, Open}
 use Rattle.frame.specs.Mark.{MarkOk}
-use Rattle.frame.proofs.Good.{good-digits}
 use Rattle.frame.proofs.Complete.{Comp, open-of, comp-more, comp-size, comp-mark}
 use Rattle.frame.proofs.AtMark.{agree, Begun, begun, begun-mark}
 

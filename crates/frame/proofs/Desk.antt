@@ -1,19 +1,17 @@
 -- The desk examples W1 to W5, for the one table of all twelve.
 use Prim.Native.Nat.{ℕ, _+_, _-_, _%_, _<_}
-use native.Mathlib.Nat.{add-zero}
 use native.Mathlib.Omega.{arith}
 use native.Mathlib.Decide.{decLt}
 use mathlib.Core.Path.{_≡_, refl, sym, ap, ap₂, _∙_, subst}
 use mathlib.Core.Logic.{inl}
 use mathlib.Core.Bool.{true}
-use mathlib.Core.List.{[], _∷_, _++_, append-assoc}
+use mathlib.Core.List.{[], _++_}
 use lib.Dec.{lit≤, ltb}
-use lib.ListN.{length, take, drop, getD, length-append, List·getD-append, List·getD-eq-default}
-use lib.Seq.{take-at, drop-at, take-length, getD-take, getD-append-add}
+use lib.ListN.{length, take, drop, getD, length-append, List·getD-eq-default}
+use lib.Seq.{take-at, drop-at, take-length}
 use borrow.Author.Tests.{ltb-true}
 use Rattle.bytes.specs.Bytes.{Bytes, fix, sum, writes}
 use Rattle.bytes.proofs.Lists.{at-byte}
-use Rattle.bytes.proofs.Numerals.{written-means}
 use Rattle.bytes.proofs.Tests.{allBelow, at-below}
 use Rattle.frame.specs.Frame.{Rule, fixt, Good, GoodAt, front, trailer, sumOf}
 use Rattle.frame.specs.Reading.{frame, refusal, Reads}

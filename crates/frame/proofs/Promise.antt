@@ -4,7 +4,7 @@ use native.Mathlib.Decide.{decLt}
 use native.Mathlib.Omega.{arith}
 use mathlib.Core.Path.{_≡_, refl, sym, ap, ap₂, _∙_}
 use mathlib.Core.Logic.{_⊎_, inl, inr}
-use mathlib.Core.List.{List, [], _∷_, _++_, append-assoc, append-nil, append-cancel-left}
+use mathlib.Core.List.{[], _∷_, _++_, append-assoc, append-nil, append-cancel-left}
 use lib.Dec.{lit≤}
 use lib.ListN.{length, length-append, length-drop}
 use Rattle.bytes.specs.Bytes.{Bytes, fix, value, writes}

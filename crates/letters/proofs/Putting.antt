@@ -8,7 +8,7 @@ use mathlib.Core.List.{List, [], _∷_, _++_, append-nil, append-assoc}
 use mathlib.Core.Option.{Option, some}
 use lib.ListN.{length, take}
 use lib.Seq.{length-take-le}
-use Rattle.bytes.specs.Bytes.{Bytes, fix, decimal}
+use Rattle.bytes.specs.Bytes.{Bytes, fix}
 use Rattle.frame.specs.Stream.{joined}
 use Rattle.fields.specs.Field.{firstField}
 use Rattle.table.specs.Dictionary.{code35, fields}
@@ -18,13 +18,12 @@ use Rattle.message.specs.Message.{Value, absent, bytes, own, order, written}
 use Rattle.replies.specs.Reply as Reply
 use Rattle.message.specs.Wrote.{Wrote}
 use Rattle.message.proofs.Writes.{chain, nothing}
-use Rattle.replies.specs.Replied.{replyRoom, sendable, nineDigits, echoable, Replied}
+use Rattle.replies.specs.Replied.{replyRoom, nineDigits, echoable, Replied}
 use borrow.Author.Tests.{le-leb}
-use Rattle.moves.specs.Session.{fresh}
 use Rattle.moves.specs.Words.{_otherwise_}
 use Rattle.moves.specs.Seen.{repeated, numberIn}
 use Rattle.moves.specs.Moves as Words
-use Rattle.moves.specs.Moves.{letter, #}
+use Rattle.moves.specs.Moves.{letter}
 use Rattle.moves.specs.code.Plan.{lettersOf, behind, isNothing, Ready}
 use Rattle.letters.specs.code.Put.{bytesOf, AllPut, rejectOf, typeRejectOf, logonOf, Sending}
 use Rattle.letters.specs.code.Fit.{FitId, FitLogon}

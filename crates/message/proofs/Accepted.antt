@@ -1,5 +1,5 @@
 -- What a value that is not rejected is like: its bytes, its form and value, and how long it can be.
-use Prim.Native.Nat.{ℕ, zero, suc, _^_, _≤_, _<_, max}
+use Prim.Native.Nat.{ℕ, suc, _^_, _≤_, _<_, max}
 use native.Mathlib.Omega.{arith}
 use Prim.Native.Char.{code}
 use mathlib.Core.Path.{_≡_, refl, ap}

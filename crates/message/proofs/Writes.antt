@@ -1,15 +1,13 @@
 -- What stands in a buffer after bytes were written into it, one behind the other; and the digits of a number, one by one.
-use Prim.Native.Nat.{ℕ, zero, suc, _+_, _-_, _/_, _%_, _^_, _≤_, _<_}
+use Prim.Native.Nat.{ℕ, zero, suc, _+_, _-_, _/_, _^_, _≤_, _<_}
 use native.Mathlib.Nat.{add-zero, add-suc, suc-add}
 use native.Mathlib.Numerals.{add-one}
 use native.Mathlib.Omega.{arith}
 use mathlib.Core.Path.{_≡_, refl, sym, ap, _∙_}
 use mathlib.Core.List.{List, [], _∷_, _++_, append-assoc}
-use mathlib.Core.Bool.{true}
-use lib.ListN.{length, take, drop, getD, set, length-append, List·getD-append}
+use lib.ListN.{length, take, drop, getD, set, length-append}
 use lib.Seq.{sets, sets-eq, take-suc, drop-at, length-take-le, take-append-seam}
-use borrow.Author.Tests.{lt-ltb}
-use Rattle.bytes.specs.Bytes.{Bytes, all, digit, value, decimal}
+use Rattle.bytes.specs.Bytes.{Bytes, all, decimal}
 use Rattle.bytes.proofs.Decimals.{decimal-written}
 use Rattle.bytes.proofs.Rightmost.{length-small, length-step}
 use Rattle.message.specs.Message.{Field, field, row}

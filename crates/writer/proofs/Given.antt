@@ -4,7 +4,7 @@ use mathlib.Core.Path.{_≡_, refl, sym, ap, _∙_}
 use mathlib.Core.Bool.{Bool, true, false, cond, not, _||_, false≢true}
 use lib.ListN.{getD}
 use borrow.Author.Tests.{not-true}
-use Rattle.bytes.specs.Bytes.{Bytes, all, has}
+use Rattle.bytes.specs.Bytes.{Bytes, all}
 use Rattle.kinds.specs.Kind as Kinds
 use Rattle.kinds.specs.Kind.{Kind, text, number_to_, Y/N, time, day, among, kindOf}
 use Rattle.table.specs.declared.MsgType.{MsgType}

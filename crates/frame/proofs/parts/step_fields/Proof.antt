@@ -2,7 +2,7 @@
 use denote.Ref.{now}
 use borrow.Author.Needs.{needs}
 use native.Mathlib.Omega.{arith}
-use Prim.Native.Nat.{ℕ, _+_, _-_, _≤_, _<_}
+use Prim.Native.Nat.{_+_}
 use Rattle.frame.specs.Frame.{ruleOf}
 use lib.ListN.{length}
 use Rattle.bytes.proofs.Search.{none-at-all}

@@ -2,7 +2,6 @@
 use denote.Ref.{now}
 use borrow.Author.Needs.{needs}
 use native.Mathlib.Omega.{arith}
-use Prim.Native.Nat.{ℕ, _+_, _-_, _≤_, _<_}
 use mathlib.Core.Path.{refl}
 use Rattle.frame.specs.Frame.{ruleOf}
 use Rattle.frame.proofs.AtSize.{size-next, size-wrong-full, size-wrong-high, size-wrong-next, size-wrong-low, size-short, size-short-more}
