@@ -14,10 +14,11 @@ use Rattle.kinds.proofs.Values.{same-true, same-refl}
 use Rattle.dictionary.specs.declared.Verdict.the-variants.{Clean}
 use Rattle.dictionary.specs.Verdict.{verdict}
 use Rattle.message.specs.Message.{absent, bytes}
+use Rattle.gap.specs.Gap.{no-gap, asks, seen}
 use Rattle.moves.specs.Words.{first, _when_, _otherwise_, speaks}
 use Rattle.moves.specs.Session.{Session}
 use Rattle.moves.specs.Seen.{isIt, repeated, isClean}
-use Rattle.moves.specs.Moves.{Deeds, Heartbeat, Write, Fill-to, Reset-to, Anew, Deliver, #, N, type, readable, reject, rejection, logout, resend-request, counted, unserved, served, logon, reset, no-reset, waiting, stranger, rule-1, rule-2, bare-reset, rule-3, too-high, rule-4, too-low, rule-5, filled, in-turn, rule-6, active}
+use Rattle.moves.specs.Moves.{Deeds, Heartbeat, Write, Fill-to, Reset-to, Anew, Deliver, Gap-becomes, #, N, type, readable, reject, rejection, logout, asking, counted, unserved, served, logon, reset, no-reset, waiting, stranger, rule-1, rule-2, bare-reset, rule-3, served-first, asks-or-not, too-high, rule-4, too-low, rule-5, filled, in-turn, rule-6, active}
 use Rattle.moves.specs.Moves.{OurPeer, bare, reject-type}
 use Rattle.moves.proofs.Words.{then-by, said-when, said-first, said-otherwise, Said, not-said, all-silent}
 use Rattle.moves.proofs.Readings.{is-clean}
@@ -34,11 +35,11 @@ not-held : (w : Bytes) (o : Option Bytes) → isIt w o ≡ false → o ≡ some 
 not-held w o h e = false≢true (sym h ∙ is-held w o e)
 
 -- A LOGON that is answered
-pub record EachLogon (P : Deeds → Type 0) (s : Session) (body : Bytes) : Type 0 where
+pub record EachLogon (P : Deeds → Type 0) (s : Session) (body : Bytes) (t : ℕ) : Type 0 where
   pub anew : isIt (fix "Y") (firstField 141 body) ≡ true → N s body ≡ 1 → P (Anew ∷ logon s body (bytes (fix "Y")))
   pub logged-out : P (logout s body 101)
   pub in-turn : isIt (fix "Y") (firstField 141 body) ≡ false → N s body ≡ s .E → P (counted s body (logon s body absent))
-  pub high : isIt (fix "Y") (firstField 141 body) ≡ false → s .E < N s body → P (logon s body absent ++ resend-request s body)
+  pub high : isIt (fix "Y") (firstField 141 body) ≡ false → s .E < N s body → P (logon s body absent ++ asking s body t no-gap)
 
 -- A MESSAGE IN TURN
 pub record EachTurn (P : Deeds → Type 0) (s : Session) (body : Bytes) : Type 0 where
@@ -53,22 +54,22 @@ pub record EachTurn (P : Deeds → Type 0) (s : Session) (body : Bytes) : Type 0
   pub other : P (counted s body [])
 
 -- THE SIX RULES
-pub record EachRule (P : Deeds → Type 0) (s : Session) (body : Bytes) : Type 0 where
+pub record EachRule (P : Deeds → Type 0) (s : Session) (body : Bytes) (t : ℕ) : Type 0 where
   pub one : speaks (readable s body) ≡ false → P (logout s body 101)
   pub two : speaks (readable s body) ≡ true → (OurPeer s body → ⊥) → (tag : ℕ) → tag ≤ 56 → P (stranger s body tag)
   pub three : speaks (readable s body) ≡ true → OurPeer s body → bare s body ≡ true → P (bare-reset s body)
-  pub four : speaks (readable s body) ≡ true → OurPeer s body → bare s body ≡ false → s .E < N s body → P (too-high s body)
+  pub four : speaks (readable s body) ≡ true → OurPeer s body → bare s body ≡ false → s .E < N s body → P (too-high s body t)
   pub five : speaks (readable s body) ≡ true → OurPeer s body → bare s body ≡ false → N s body < s .E → P (too-low s body)
   pub six : speaks (readable s body) ≡ true → OurPeer s body → bare s body ≡ false → N s body ≡ s .E → P (in-turn s body)
 
 module _ (P : Deeds → Type 0) (s : Session) (body : Bytes) where
-  pub each-logon : EachLogon P s body → P (waiting s body)
+  pub each-logon : (t : ℕ) → EachLogon P s body t → P (waiting s body t)
   unfolding waiting reset no-reset
-  each-logon R = go (isIt (fix "Y") (firstField 141 body)) (eqb (N s body) 1) (ltb (N s body) (s .E)) (eqb (N s body) (s .E)) (ltb (s .E) (N s body)) refl refl refl refl refl
+  each-logon t R = go (isIt (fix "Y") (firstField 141 body)) (eqb (N s body) 1) (ltb (N s body) (s .E)) (eqb (N s body) (s .E)) (ltb (s .E) (N s body)) refl refl refl refl refl
     where
       go : (p q l m h : Bool) → isIt (fix "Y") (firstField 141 body) ≡ p → eqb (N s body) 1 ≡ q → ltb (N s body) (s .E) ≡ l → eqb (N s body) (s .E) ≡ m → ltb (s .E) (N s body) ≡ h → P (first
           ((cond q (Anew ∷ logon s body (bytes (fix "Y"))) (logout s body 101) when p)
-          ∷ first ((logout s body 101 when l) ∷ (counted s body (logon s body absent) when m) ∷ ((logon s body absent ++ resend-request s body) when h) ∷ [])
+          ∷ first ((logout s body 101 when l) ∷ (counted s body (logon s body absent) when m) ∷ ((logon s body absent ++ asking s body t no-gap) when h) ∷ [])
           ∷ []) otherwise [])
       go true true l m h y a b c d = R .anew y (eqb-true _ _ a)
       go true false l m h y a b c d = R .logged-out
@@ -82,10 +83,10 @@ module _ (P : Deeds → Type 0) (s : Session) (body : Bytes) where
 
   -- RULE 3
   pub each-reset : (isClean (verdict body) ≡ false → P (rejection s body)) → (isClean (verdict body) ≡ true → # s body 36 < s .E → P (reject s body 5 36))
-      → (isClean (verdict body) ≡ true → s .E ≤ # s body 36 → P (Reset-to (# s body 36) ∷ [])) → P (bare-reset s body)
+      → (isClean (verdict body) ≡ true → s .E ≤ # s body 36 → P (Reset-to (# s body 36) ∷ Gap-becomes no-gap ∷ [])) → P (bare-reset s body)
   unfolding bare-reset
   each-reset finding low taken =
-      said-otherwise P ((rejection s body when not (isClean (verdict body))) ∷ (reject s body 5 36 when ltb (# s body 36) (s .E)) ∷ []) (Reset-to (# s body 36) ∷ [])
+      said-otherwise P ((rejection s body when not (isClean (verdict body))) ∷ (reject s body 5 36 when ltb (# s body 36) (s .E)) ∷ []) (Reset-to (# s body 36) ∷ Gap-becomes no-gap ∷ [])
       (then-by (said-when P _ _ (λ e. finding (not-true _ e))) (λ n. let c = not-false (isClean (verdict body)) (not-said (rejection s body) _ n) in
       then-by (said-when P _ _ (λ e. low c (ltb-true _ _ e))) (λ m. taken c (ltb-false _ _ (not-said (reject s body 5 36) _ m)))))
 
@@ -100,13 +101,21 @@ module _ (P : Deeds → Type 0) (s : Session) (body : Bytes) where
       go false true p q = end
       go false false p q = serve (rw (p, q))
 
-  -- RULE 4
-  pub each-high : (verdict body ≡ Clean → type s body "2" ≡ true → unserved s body ≡ none → P (served s body ++ resend-request s body)) → P (resend-request s body) → P (too-high s body)
-  unfolding too-high
-  each-high both alone = go (type s body "2") (isClean (verdict body)) (unserved s body) refl refl refl
+  -- RULE 4: served first or not, and then asked or not
+  pub each-asking : (t : ℕ) → (asks t (s .E) (s .gap) ≡ true → P (asking s body t (s .gap))) → (asks t (s .E) (s .gap) ≡ false → P (Gap-becomes (seen (N s body) (s .gap)) ∷ [])) → P (asks-or-not s body t)
+  unfolding asks-or-not
+  each-asking t asked not-asked = go (asks t (s .E) (s .gap)) refl
     where
-      go : (a c : Bool) (u : Option Deeds) → type s body "2" ≡ a → isClean (verdict body) ≡ c → unserved s body ≡ u → P (cond (a && c && not (speaks u)) (served s body) [] ++ resend-request s body)
-      go true true none p q r = both (is-clean (verdict body) q) p r
+      go : (b : Bool) → asks t (s .E) (s .gap) ≡ b → P (cond b (asking s body t (s .gap)) (Gap-becomes (seen (N s body) (s .gap)) ∷ []))
+      go true e = asked e
+      go false e = not-asked e
+
+  each-served : (verdict body ≡ Clean → type s body "2" ≡ true → unserved s body ≡ none → P (served s body)) → P [] → P (served-first s body)
+  unfolding served-first
+  each-served serves alone = go (type s body "2") (isClean (verdict body)) (unserved s body) refl refl refl
+    where
+      go : (a c : Bool) (u : Option Deeds) → type s body "2" ≡ a → isClean (verdict body) ≡ c → unserved s body ≡ u → P (cond (a && c && not (speaks u)) (served s body) [])
+      go true true none p q r = serves (is-clean (verdict body) q) p r
       go true true (some ds) p q r = alone
       go true false u p q r = alone
       go false c u p q r = alone
@@ -159,14 +168,14 @@ module _ (P : Deeds → Type 0) (s : Session) (body : Bytes) where
       let k = all-silent ((stranger s body 49 when not (isIt (s .peers) (firstField 49 body))) ∷ (stranger s body 56 when not (isIt (s .ours) (firstField 56 body))) ∷ []) n in
       record { sender = holds-is (s .peers) (firstField 49 body) (not-false _ (not-said (stranger s body 49) _ (k .0))); target = holds-is (s .ours) (firstField 56 body) (not-false _ (not-said (stranger s body 56) _ (k .1 .0))) }
 
-  pub each-rule : EachRule P s body → P (active s body)
+  pub each-rule : (t : ℕ) → EachRule P s body t → P (active s body t)
   unfolding active rule-1 rule-2 rule-3 rule-4 rule-5 rule-6
-  each-rule R =
-      said-otherwise P (rule-1 s body ∷ rule-2 s body ∷ rule-3 s body ∷ rule-4 s body ∷ rule-5 s body ∷ rule-6 s body ∷ []) []
+  each-rule t R =
+      said-otherwise P (rule-1 s body ∷ rule-2 s body ∷ rule-3 s body ∷ rule-4 s body t ∷ rule-5 s body ∷ rule-6 s body ∷ []) []
       (then-by (said-when P _ _ (λ e. R .one (not-true _ e))) (λ n₁. let r = not-false (speaks (readable s body)) (not-said (logout s body 101) _ n₁) in
       then-by (two r) (λ n₂. let p = our-peer n₂ in
       then-by (said-when P _ _ (λ e. R .three r p e)) (λ n₃. let b = not-said (bare-reset s body) (bare s body) n₃ in
-      then-by (said-when P _ _ (λ e. R .four r p b (ltb-true _ _ e))) (λ n₄. let h = ltb-false (s .E) (N s body) (not-said (too-high s body) _ n₄) in
+      then-by (said-when P _ _ (λ e. R .four r p b (ltb-true _ _ e))) (λ n₄. let h = ltb-false (s .E) (N s body) (not-said (too-high s body t) _ n₄) in
       then-by (said-when P _ _ (λ e. R .five r p b (ltb-true _ _ e))) (λ n₅. let l = ltb-false (N s body) (s .E) (not-said (too-low s body) _ n₅) in
       then-by (said-when P _ _ (λ e. R .six r p b (eqb-true _ _ e))) (λ n₆. absurd (eqb-false (N s body) (s .E) (not-said (in-turn s body) _ n₆) (omega arith)))))))))
     where
@@ -175,3 +184,17 @@ module _ (P : Deeds → Type 0) (s : Session) (body : Bytes) where
           said-first P ((stranger s body 49 when not (isIt (s .peers) (firstField 49 body))) ∷ (stranger s body 56 when not (isIt (s .ours) (firstField 56 body))) ∷ [])
           (then-by (said-when P _ _ (λ e. R .two r (λ p. not-held (s .peers) (firstField 49 body) (not-true _ e) (p .sender)) 49 (omega arith))) (λ n.
           then-by (said-when P _ _ (λ e. R .two r (λ p. not-held (s .ours) (firstField 56 body) (not-true _ e) (p .target)) 56 (omega arith))) (λ m. tt)))
+
+-- a frame that is too high: served first or not, and what it then does
+pub record EachHigh (P : Deeds → Type 0) (s : Session) (body : Bytes) (t : ℕ) : Type 0 where
+  pub served-asks : verdict body ≡ Clean → type s body "2" ≡ true → unserved s body ≡ none → asks t (s .E) (s .gap) ≡ true → P (served s body ++ asking s body t (s .gap))
+  pub served-seen : verdict body ≡ Clean → type s body "2" ≡ true → unserved s body ≡ none → asks t (s .E) (s .gap) ≡ false → P (served s body ++ (Gap-becomes (seen (N s body) (s .gap)) ∷ []))
+  pub only-asks : asks t (s .E) (s .gap) ≡ true → P (asking s body t (s .gap))
+  pub only-seen : asks t (s .E) (s .gap) ≡ false → P (Gap-becomes (seen (N s body) (s .gap)) ∷ [])
+
+pub each-high : (P : Deeds → Type 0) (s : Session) (body : Bytes) (t : ℕ) → EachHigh P s body t → P (too-high s body t)
+unfolding too-high
+each-high P s body t R =
+    each-served (λ (ds : Deeds). P (ds ++ asks-or-not s body t)) s body
+    (λ c y u. each-asking (λ (ds : Deeds). P (served s body ++ ds)) s body t (R .served-asks c y u) (R .served-seen c y u))
+    (each-asking P s body t (R .only-asks) (R .only-seen))

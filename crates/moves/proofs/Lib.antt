@@ -4,3 +4,4 @@ pub mod Ranges
 pub mod Types
 pub mod Numbering
 pub mod EachRule
+pub mod GapPlans

@@ -3,13 +3,15 @@
 use Prim.Native.Nat.{ℕ, _≤_, _<_}
 use mathlib.Core.Path.{_≡_, ap, _∙_}
 use mathlib.Core.Bool.{Bool, true, false, not}
-use lib.Dec.{eqb, leb, ltb}
+use lib.Dec.{eqb, ltb}
 use lib.ListN.{length, take}
 use borrow.Author.Tests.{lt-leb, le-leb, eq-eqb, ne-eqb, not-true, not-false}
 use Rattle.bytes.specs.Bytes.{Bytes, has, within}
 use Rattle.bytes.proofs.Numerals.{within-is}
 use Rattle.bytes.proofs.Tests.{both}
-use Rattle.moves.specs.Session.{_==_, numbered, placed, inRange}
+use Rattle.gap.specs.Gap.{numbered, bounded}
+use Rattle.gap.specs.Held.{gapOf}
+use Rattle.moves.specs.Session.{_==_, placed, inRange}
 use Rattle.message.specs.Unfit.{stringTo, compID}
 use Rattle.moves.specs.Held.{held, sessionOf}
 use Rattle.moves.specs.declared.record.Record.{Record}
@@ -45,13 +47,6 @@ held-is n c h = rw (le-leb n 11 h)
 pub held-comp : (n : ℕ) (c : Bytes) {b : Bool} → n ≤ 11 → b ≡ compID (take n c) → b ≡ compID (held n c)
 held-comp n c h e = rw (le-leb n 11 h) e
 
--- A NUMBER
-pub number-low : (n : ℕ) → n < 1 → false ≡ numbered n
-number-low n l = rw (lt-leb 1 n l)
-
-pub number-rest : (n : ℕ) → 1 ≤ n → leb n 999_999_999 ≡ numbered n
-number-rest n l = rw (le-leb 1 n l)
-
 -- THE RECORD, test by test
 module _ (r : Record) {a : Bool} (ra : a ≡ compID (held (r .oursLen) (r .ours))) where
   pub range-ours : not a ≡ true → false ≡ inRange (sessionOf r)
@@ -82,9 +77,14 @@ module _ (r : Record) {a : Bool} (ra : a ≡ compID (held (r .oursLen) (r .ours)
           unfolding inRange
           range-fast h k = rw (← ra, not-false a ha, ← rb, not-false b hb, ← re, not-false e he, ← rn, not-false n hn, le-leb 1 (r .heartbeat) h, lt-leb (r .heartbeat) 60 k)
 
-          pub range-rest : 1 ≤ r .heartbeat → r .heartbeat ≤ 60 → {p : Bool} → p ≡ placed (sessionOf r) (sessionOf r .replay) → p ≡ inRange (sessionOf r)
-          unfolding inRange
-          range-rest h k q = q ∙ rw (← ra, not-false a ha, ← rb, not-false b hb, ← re, not-false e he, ← rn, not-false n hn, le-leb 1 (r .heartbeat) h, le-leb (r .heartbeat) 60 k)
+          module _ (h : 1 ≤ r .heartbeat) (k : r .heartbeat ≤ 60) {p : Bool} (rp : p ≡ placed (sessionOf r) (sessionOf r .replay)) where
+            pub range-place : not p ≡ true → false ≡ inRange (sessionOf r)
+            unfolding inRange
+            range-place hp = rw (← ra, not-false a ha, ← rb, not-false b hb, ← re, not-false e he, ← rn, not-false n hn, le-leb 1 (r .heartbeat) h, le-leb (r .heartbeat) 60 k, ← rp, not-true p hp)
+
+            pub range-gap : not p ≡ false → {g : Bool} → g ≡ bounded (gapOf (r .gap)) → g ≡ inRange (sessionOf r)
+            unfolding inRange
+            range-gap hp q = q ∙ rw (← ra, not-false a ha, ← rb, not-false b hb, ← re, not-false e he, ← rn, not-false n hn, le-leb 1 (r .heartbeat) h, le-leb (r .heartbeat) 60 k, ← rp, not-false p hp)
 
 -- THE PLACE OF A REPLAY
 module _ (r : Record) where
@@ -101,4 +101,4 @@ module _ (r : Record) where
     pub placed-rest : not a ≡ false → r .at ≤ r .to → ltb (r .to) (r .next) ≡ placed (sessionOf r) (sessionOf r .replay)
     placed-rest h k = rw (ne-eqb (r .at) 0 e, ← ra, not-false a h, le-leb (r .at) (r .to) k)
 
-pub ruleset ranges = (string-short, string-long, string-bar, string-comp, held-long, held-comp, number-low, number-rest, range-ours, range-peer, range-expected, range-next, range-slow, range-fast, range-rest, placed-none, placed-idle, placed-turned, placed-rest)
+pub ruleset ranges = (string-short, string-long, string-bar, string-comp, held-long, held-comp, range-ours, range-peer, range-expected, range-next, range-slow, range-fast, range-place, range-gap, placed-none, placed-idle, placed-turned, placed-rest)

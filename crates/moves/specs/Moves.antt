@@ -12,6 +12,7 @@ use Rattle.table.specs.declared.MsgType.the-variants as MsgType
 use Rattle.dictionary.specs.Verdict.{verdict, msgType}
 use Rattle.message.specs.Message.{Value, number, absent, bytes, _is_, written}
 use Rattle.replies.specs.Reply as Reply
+use Rattle.gap.specs.Gap.{Gap, no-gap, asks, asked-for, seen}
 use Rattle.moves.specs.Words.{_=?_, _<?_, _≤?_, if_then_else_, _when_, first, _otherwise_, speaks}
 use Rattle.moves.specs.Session.{Session, Replay}
 use Rattle.moves.specs.Seen.{isIt, repeated, numberIn, codeOf, reasonOf, tagOf, isClean}
@@ -49,6 +50,7 @@ pub data Deed : Type 0 where
   Anew : Deed  -- the numbers begin anew: E is 2, the next out is 1
   Heartbeat-becomes : ℕ → Deed
   Becomes : Status → Deed
+  Gap-becomes : Gap → Deed
   Deliver : Deed
 
 abbrev pub Deeds : Type 0
@@ -97,9 +99,9 @@ module _ (s : Session) (body : Bytes) where
   abbrev pub logout : ℕ → Deeds
   logout why = Write (Logout why) ∷ Becomes Closed ∷ []
 
-  -- "Resend Request 7=E, 16=0"
-  abbrev pub resend-request : Deeds
-  resend-request = Write (ResendRequest E) ∷ []
+  -- "Resend Request 7=E, 16=0", at the time t, and what is known of the gap behind it
+  abbrev pub asking : ℕ → Gap → Deeds
+  asking t g = Write (ResendRequest E) ∷ Gap-becomes (asked-for t E N g) ∷ []
 
   -- what is done, and then E + 1
   abbrev pub counted : Deeds → Deeds
@@ -111,28 +113,30 @@ module _ (s : Session) (body : Bytes) where
   acceptable = speaks readable && 49 holds s .peers && 56 holds s .ours && clean
 
   -- "An accepted logon sets Active and the heartbeat; our Logon repeats its 98, 108 and 1137." Document 02: "what we write has none", no zeros in front of
-  -- the number that its 108 is.
+  -- the number that its 108 is; "E above the highest seen closes" a gap, "as do logon and any reset".
   unfoldable pub logon : Value → Deeds
   logon with-141 =
       Write (Logon (repeated (the 98)) (# 108) (repeated (the 1137)) with-141) ∷
       Becomes Active ∷
       Heartbeat-becomes (# 108) ∷
+      Gap-becomes no-gap ∷
       []
 
   -- "141=Y: with N = 1, E is 2, our Logon with 141=Y goes out as number 1, and the next is 2; else Logout."
   unfoldable pub reset : Option Deeds
   reset = (if N =? 1 then Anew ∷ logon (bytes (fix "Y")) else logout 101) when 141 holds fix "Y"
 
-  -- "Without 141=Y: N < E, Logout; N = E, Logon, E + 1; N > E, Logon, then Resend Request from E."
-  unfoldable pub no-reset : Option Deeds
-  no-reset = first
+  -- "Without 141=Y: N < E, Logout; N = E, Logon, E + 1; N > E, Logon, then Resend Request from E." Document 02: "a logon above E opens" a gap.
+  unfoldable pub no-reset : ℕ → Option Deeds
+  no-reset t = first
       (logout 101 when N <? E ∷
       counted (logon absent) when N =? E ∷
-      (logon absent ++ resend-request) when E <? N ∷
+      (logon absent ++ asking t no-gap) when E <? N ∷
       [])
 
-  unfoldable pub waiting : Deeds
-  waiting = first (reset ∷ no-reset ∷ []) otherwise []
+  -- at the time t, at which that gap is asked for
+  unfoldable pub waiting : ℕ → Deeds
+  waiting t = first (reset ∷ no-reset t ∷ []) otherwise []
 
   -- SERVING
   -- "Serving 7=b, 16=e, with L one below the next out"
@@ -175,9 +179,10 @@ module _ (s : Session) (body : Bytes) where
     pub sender : the 49 ≡ some (s .peers)
     pub target : the 56 ≡ some (s .ours)
 
-  -- "3. Type 4 without 123=Y: a verdict gives Reject; 36 below E gives Reject 5, tag 36; E stays. Otherwise E becomes 36."
+  -- "3. Type 4 without 123=Y: a verdict gives Reject; 36 below E gives Reject 5, tag 36; E stays. Otherwise E becomes 36." Document 02: "any
+  -- reset" that is taken closes a gap.
   unfoldable pub bare-reset : Deeds
-  bare-reset = first (rejection when not clean ∷ reject 5 36 when # 36 <? E ∷ []) otherwise (Reset-to (# 36) ∷ [])
+  bare-reset = first (rejection when not clean ∷ reject 5 36 when # 36 <? E ∷ []) otherwise (Reset-to (# 36) ∷ Gap-becomes no-gap ∷ [])
 
   -- "Type 4 without 123=Y"
   abbrev pub bare : Bool
@@ -187,11 +192,18 @@ module _ (s : Session) (body : Bytes) where
   rule-3 = bare-reset when bare
 
   -- "4. N > E: Resend Request 7=E, 16=0; E stays. An incoming Resend Request, if clean and not rejected below, is served first."
-  unfoldable pub too-high : Deeds
-  too-high = (if type "2" && clean && not (speaks unserved) then served else []) ++ resend-request
+  unfoldable pub served-first : Deeds
+  served-first = if type "2" && clean && not (speaks unserved) then served else []
 
-  unfoldable pub rule-4 : Option Deeds
-  rule-4 = too-high when E <? N
+  -- Document 02: "A too-high frame asks only if ..", and one that does not is seen.
+  unfoldable pub asks-or-not : ℕ → Deeds
+  asks-or-not t = if asks t E (s .gap) then asking t (s .gap) else Gap-becomes (seen N (s .gap)) ∷ []
+
+  unfoldable pub too-high : ℕ → Deeds
+  too-high t = served-first ++ asks-or-not t
+
+  unfoldable pub rule-4 : ℕ → Option Deeds
+  rule-4 t = too-high t when E <? N
 
   -- "5. N < E: 43 not Y, Logout. 43=Y without 122, Reject 1, tag 122. Otherwise ignored."
   unfoldable pub too-low : Deeds
@@ -225,5 +237,6 @@ module _ (s : Session) (body : Bytes) where
   unfoldable pub rule-6 : Option Deeds
   rule-6 = in-turn when N =? E
 
-  unfoldable pub active : Deeds
-  active = first (rule-1 ∷ rule-2 ∷ rule-3 ∷ rule-4 ∷ rule-5 ∷ rule-6 ∷ []) otherwise []
+  -- at the time t, which rule 4 asks for
+  unfoldable pub active : ℕ → Deeds
+  active t = first (rule-1 ∷ rule-2 ∷ rule-3 ∷ rule-4 t ∷ rule-5 ∷ rule-6 ∷ []) otherwise []

@@ -1,8 +1,14 @@
 // What a session's moves are made of: its record, what is seen of a frame's body, and the plan that a rule makes of it.
+mod gaps;
 mod plan;
 mod reads;
 mod record;
 
+pub use gaps::Missed;
+pub use gaps::asks_or_not;
+pub use gaps::missing;
+pub use gaps::resetting;
+pub use gaps::settled;
 pub use plan::Letter;
 pub use plan::Plan;
 pub use plan::accepting;

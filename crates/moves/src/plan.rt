@@ -1,6 +1,7 @@
 // A plan: what a move says and what becomes of the record; and what it leaves of the numbers.
 use crate::record::Record;
 use crate::record::Status;
+use gap::Gap;
 ghost use mathlib.Core.Path.{_≡_};
 ghost use mathlib.Core.Bool.{_&&_};
 ghost use Prim.Native.Nat.{_+_, _≤_};
@@ -36,6 +37,7 @@ pub struct Plan {
     // The place of a replay.
     pub at: u64,
     pub to: u64,
+    pub gap: Gap,
 }
 
 // Messages that change nothing but our numbers.
@@ -43,6 +45,7 @@ pub fn saying(r: Record, first: Letter, second: Letter) -> Plan
     ensures { λ p. ⌜ p ≡ says (sessionOf r) first second ⌝ }
 {
     let st = r.status;
+    let gap = r.gap;
     Plan {
         delivered: false,
         first,
@@ -52,6 +55,7 @@ pub fn saying(r: Record, first: Letter, second: Letter) -> Plan
         heartbeat: r.heartbeat,
         at: r.at,
         to: r.to,
+        gap,
     }
 }
 
@@ -61,6 +65,7 @@ pub fn counting(r: Record, first: Letter) -> Plan
     ensures { λ p. ⌜ p ≡ counts (sessionOf r) first ⌝ }
 {
     let st = r.status;
+    let gap = r.gap;
     let count = r.expected + 1;
     Plan {
         delivered: false,
@@ -71,6 +76,7 @@ pub fn counting(r: Record, first: Letter) -> Plan
         heartbeat: r.heartbeat,
         at: r.at,
         to: r.to,
+        gap,
     }
 }
 
@@ -79,6 +85,7 @@ pub fn expecting(r: Record, e: u64) -> Plan
     ensures { λ p. ⌜ p ≡ expects (sessionOf r) e ⌝ }
 {
     let st = r.status;
+    let gap = r.gap;
     Plan {
         delivered: false,
         first: Letter::Nothing,
@@ -88,6 +95,7 @@ pub fn expecting(r: Record, e: u64) -> Plan
         heartbeat: r.heartbeat,
         at: r.at,
         to: r.to,
+        gap,
     }
 }
 
@@ -95,6 +103,7 @@ pub fn expecting(r: Record, e: u64) -> Plan
 pub fn closing(r: Record, first: Letter, second: Letter, e: u64) -> Plan
     ensures { λ p. ⌜ p ≡ closes (sessionOf r) first second e ⌝ }
 {
+    let gap = r.gap;
     Plan {
         delivered: false,
         first,
@@ -104,6 +113,7 @@ pub fn closing(r: Record, first: Letter, second: Letter, e: u64) -> Plan
         heartbeat: r.heartbeat,
         at: 0,
         to: 0,
+        gap,
     }
 }
 
@@ -113,6 +123,7 @@ pub fn delivering(r: Record) -> Plan
     ensures { λ p. ⌜ p ≡ delivers (sessionOf r) ⌝ }
 {
     let st = r.status;
+    let gap = r.gap;
     Plan {
         delivered: true,
         first: Letter::Nothing,
@@ -122,12 +133,13 @@ pub fn delivering(r: Record) -> Plan
         heartbeat: r.heartbeat,
         at: r.at,
         to: r.to,
+        gap,
     }
 }
 
 // Our Logon, and perhaps a Resend Request behind it; the session is Active.
-pub fn accepting(anew: bool, second: Letter, e: u64, seconds: u64) -> Plan
-    ensures { λ p. ⌜ p ≡ accepts anew second e seconds ⌝ }
+pub fn accepting(anew: bool, second: Letter, e: u64, seconds: u64, gap: Gap) -> Plan
+    ensures { λ p. ⌜ p ≡ accepts anew second e seconds gap ⌝ }
 {
     Plan {
         delivered: false,
@@ -138,12 +150,13 @@ pub fn accepting(anew: bool, second: Letter, e: u64, seconds: u64) -> Plan
         heartbeat: seconds,
         at: 0,
         to: 0,
+        gap,
     }
 }
 
 // A replay of the numbers from one to another starts; a message may go out with it, and E becomes e.
-pub fn serving(r: Record, first: Letter, e: u64, at: u64, to: u64) -> Plan
-    ensures { λ p. ⌜ p ≡ serves (sessionOf r) first e at to ⌝ }
+pub fn serving(r: Record, first: Letter, e: u64, at: u64, to: u64, gap: Gap) -> Plan
+    ensures { λ p. ⌜ p ≡ serves (sessionOf r) first e at to gap ⌝ }
 {
     let st = r.status;
     Plan {
@@ -155,6 +168,7 @@ pub fn serving(r: Record, first: Letter, e: u64, at: u64, to: u64) -> Plan
         heartbeat: r.heartbeat,
         at,
         to,
+        gap,
     }
 }
 

@@ -1,7 +1,11 @@
 // The record of a session, its ranges and its changes.
 use bytes::has;
+use gap::Gap;
+use gap::is_bounded;
+use gap::is_numbered;
 ghost use mathlib.Core.Path.{_≡_};
-ghost use Rattle.moves.specs.Session.{_==_, turned, numbered, placed, inRange};
+ghost use Rattle.gap.specs.Held.{gapOf};
+ghost use Rattle.moves.specs.Session.{_==_, turned, placed, inRange};
 ghost use Rattle.message.specs.Unfit.{stringTo, compID};
 ghost use Rattle.moves.specs.Held.{sessionOf, held, with};
 ghost use Rattle.moves.specs.code.Plan.{changed};
@@ -31,6 +35,8 @@ pub struct Record {
     // The next number of a running replay, and the last one asked for; 0 and 0 if none is running.
     pub at: u64,
     pub to: u64,
+    // What is missing between the expected number and the highest that was seen.
+    pub gap: Gap,
 }
 
 pub fn is_active(s: Status) -> bool
@@ -72,7 +78,7 @@ fn holds_comp_id(c: [u8; 11], n: usize) -> bool
     is_comp_id(&c[..n])
 }
 
-// Whether a record keeps its ranges: the CompIDs, the numbers 1 to 999,999,999, the heartbeat 1 to 60, the place of a replay.
+// Whether a record keeps its ranges: the CompIDs, the numbers 1 to 999,999,999, the heartbeat 1 to 60, the place of a replay, the gap.
 pub fn in_range(r: Record) -> bool
     ensures { λ b. ⌜ b ≡ inRange (sessionOf r) ⌝ }
 {
@@ -96,7 +102,10 @@ pub fn in_range(r: Record) -> bool
     if 60 < r.heartbeat {
         return false;
     }
-    is_placed(r)
+    if !is_placed(r) {
+        return false;
+    }
+    is_bounded(r.gap)
 }
 
 // Whether the place of a replay is within 1 to one below the next number out while Active, or there is none.
@@ -116,15 +125,6 @@ fn is_placed(r: Record) -> bool
     r.to < r.next
 }
 
-fn is_numbered(n: u64) -> bool
-    ensures { λ b. ⌜ b ≡ numbered n ⌝ }
-{
-    if n < 1 {
-        return false;
-    }
-    n <= 999_999_999
-}
-
 // Every change of a record is made here: the CompIDs stay.
 pub fn changed(
     r: Record,
@@ -135,8 +135,9 @@ pub fn changed(
     sent: u64,
     at: u64,
     to: u64,
+    gap: Gap,
 ) -> Record
-    ensures { λ n. ⌜ n ≡ with r (changed (sessionOf r) status expected next heartbeat sent (record { at = at; to = to })) ⌝ }
+    ensures { λ n. ⌜ n ≡ with r (changed (sessionOf r) status expected next heartbeat sent (record { at = at; to = to }) (gapOf gap)) ⌝ }
 {
     let ours = r.ours;
     let peer = r.peer;
@@ -152,12 +153,24 @@ pub fn changed(
         sent,
         at,
         to,
+        gap,
     }
 }
 
-// Another status; an unfinished replay is dropped.
+// Another status; an unfinished replay is dropped, a gap stays.
 pub fn turned(r: Record, status: Status) -> Record
     ensures { λ n. ⌜ n ≡ with r (turned status (sessionOf r)) ⌝ }
 {
-    changed(r, status, r.expected, r.next, r.heartbeat, r.sent, 0, 0)
+    let none: u64 = 0;
+    changed(
+        r,
+        status,
+        r.expected,
+        r.next,
+        r.heartbeat,
+        r.sent,
+        none,
+        none,
+        r.gap,
+    )
 }

@@ -12,11 +12,12 @@ use Rattle.frame.specs.Stream.{joined}
 use Rattle.message.specs.Whole.{bodyIn}
 use Rattle.store.specs.Plan.{Item, ends, range, covered}
 use Rattle.store.proofs.Plan.{range-more, item-fits}
-use Rattle.moves.specs.Session.{Session, Replay, no-replay, running}
+use Rattle.moves.specs.Session.{Session, Replay, no-replay, running, replaying}
 use Rattle.moves.specs.Moves.{N, requested}
 use Rattle.session.specs.Calls.{Outcome, step}
 use Rattle.session.specs.Replays.{Served}
 use Rattle.session.proofs.Promise as Session
+use Rattle.session.proofs.Replays.{asking-stays}
 use Rattle.replaying.specs.Call.{its-table, its-item, behind, replay}
 use Rattle.replaying.specs.Run.{Turn, Ours, OurReport, OurReplay, turn, final, itemIf, itemsOf, sentItems, resentBy, Undisturbed, AllUndisturbed, Finished}
 use Rattle.replaying.proofs.Ways.{Placed, placed-running, each-replay}
@@ -85,7 +86,7 @@ module _ (s : Session) (f : Bytes) (t : ℕ) (buf store : Bytes) (S : Served s f
     where
       go : (b : Bool) → eqb (N s (bodyIn f)) (s .E) ≡ b → step s f t buf store .session .replay ≡ requested s (bodyIn f)
       go true e = ap (λ (o : Outcome). o .session .replay) (Session.promise .replays s .starts f t buf store S (eqb-true _ _ e))
-      go false e = ap (λ (o : Outcome). o .session .replay) (Session.promise .replays s .starts-too-high f t buf store S (above (eqb-false _ _ e)))
+      go false e = ap (λ (o : Outcome). o .session .replay) (Session.promise .replays s .starts-too-high f t buf store S (above (eqb-false _ _ e))) ∙ asking-stays (replaying (requested s (bodyIn f)) s) s (bodyIn f) t
         where
           above : (N s (bodyIn f) ≡ s .E → ⊥) → s .E < N s (bodyIn f)
           above d = let l = S .not-low in omega (arith, l, d)

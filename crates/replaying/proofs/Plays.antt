@@ -29,6 +29,7 @@ use Rattle.store.specs.Plan.{Item, Again, Fill, ends, runTo, orFill, item}
 use Rattle.store.proofs.Counting.{Stands}
 use Rattle.store.proofs.Plan.{item-fits}
 use Rattle.store.proofs.Standing.{found-at, found-none}
+use Rattle.gap.specs.Held.{gapOf}
 use Rattle.moves.specs.Session.{running, sent-at, replaying, inRange}
 use Rattle.moves.specs.Held.{sessionOf, with}
 use Rattle.moves.specs.Held as Held
@@ -49,11 +50,11 @@ abbrev movedOn : Record → ℕ → ℕ → ℕ → Answered
 movedOn r t e len = record { answer = Done; after = with r (replaying (behind (sessionOf r) (Fill (r .at) e)) (sent-at t (sessionOf r))); len = len }
 
 module _ (r : Record) (t e len : ℕ) {z : Record} where
-  pub moved-further : e < r .to → z ≡ with r (changed (sessionOf r) (r .status) (r .expected) (r .next) (r .heartbeat) t (record { at = e + 1; to = r .to }))
+  pub moved-further : e < r .to → z ≡ with r (changed (sessionOf r) (r .status) (r .expected) (r .next) (r .heartbeat) t (record { at = e + 1; to = r .to }) (gapOf (r .gap)))
       → record { answer = Done; after = z; len = len } ≡ movedOn r t e len
   moved-further h w = rw (lt-ltb e (r .to) h) (ap (λ (y : Record). record { answer = Done; after = y; len = len }) w)
 
-  pub moved-out : r .to ≤ e → z ≡ with r (changed (sessionOf r) (r .status) (r .expected) (r .next) (r .heartbeat) t (record { at = 0; to = 0 }))
+  pub moved-out : r .to ≤ e → z ≡ with r (changed (sessionOf r) (r .status) (r .expected) (r .next) (r .heartbeat) t (record { at = 0; to = 0 }) (gapOf (r .gap)))
       → record { answer = Done; after = z; len = len } ≡ movedOn r t e len
   moved-out h w = rw (le-ltb e (r .to) h) (ap (λ (y : Record). record { answer = Done; after = y; len = len }) w)
 

@@ -180,7 +180,7 @@ replay-ranged s t buf store r =
     (each-replay (λ (o : Outcome). Ranged (o .session)) s t buf store
     (λ k e n. subst Ranged (sym e) R)
     (λ i h. R)
-    (λ P. record { ours = R .ours; peers = R .peers; E = R .E; next = R .next; heartbeat = R .heartbeat; place = behind-placed s t (its-item s store) (placed-running s r (P .is-running)) }))
+    (λ P. record { ours = R .ours; peers = R .peers; E = R .E; next = R .next; heartbeat = R .heartbeat; place = behind-placed s t (its-item s store) (placed-running s r (P .is-running)); gap = R .gap }))
 
 ranges : (s : Session) (cs : List Turn) → Lent cs → inRange s ≡ true → AllInRange (run s cs)
 ranges s [] B r = tt

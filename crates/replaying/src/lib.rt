@@ -33,14 +33,24 @@ fn moved_on(r: Record, e: u64, len: usize, time: u64) -> Answered
 {
     let st = r.status;
     if e < r.to {
-        let after = changed(r, st, r.expected, r.next, r.heartbeat, time, e + 1, r.to);
+        let after = changed(
+            r,
+            st,
+            r.expected,
+            r.next,
+            r.heartbeat,
+            time,
+            e + 1,
+            r.to,
+            r.gap,
+        );
         return Answered {
             answer: Answer::Done,
             after,
             len,
         };
     }
-    let after = changed(r, st, r.expected, r.next, r.heartbeat, time, 0, 0);
+    let after = changed(r, st, r.expected, r.next, r.heartbeat, time, 0, 0, r.gap);
     Answered {
         answer: Answer::Done,
         after,

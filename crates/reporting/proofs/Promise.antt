@@ -193,6 +193,7 @@ module _ (s : Session) (v : Values) (t : ℕ) (buf store : Bytes) where
         next = (omega arith, omega (arith, unspent-is s (P .unspent) .1));
         heartbeat = R .heartbeat;
         place = subst (λ (p : Replay). placed (sent-at t (numbering (s .next + 1) s)) p ≡ true) (sym (passed-still s v t P)) refl;
+        gap = R .gap;
       }))
 
   no-replay-moved : report s v t buf store .answer ≡ Done → (s .replay ≡ no-replay) × (report s v t buf store .session .replay ≡ no-replay)

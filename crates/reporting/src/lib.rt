@@ -71,7 +71,17 @@ fn reported(r: Record, len: usize, time: u64) -> Answered
     ensures { λ a. ⌜ a ≡ record { answer = Answer.Done; after = with r (sent-at time (numbering (r .next + 1) (sessionOf r))); len = len } ⌝ }
 {
     let st = r.status;
-    let after = changed(r, st, r.expected, r.next + 1, r.heartbeat, time, r.at, r.to);
+    let after = changed(
+        r,
+        st,
+        r.expected,
+        r.next + 1,
+        r.heartbeat,
+        time,
+        r.at,
+        r.to,
+        r.gap,
+    );
     Answered {
         answer: Answer::Done,
         after,

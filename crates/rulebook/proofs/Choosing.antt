@@ -14,6 +14,9 @@ use Rattle.kinds.specs.Kind.{isNumber}
 use Rattle.dictionary.specs.declared.Verdict.{Verdict}
 use Rattle.dictionary.specs.Verdict.{verdict, msgType}
 use Rattle.moves.specs.Words.{speaks, first, _when_, _otherwise_}
+use Rattle.gap.specs.Gap.{no-gap, asked-for}
+use Rattle.gap.specs.Held.{gapOf, heldGap}
+use Rattle.gap.specs.declared.Gap.{Gap}
 use Rattle.moves.specs.Session.{Session}
 use Rattle.moves.specs.Seen.{isIt, isClean, numberIn}
 use Rattle.moves.specs.Moves.{#, N, readable, reject, reject-type, logout, counted, unserved, served, stranger, rule-1, rule-2, bare-reset, rule-3, too-high, rule-4, too-low, rule-5, filled, in-turn, rule-6, active, logon, reset, no-reset, waiting}
@@ -117,60 +120,60 @@ module _ (s : Session) (body : Bytes) where
   unfolding rule-3 isBareReset
   three-is = refl
 
-  module _ {n : ℕ} (R : NumberIn 1 34 body n) where
-    pub first-1 : n ≡ 0 → {p : Plan} → p ≡ closes s (Logout 101) Nothing (s .E) → planned body s p ≡ summed s (active s body)
+  module _ (t : ℕ) {n : ℕ} (R : NumberIn 1 34 body n) where
+    pub first-1 : n ≡ 0 → {p : Plan} → p ≡ closes s (Logout 101) Nothing (s .E) → planned body s p ≡ summed s (active s body t)
     unfolding active rule-1 reject readable
     first-1 z pw = rw (pw, unreadable s R z)
 
     module _ (z : n ≡ 0 → ⊥) {u : ℕ} (w : u ≡ strangeTag s body) where
-      pub first-2 : (u ≡ 0 → ⊥) → {p : Plan} → p ≡ closes s (Reject 9 u) (Logout 101) (raised (eqb n (s .E)) (s .E)) → planned body s p ≡ summed s (active s body)
+      pub first-2 : (u ≡ 0 → ⊥) → {p : Plan} → p ≡ closes s (Reject 9 u) (Logout 101) (raised (eqb n (s .E)) (s .E)) → planned body s p ≡ summed s (active s body t)
       unfolding active rule-1
       first-2 h pw = rw (pw, is-readable s R z, two-is, ← w, ne-eqb u 0 h, ← (is-N s R)) (strange-plan u (eqb n (s .E)))
 
       module _ (h : u ≡ 0) {b : Bool} (k : b ≡ isBareReset body) where
-        pub first-3 : b ≡ true → (p : Plan) → planned body s p ≡ summed s (bare-reset s body) → planned body s p ≡ summed s (active s body)
+        pub first-3 : b ≡ true → (p : Plan) → planned body s p ≡ summed s (bare-reset s body) → planned body s p ≡ summed s (active s body t)
         unfolding active rule-1
         first-3 q p d = d ∙ rw (is-readable s R z, two-is, ← w, eq-eqb u 0 h, three-is, ← k, q)
 
         module _ (q : b ≡ false) where
-          pub first-4 : s .E < n → (p : Plan) → planned body s p ≡ summed s (too-high s body) → planned body s p ≡ summed s (active s body)
+          pub first-4 : s .E < n → (p : Plan) → planned body s p ≡ summed s (too-high s body t) → planned body s p ≡ summed s (active s body t)
           unfolding active rule-1 rule-4
           first-4 l p d = d ∙ rw (is-readable s R z, two-is, ← w, eq-eqb u 0 h, three-is, ← k, q, ← (is-N s R), lt-ltb (s .E) n l)
 
-          pub first-5 : n ≤ s .E → n < s .E → (p : Plan) → planned body s p ≡ summed s (too-low s body) → planned body s p ≡ summed s (active s body)
+          pub first-5 : n ≤ s .E → n < s .E → (p : Plan) → planned body s p ≡ summed s (too-low s body) → planned body s p ≡ summed s (active s body t)
           unfolding active rule-1 rule-4 rule-5
           first-5 l r p d = d ∙ rw (is-readable s R z, two-is, ← w, eq-eqb u 0 h, three-is, ← k, q, ← (is-N s R), le-ltb (s .E) n l, lt-ltb n (s .E) r)
 
-          pub first-6 : n ≤ s .E → s .E ≤ n → (p : Plan) → planned body s p ≡ summed s (in-turn s body) → planned body s p ≡ summed s (active s body)
+          pub first-6 : n ≤ s .E → s .E ≤ n → (p : Plan) → planned body s p ≡ summed s (in-turn s body) → planned body s p ≡ summed s (active s body t)
           unfolding active rule-1 rule-4 rule-5 rule-6
           first-6 l r p d =
               let x : n ≡ s .E = omega arith in
               d ∙ rw (is-readable s R z, two-is, ← w, eq-eqb u 0 h, three-is, ← k, q, ← (is-N s R), le-ltb (s .E) n l, le-ltb n (s .E) r, eq-eqb n (s .E) x)
 
     -- A LOGON
-    module _ {y : Bool} {t : ℕ} (p : y ≡ isIt (fix "Y") (firstField 141 body)) (T : NumberIn 0 108 body t) where
-      seconds : t ≡ # s body 108
+    module _ {y : Bool} {h₁₀₈ : ℕ} (p : y ≡ isIt (fix "Y") (firstField 141 body)) (T : NumberIn 0 108 body h₁₀₈) where
+      seconds : h₁₀₈ ≡ # s body 108
       unfolding #
       seconds = T .is
 
-      pub logon-anew : y ≡ true → n ≡ 1 → {p : Plan} → p ≡ accepts true Nothing 2 t → planned body s p ≡ summed s (waiting s body)
+      pub logon-anew : y ≡ true → n ≡ 1 → {g : Gap} → g ≡ heldGap no-gap → {p : Plan} → p ≡ accepts true Nothing 2 h₁₀₈ g → planned body s p ≡ summed s (waiting s body t)
       unfolding # waiting reset logon reject readable
-      logon-anew h l pw = rw (pw, ← p, h, ← (is-N s R), eq-eqb n 1 l, seconds)
+      logon-anew h l gw pw = rw (pw, gw, ← p, h, ← (is-N s R), eq-eqb n 1 l, seconds)
 
-      pub logon-late : y ≡ true → (n ≡ 1 → ⊥) → {p : Plan} → p ≡ closes s (Logout 101) Nothing (s .E) → planned body s p ≡ summed s (waiting s body)
+      pub logon-late : y ≡ true → (n ≡ 1 → ⊥) → {p : Plan} → p ≡ closes s (Logout 101) Nothing (s .E) → planned body s p ≡ summed s (waiting s body t)
       unfolding waiting reset reject readable
       logon-late h l pw = rw (pw, ← p, h, ← (is-N s R), ne-eqb n 1 l)
 
-      pub logon-low : y ≡ false → n < s .E → {p : Plan} → p ≡ closes s (Logout 101) Nothing (s .E) → planned body s p ≡ summed s (waiting s body)
+      pub logon-low : y ≡ false → n < s .E → {p : Plan} → p ≡ closes s (Logout 101) Nothing (s .E) → planned body s p ≡ summed s (waiting s body t)
       unfolding waiting reset no-reset reject readable
       logon-low h l pw = rw (pw, ← p, h, ← (is-N s R), lt-ltb n (s .E) l)
 
-      pub logon-next : y ≡ false → s .E ≤ n → n ≡ s .E → {p : Plan} → p ≡ accepts false Nothing (s .E + 1) t → planned body s p ≡ summed s (waiting s body)
+      pub logon-next : y ≡ false → s .E ≤ n → n ≡ s .E → {g : Gap} → g ≡ heldGap no-gap → {p : Plan} → p ≡ accepts false Nothing (s .E + 1) h₁₀₈ g → planned body s p ≡ summed s (waiting s body t)
       unfolding # waiting reset no-reset logon reject readable
-      logon-next h l q pw = rw (pw, ← p, h, ← (is-N s R), le-ltb n (s .E) l, eq-eqb n (s .E) q, seconds)
+      logon-next h l q gw pw = rw (pw, gw, ← p, h, ← (is-N s R), le-ltb n (s .E) l, eq-eqb n (s .E) q, seconds)
 
-      pub logon-high : y ≡ false → s .E ≤ n → (n ≡ s .E → ⊥) → {p : Plan} → p ≡ accepts false (Ask (s .E)) (s .E) t → planned body s p ≡ summed s (waiting s body)
+      pub logon-high : y ≡ false → s .E ≤ n → (n ≡ s .E → ⊥) → {z g : Gap} → z ≡ heldGap no-gap → g ≡ heldGap (asked-for t (s .E) n (gapOf z)) → {p : Plan} → p ≡ accepts false (Ask (s .E)) (s .E) h₁₀₈ g → planned body s p ≡ summed s (waiting s body t)
       unfolding # waiting reset no-reset logon reject readable
-      logon-high h l q pw = let k : s .E < n = omega arith in rw (pw, ← p, h, ← (is-N s R), le-ltb n (s .E) l, ne-eqb n (s .E) q, lt-ltb (s .E) n k, seconds)
+      logon-high h l q zw gw pw = let k : s .E < n = omega arith in rw (pw, gw, zw, ← p, h, ← (is-N s R), le-ltb n (s .E) l, ne-eqb n (s .E) q, lt-ltb (s .E) n k, seconds)
 
 pub ruleset choosing = (turn-report, turn-verdict, turn-1, turn-2, turn-4, turn-5, turn-A, turn-AD, turn-F, turn-other, first-1, first-2, first-3, first-4, first-5, first-6, logon-anew, logon-late, logon-low, logon-next, logon-high)

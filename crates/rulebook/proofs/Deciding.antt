@@ -2,7 +2,7 @@
 -- Assumes nothing.
 use Prim.Native.Nat.{ℕ, _+_, _-_, _≤_, _<_, min}
 use native.Mathlib.Omega.{arith}
-use mathlib.Core.Path.{_≡_, refl, ap}
+use mathlib.Core.Path.{_≡_, refl, ap, _∙_}
 use mathlib.Core.Bool.{Bool, true, false, cond, not, _&&_}
 use mathlib.Core.List.{[], _∷_}
 use mathlib.Core.Option.{none, some}
@@ -15,16 +15,19 @@ use Rattle.dictionary.specs.declared.Verdict.{Verdict}
 use Rattle.dictionary.specs.declared.Verdict.the-variants.{Clean, Finding, NoBody}
 use Rattle.dictionary.specs.Verdict.{verdict, msgType}
 use Rattle.moves.specs.Words.{speaks, first, _when_, _otherwise_}
-use Rattle.moves.specs.Session.{Session}
+use Rattle.gap.specs.Gap.{asks, seen}
+use Rattle.gap.specs.Held.{heldGap}
+use Rattle.moves.specs.Session.{Session, Replay}
 use Rattle.moves.specs.Seen.{isIt, isClean}
-use Rattle.moves.specs.Moves.{#, N, readable, counted, unserved, served, bare-reset, too-high, too-low, filled, reject}
-use Rattle.moves.specs.code.Plan.{planned, summed, says, counts, expects, closes, raised, rejectedBy, typeByte, isBareReset, strangeTag, unservedTag, lastAsked, serves, Ready}
+use Rattle.moves.specs.Moves.{Start, Gap-becomes, #, N, readable, asking, counted, unserved, served, bare-reset, served-first, asks-or-not, too-high, too-low, filled, reject}
+use Rattle.moves.specs.code.Plan.{planned, summed, says, counts, expects, closes, raised, rejectedBy, typeByte, isBareReset, strangeTag, unservedTag, lastAsked, missedIf, missedBy, misses, resets, serves, Ready}
 use Rattle.moves.specs.Held.{sessionOf}
 use Rattle.moves.specs.declared.record.Record.{Record}
 use Rattle.moves.specs.code.Reads.{NumberIn}
+use Rattle.moves.specs.declared.gaps.Missed.{Missed}
 use Rattle.moves.specs.declared.plan.Plan.{Plan}
 use Rattle.moves.specs.declared.plan.Letter.{Letter}
-use Rattle.moves.specs.declared.plan.Letter.the-variants.{Nothing, Ask, Reject, Logout}
+use Rattle.moves.specs.declared.plan.Letter.the-variants.{Nothing, Reject, Logout}
 use Rattle.moves.proofs.Types.{agree-2, agree-4, is-type, not-type}
 
 -- a number that was read is the one that the moves read
@@ -62,7 +65,7 @@ module _ (s : Session) (body : Bytes) where
     unfolding bare-reset reject readable
     reset-below l pw = rw (pw, ← e, ← k, not-false b h, ← (hash s R), lt-ltb n (s .E) l)
 
-    pub reset-taken : s .E ≤ n → {p : Plan} → p ≡ expects s n → planned body s p ≡ summed s (bare-reset s body)
+    pub reset-taken : s .E ≤ n → {p : Plan} → p ≡ resets s n → planned body s p ≡ summed s (bare-reset s body)
     unfolding bare-reset reject readable
     reset-taken l pw = rw (pw, ← e, ← k, not-false b h, ← (hash s R), le-ltb n (s .E) l)
 
@@ -108,31 +111,54 @@ module _ (s : Session) (body : Bytes) where
     asked-past h l = let k : min m (s .next - 1) ≡ s .next - 1 = omega arith in rw (← (hash s Q), ne-eqb m 0 h, k)
 
   -- RULE 4
-  module _ {x : ℕ} (e : x ≡ typeByte (msgType body)) where
-    pub high-other : (x ≡ 50 → ⊥) → {p : Plan} → p ≡ says s (Ask (s .E)) Nothing → planned body s p ≡ summed s (too-high s body)
-    unfolding too-high reject readable
-    high-other h pw = rw (pw, not-type agree-2 body e h)
+  -- what a frame that is too high does behind what is served first
+  high-alone : (t : ℕ) → planned body s (misses s (missedBy s (N s body) t .letter) (missedBy s (N s body) t .gap)) ≡ summed s (asks-or-not s body t)
+  unfolding asks-or-not
+  high-alone t = go (asks t (s .E) (s .gap))
+    where
+      go : (b : Bool) → planned body s (misses s (missedIf s (N s body) t b .letter) (missedIf s (N s body) t b .gap)) ≡ summed s (cond b (asking s body t (s .gap)) (Gap-becomes (seen (N s body) (s .gap)) ∷ []))
+      go true = refl
+      go false = refl
+
+  high-behind : (t : ℕ) (p : Replay) → planned body s (serves s (missedBy s (N s body) t .letter) (s .E) (p .at) (p .to) (missedBy s (N s body) t .gap)) ≡ summed s (Start p ∷ asks-or-not s body t)
+  unfolding asks-or-not
+  high-behind t p = go (asks t (s .E) (s .gap))
+    where
+      go : (b : Bool) → planned body s (serves s (missedIf s (N s body) t b .letter) (s .E) (p .at) (p .to) (missedIf s (N s body) t b .gap))
+          ≡ summed s (Start p ∷ cond b (asking s body t (s .gap)) (Gap-becomes (seen (N s body) (s .gap)) ∷ []))
+      go true = refl
+      go false = refl
+
+  module _ (t : ℕ) {n x : ℕ} {m : Missed} (i : n ≡ N s body) (y : m ≡ missedBy s n t) (e : x ≡ typeByte (msgType body)) where
+    alone : {p : Plan} → p ≡ misses s (m .letter) (m .gap) → planned body s p ≡ summed s (asks-or-not s body t)
+    alone pw = ap (planned body s) (pw ∙ ap (λ (z : Missed). misses s (z .letter) (z .gap)) (y ∙ ap (λ (k : ℕ). missedBy s k t) i)) ∙ high-alone t
+
+    pub high-other : (x ≡ 50 → ⊥) → {p : Plan} → p ≡ misses s (m .letter) (m .gap) → planned body s p ≡ summed s (too-high s body t)
+    unfolding too-high served-first
+    high-other h pw = alone pw ∙ rw (not-type agree-2 body e h)
 
     module _ (h : x ≡ 50) {v : Verdict} {b : Bool} (f : v ≡ verdict body) (k : b ≡ isClean v) where
-      pub high-unclean : not b ≡ true → {p : Plan} → p ≡ says s (Ask (s .E)) Nothing → planned body s p ≡ summed s (too-high s body)
-      unfolding too-high reject readable
-      high-unclean q pw = rw (pw, is-type agree-2 body e h, ← f, ← k, not-true b q)
+      pub high-unclean : not b ≡ true → {p : Plan} → p ≡ misses s (m .letter) (m .gap) → planned body s p ≡ summed s (too-high s body t)
+      unfolding too-high served-first
+      high-unclean q pw = alone pw ∙ rw (is-type agree-2 body e h, ← f, ← k, not-true b q)
 
       module _ (q : not b ≡ false) {u : ℕ} (w : u ≡ unservedTag s body) where
-        pub high-unserved : (u ≡ 0 → ⊥) → {p : Plan} → p ≡ says s (Ask (s .E)) Nothing → planned body s p ≡ summed s (too-high s body)
-        unfolding too-high reject readable
-        high-unserved z pw = rw (pw, is-type agree-2 body e h, ← f, ← k, not-false b q, unserved-is, ← w, ne-eqb u 0 z)
+        pub high-unserved : (u ≡ 0 → ⊥) → {p : Plan} → p ≡ misses s (m .letter) (m .gap) → planned body s p ≡ summed s (too-high s body t)
+        unfolding too-high served-first
+        high-unserved z pw = alone pw ∙ rw (is-type agree-2 body e h, ← f, ← k, not-false b q, unserved-is, ← w, ne-eqb u 0 z)
 
-        pub high-served : u ≡ 0 → {n m : ℕ} → NumberIn 0 7 body n → m ≡ lastAsked s body → {p : Plan} → p ≡ serves s (Ask (s .E)) (s .E) n m → planned body s p ≡ summed s (too-high s body)
-        unfolding too-high served lastAsked reject readable
-        high-served z R p pw = rw (pw, is-type agree-2 body e h, ← f, ← k, not-false b q, unserved-is, ← w, eq-eqb u 0 z, ← (hash s R), p)
+        pub high-served : u ≡ 0 → {n₇ l : ℕ} → NumberIn 0 7 body n₇ → l ≡ lastAsked s body → {p : Plan} → p ≡ serves s (m .letter) (s .E) n₇ l (m .gap) → planned body s p ≡ summed s (too-high s body t)
+        unfolding too-high served-first served lastAsked
+        high-served z {n₇ = n₇} {l = l} R o pw =
+            ap (planned body s) (pw ∙ ap (λ (d : Missed). serves s (d .letter) (s .E) n₇ l (d .gap)) (y ∙ ap (λ (j : ℕ). missedBy s j t) i)) ∙ high-behind t (record { at = n₇; to = l })
+            ∙ rw (is-type agree-2 body e h, ← f, ← k, not-false b q, unserved-is, ← w, eq-eqb u 0 z, ← (hash s R), o)
 
   -- A RESEND REQUEST IN TURN
   pub turn-unserved : {u : ℕ} → u ≡ unservedTag s body → (u ≡ 0 → ⊥) → {p : Plan} → p ≡ counts s (Reject 5 u) → planned body s p ≡ summed s (counted s body (unserved s body otherwise served s body))
   unfolding reject readable
   turn-unserved {u = u} w z pw = rw (pw, unserved-is, ← w, ne-eqb u 0 z)
 
-  pub turn-served : {u n m : ℕ} → u ≡ unservedTag s body → u ≡ 0 → NumberIn 0 7 body n → m ≡ lastAsked s body → {p : Plan} → p ≡ serves s Nothing (s .E + 1) n m → planned body s p ≡ summed s (counted s body (unserved s body otherwise served s body))
+  pub turn-served : {u n m : ℕ} → u ≡ unservedTag s body → u ≡ 0 → NumberIn 0 7 body n → m ≡ lastAsked s body → {p : Plan} → p ≡ serves s Nothing (s .E + 1) n m (heldGap (s .gap)) → planned body s p ≡ summed s (counted s body (unserved s body otherwise served s body))
   unfolding served lastAsked reject readable
   turn-served {u = u} w z R p pw = rw (pw, unserved-is, ← w, eq-eqb u 0 z, ← (hash s R), p)
 

@@ -8,10 +8,13 @@ use dictionary::Verdict;
 use dictionary::verdict_on;
 use fields::Place;
 use fields::heads_of;
+use gap::asked_for;
+use gap::no_gap;
 use moves::Letter;
 use moves::Plan;
 use moves::Record;
 use moves::accepting;
+use moves::asks_or_not;
 use moves::closing;
 use moves::counting;
 use moves::delivering;
@@ -20,8 +23,10 @@ use moves::holds;
 use moves::holds_at;
 use moves::is_clean;
 use moves::is_there;
+use moves::missing;
 use moves::number_at;
 use moves::number_in;
+use moves::resetting;
 use moves::saying;
 use moves::type_in;
 ghost use mathlib.Core.Path.{_≡_};
@@ -114,28 +119,29 @@ fn rule_3(r: Record, body: &[u8]) -> Plan
     if to < r.expected {
         return saying(r, Letter::Reject { reason: 5, tag: 36 }, Letter::Nothing);
     }
-    expecting(r, to)
+    resetting(r, to)
 }
 
-// Rule 4: N > E.
-fn rule_4(r: Record, t: u8, body: &[u8]) -> Plan
-    requires { ⌜ Ready r × (t ≡ typeByte (msgType (now body))) ⌝ }
-    ensures { λ p. ⌜ planned (now (body .entry)) (sessionOf r) p ≡ summed (sessionOf r) (too-high (sessionOf r) (now (body .entry))) ⌝ }
+// Rule 4: N > E. A Resend Request that can be served is, and the frame asks or not.
+fn rule_4(r: Record, n: u64, t: u8, body: &[u8], time: u64) -> Plan
+    requires { ⌜ Ready r × (n ≡ N (sessionOf r) (now body)) × (t ≡ typeByte (msgType (now body))) ⌝ }
+    ensures { λ p. ⌜ planned (now (body .entry)) (sessionOf r) p ≡ summed (sessionOf r) (too-high (sessionOf r) (now (body .entry)) time) ⌝ }
 {
-    let ask = Letter::Ask { from: r.expected };
+    let m = asks_or_not(r, n, time);
+    let ask = m.letter;
     if t != b'2' {
-        return saying(r, ask, Letter::Nothing);
+        return missing(r, ask, m.gap);
     }
     let v = verdict_on(body);
     if !is_clean(v) {
-        return saying(r, ask, Letter::Nothing);
+        return missing(r, ask, m.gap);
     }
     if unserved_tag(r, body) != 0 {
-        return saying(r, ask, Letter::Nothing);
+        return missing(r, ask, m.gap);
     }
     let begin = number_in(body, 7, 0);
     let last = last_asked(r, body);
-    moves::serving(r, ask, r.expected, begin, last)
+    moves::serving(r, ask, r.expected, begin, last, m.gap)
 }
 
 // Rule 5: N < E.
@@ -227,9 +233,9 @@ fn is_bare_reset(t: u8, body: &[u8]) -> bool
 }
 
 // While Active: the first rule that fits. A number that can be read is not 0.
-pub fn active(r: Record, body: &[u8]) -> Plan
+pub fn active(r: Record, body: &[u8], time: u64) -> Plan
     requires { ⌜ Ready r ⌝ }
-    ensures { λ p. ⌜ planned (now (body .entry)) (sessionOf r) p ≡ summed (sessionOf r) (active (sessionOf r) (now (body .entry))) ⌝ }
+    ensures { λ p. ⌜ planned (now (body .entry)) (sessionOf r) p ≡ summed (sessionOf r) (active (sessionOf r) (now (body .entry)) time) ⌝ }
 {
     let h = heads_of(body);
     let number = h.number;
@@ -249,7 +255,7 @@ pub fn active(r: Record, body: &[u8]) -> Plan
         return rule_3(r, body);
     }
     if e < n {
-        return rule_4(r, t, body);
+        return rule_4(r, n, t, body, time);
     }
     if n < e {
         return rule_5(r, body);
@@ -258,17 +264,18 @@ pub fn active(r: Record, body: &[u8]) -> Plan
 }
 
 // While Waiting: a logon that is accepted, or is answered by our Logout.
-pub fn waiting(r: Record, body: &[u8]) -> Plan
+pub fn waiting(r: Record, body: &[u8], time: u64) -> Plan
     requires { ⌜ Ready r ⌝ }
-    ensures { λ p. ⌜ planned (now (body .entry)) (sessionOf r) p ≡ summed (sessionOf r) (waiting (sessionOf r) (now (body .entry))) ⌝ }
+    ensures { λ p. ⌜ planned (now (body .entry)) (sessionOf r) p ≡ summed (sessionOf r) (waiting (sessionOf r) (now (body .entry)) time) ⌝ }
 {
     let n = number_in(body, 34, 1);
     let expected = r.expected;
     let up = expected + 1;
     let seconds = number_in(body, 108, 0);
+    let closed = no_gap();
     if holds(body, 141, b"Y") {
         if n == 1 {
-            return accepting(true, Letter::Nothing, 2, seconds);
+            return accepting(true, Letter::Nothing, 2, seconds, closed);
         }
         return closing(r, Letter::Logout { why: 101 }, Letter::Nothing, r.expected);
     }
@@ -276,7 +283,14 @@ pub fn waiting(r: Record, body: &[u8]) -> Plan
         return closing(r, Letter::Logout { why: 101 }, Letter::Nothing, r.expected);
     }
     if n == expected {
-        return accepting(false, Letter::Nothing, up, seconds);
+        return accepting(false, Letter::Nothing, up, seconds, closed);
     }
-    accepting(false, Letter::Ask { from: expected }, expected, seconds)
+    let gap = asked_for(closed, expected, n, time);
+    accepting(
+        false,
+        Letter::Ask { from: expected },
+        expected,
+        seconds,
+        gap,
+    )
 }

@@ -56,5 +56,5 @@ pub fn serve(r: Record, body: &[u8]) -> Plan
     }
     let begin = number_in(body, 7, 0);
     let last = last_asked(r, body);
-    serving(r, Letter::Nothing, r.expected + 1, begin, last)
+    serving(r, Letter::Nothing, r.expected + 1, begin, last, r.gap)
 }

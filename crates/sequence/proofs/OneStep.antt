@@ -16,15 +16,16 @@ use Rattle.table.specs.declared.MsgType.the-variants.{SequenceReset, OrderCance
 use Rattle.table.specs.Dictionary.{code35}
 use Rattle.dictionary.specs.Verdict.{verdict, msgType}
 use Rattle.message.specs.Whole.{bodyIn}
+use Rattle.gap.specs.Gap.{seen}
 use Rattle.moves.specs.Words.{_when_, first, _otherwise_, speaks}
 use Rattle.moves.specs.Session.{_==_, Session}
 use Rattle.moves.specs.Seen.{isIt, codeOf, isClean}
-use Rattle.moves.specs.Moves.{OurPeer, Deeds, #, N, type, bare, readable, acceptable, reject, reject-type, rejection, counted, logout, resend-request, served, logon, waiting, stranger, bare-reset, filled, in-turn, active}
+use Rattle.moves.specs.Moves.{OurPeer, Deeds, #, N, type, bare, readable, acceptable, reject, reject-type, rejection, counted, logout, asking, Gap-becomes, served, logon, waiting, stranger, bare-reset, filled, in-turn, active}
 use Rattle.moves.specs.declared.record.Status.{Status}
 use Rattle.moves.specs.declared.record.Status.the-variants.{Waiting, Active}
 use Rattle.moves.proofs.EachRule.{holds-is, is-held, each-logon, each-serving, each-reset, each-high, each-low, each-gap, each-turn, each-rule}
 use Rattle.letters.proofs.Carried.{type-is}
-use Rattle.session.specs.Calls.{Outcome, afterAll, making, renewed, step}
+use Rattle.session.specs.Calls.{Outcome, afterAll, making, settling, renewed, step}
 use Rattle.session.proofs.EachCall.{each-refusal, each-step}
 use Rattle.session.proofs.Slips.{fails}
 use Rattle.session.specs.Sequence.{refuses, rejects, Share, nothing, counts, skips, taken, resetBy, filledBy, countedBy, shareOf}
@@ -129,10 +130,10 @@ module _ (s : Session) (body : Bytes) where
 
   module _ (t : ℕ) (buf : Bytes) where
     -- A LOGON that is answered: the session is not yet Active
-    logon-why : s .status ≡ Waiting → type s body "A" ≡ true → (renewed s body (making t s (waiting s body) buf) && type s body "A" && not (refuses (making t s (waiting s body) buf .answer))) ≡ false
-        → Why (making t s (waiting s body) buf)
+    logon-why : s .status ≡ Waiting → type s body "A" ≡ true → (renewed s body (settling (making t s (waiting s body t) buf)) && type s body "A" && not (refuses (settling (making t s (waiting s body t) buf) .answer))) ≡ false
+        → Why (settling (making t s (waiting s body t) buf))
     unfolding logon
-    logon-why st y = each-logon (λ (ds : Deeds). (renewed s body (making t s ds buf) && type s body "A" && not (refuses (making t s ds buf .answer))) ≡ false → Why (making t s ds buf)) s body (record {
+    logon-why st y = each-logon (λ (ds : Deeds). (renewed s body (settling (making t s ds buf)) && type s body "A" && not (refuses (settling (making t s ds buf) .answer))) ≡ false → Why (settling (making t s ds buf))) s body t (record {
       anew = λ a n R. never R (both-true _ true (both-true _ (type s body "A") (ap (λ (x : Status). (x == Waiting) && (Active == Active) && isIt (fix "Y") (firstField 141 body)) st ∙ a) y) refl);
       logged-out = λ R. inr (record { not-filled = asleep; by = inl refl });
       in-turn = λ a n R. inr (record { not-filled = asleep; by = inr (n, refl) });
@@ -144,10 +145,10 @@ module _ (s : Session) (body : Bytes) where
 
     -- THE SIX RULES of an Active session
     abbrev Moved : Deeds → Type 0
-    Moved ds = (taken s body (making t s ds buf) && bare s body && leb (s .E) (# s body 36) && not (rejects (making t s ds buf))) ≡ false → Why (making t s ds buf)
+    Moved ds = (taken s body (settling (making t s ds buf)) && bare s body && leb (s .E) (# s body 36) && not (rejects (settling (making t s ds buf)))) ≡ false → Why (settling (making t s ds buf))
 
     -- no gap fill is accepted
-    plain : (ds : Deeds) → (Fills (making t s ds buf) → ⊥) → By (afterAll t s ds .E) → Moved ds
+    plain : (ds : Deeds) → (Fills (settling (making t s ds buf)) → ⊥) → By (afterAll t s ds .E) → Moved ds
     plain ds h b R = inr (record { not-filled = h; by = b })
 
     stranger-why : (OurPeer s body → ⊥) → (tag : ℕ) → Moved (stranger s body tag)
@@ -220,13 +221,18 @@ module _ (s : Session) (body : Bytes) where
     out-of-turn : (N s body ≡ s .E → ⊥) → (ds : Deeds) → afterAll t s ds .E ≡ s .E → Moved ds
     out-of-turn h ds e = plain ds (λ F. h (F .in-turn)) (inl e)
 
-    active-why : (s .status == Active) ≡ true → Moved (active s body)
+    active-why : (s .status == Active) ≡ true → Moved (active s body t)
     unfolding reject served
-    active-why st = each-rule Moved s body (record {
+    active-why st = each-rule Moved s body t (record {
       one = λ r. plain (logout s body 101) (λ F. never r (acceptable-is (F .right) .numbered)) (inl refl);
       two = λ r h tag l. stranger-why h tag;
       three = λ r p b. reset-why st r p b;
-      four = λ r p b l. each-high Moved s body (λ c y u. out-of-turn (λ e. omega arith) (served s body ++ resend-request s body) refl) (out-of-turn (λ e. omega arith) (resend-request s body) refl);
+      four = λ r p b l. each-high Moved s body t (record {
+        served-asks = λ c y u a. out-of-turn (λ e. omega arith) (served s body ++ asking s body t (s .gap)) refl;
+        served-seen = λ c y u a. out-of-turn (λ e. omega arith) (served s body ++ (Gap-becomes (seen (N s body) (s .gap)) ∷ [])) refl;
+        only-asks = λ a. out-of-turn (λ e. omega arith) (asking s body t (s .gap)) refl;
+        only-seen = λ a. out-of-turn (λ e. omega arith) (Gap-becomes (seen (N s body) (s .gap)) ∷ []) refl;
+      });
       five = λ r p b l. each-low Moved s body (out-of-turn (λ e. omega arith) (logout s body 101) refl) (out-of-turn (λ e. omega arith) (reject s body 1 122) refl) (out-of-turn (λ e. omega arith) [] refl);
       six = λ r p b e. turn-why st r p e b;
     })
@@ -236,8 +242,8 @@ pub step-why : (s : Session) (f : Bytes) (t : ℕ) (buf store : Bytes) → reset
 unfolding resetBy
 step-why s f t buf store = each-step (λ (o : Outcome). (anew o || onward o) ≡ false → Why s body o) s t buf f store (record {
   refused = λ k n. inr (record { not-filled = λ F. false≢true (sym (F .unrefused)); by = inl (each-refusal (λ (u : Session). u .E ≡ s .E) k s refl refl) });
-  logon = λ P st y c n. logon-why s body t buf st y (neither (anew (making t s (waiting s body) buf)) (onward (making t s (waiting s body) buf)) n .0);
-  move = λ P st n. active-why s body t buf (ap (λ (x : Status). x == Active) st) (neither (anew (making t s (active s body) buf)) (onward (making t s (active s body) buf)) n .1);
+  logon = λ P st y c n. logon-why s body t buf st y (neither (anew (settling (making t s (waiting s body t) buf))) (onward (settling (making t s (waiting s body t) buf))) n .0);
+  move = λ P st n. active-why s body t buf (ap (λ (x : Status). x == Active) st) (neither (anew (settling (making t s (active s body t) buf))) (onward (settling (making t s (active s body t) buf))) n .1);
 })
   where
     body : Bytes

@@ -24,7 +24,7 @@ use Rattle.calendar.specs.Time.{utc}
 use Rattle.moves.specs.Words.{speaks}
 use Rattle.moves.specs.Session.{Session}
 use Rattle.moves.specs.Seen.{isIt, isClean}
-use Rattle.moves.specs.Moves.{OurPeer, Letter, Heartbeat, Logon, ResendRequest, Reject, GapFill, Logout, TestRequest, letter, Deed, Write, Start, Count, Fill-to, Reset-to, Anew, Heartbeat-becomes, Becomes, Deliver, Deeds, N, type, bare, readable, reject, rejection, counted, logout, served, logon, waiting, too-high, filled, in-turn, active}
+use Rattle.moves.specs.Moves.{OurPeer, Letter, Heartbeat, Logon, ResendRequest, Reject, GapFill, Logout, TestRequest, letter, Deed, Write, Start, Count, Fill-to, Reset-to, Anew, Heartbeat-becomes, Becomes, Gap-becomes, Deliver, Deeds, N, type, bare, readable, reject, rejection, counted, logout, served, logon, waiting, too-high, filled, in-turn, active}
 use Rattle.moves.proofs.EachRule.{each-logon, each-high, each-low, each-gap, each-turn, each-rule}
 use Rattle.session.specs.Calls.{Outcome, afterDeed, afterAll, making, step}
 use Rattle.session.specs.Sequence.{is-reject, rejects}
@@ -66,6 +66,7 @@ Tame (Reset-to n) = Unit {0}
 Tame Anew = Unit {0}
 Tame (Heartbeat-becomes n) = Unit {0}
 Tame (Becomes st) = Unit {0}
+Tame (Gap-becomes g) = Unit {0}
 Tame Deliver = Unit {0}
 
 abbrev pub AllTame : Deeds → Type 0
@@ -82,17 +83,23 @@ tame t s (Reset-to n ∷ ds) buf p = tame t (afterDeed t s (Reset-to n)) ds buf 
 tame t s (Anew ∷ ds) buf p = tame t (afterDeed t s Anew) ds buf (p .1)
 tame t s (Heartbeat-becomes n ∷ ds) buf p = tame t (afterDeed t s (Heartbeat-becomes n)) ds buf (p .1)
 tame t s (Becomes st ∷ ds) buf p = tame t (afterDeed t s (Becomes st)) ds buf (p .1)
+tame t s (Gap-becomes g ∷ ds) buf p = tame t (afterDeed t s (Gap-becomes g)) ds buf (p .1)
 tame t s (Deliver ∷ ds) buf p = tame t s ds buf (p .1)
 
 module _ (s : Session) (body : Bytes) where
   -- the answer to a logon, and to a number that is too high
-  logon-tame : AllTame (waiting s body)
+  logon-tame : (t : ℕ) → AllTame (waiting s body t)
   unfolding logon
-  logon-tame = each-logon AllTame s body (record { anew = λ y n. (tt, (tt, (tt, (tt, tt)))); logged-out = (tt, (tt, tt)); in-turn = λ y n. (tt, (tt, (tt, (tt, tt)))); high = λ y n. (tt, (tt, (tt, (tt, tt)))) })
+  logon-tame t = each-logon AllTame s body t (record {
+    anew = λ y n. (tt, (tt, (tt, (tt, (tt, tt)))));
+    logged-out = (tt, (tt, tt));
+    in-turn = λ y n. (tt, (tt, (tt, (tt, (tt, tt)))));
+    high = λ y n. (tt, (tt, (tt, (tt, (tt, (tt, tt))))));
+  })
 
-  high-tame : AllTame (too-high s body)
+  high-tame : (t : ℕ) → AllTame (too-high s body t)
   unfolding served
-  high-tame = each-high AllTame s body (λ c y u. (tt, (tt, tt))) (tt, tt)
+  high-tame t = each-high AllTame s body t (record { served-asks = λ c y u a. (tt, (tt, (tt, tt))); served-seen = λ c y u a. (tt, (tt, tt)); only-asks = λ a. (tt, (tt, tt)); only-seen = λ a. (tt, tt) })
 
   -- THE NUMBER OF WHAT IS REJECTED is passed
   module _ (t : ℕ) (buf : Bytes) where
@@ -108,13 +115,13 @@ module _ (s : Session) (body : Bytes) where
         go true y = subst (λ (ds : Deeds). N s body < afterAll t s ds .E) (sym (fill-turn s body t buf y)) (fills (isClean (verdict body)))
         go false y = omega (arith, e, other-counts s body t buf y)
 
-    move-passes : OurPeer s body → bare s body ≡ false → rejects (making t s (active s body) buf) ≡ true → N s body < afterAll t s (active s body) .E
+    move-passes : OurPeer s body → bare s body ≡ false → rejects (making t s (active s body t) buf) ≡ true → N s body < afterAll t s (active s body t) .E
     unfolding reject
-    move-passes p b = each-rule (λ (ds : Deeds). rejects (making t s ds buf) ≡ true → N s body < afterAll t s ds .E) s body (record {
+    move-passes p b = each-rule (λ (ds : Deeds). rejects (making t s ds buf) ≡ true → N s body < afterAll t s ds .E) s body t (record {
       one = λ r e. never (tame t s (logout s body 101) buf (tt, (tt, tt))) e;
       two = λ r h tag l. absurd (h p);
       three = λ r q k. never b k;
-      four = λ r q k l e. never (tame t s (too-high s body) buf high-tame) e;
+      four = λ r q k l e. never (tame t s (too-high s body t) buf (high-tame t)) e;
       five = λ r q k l. each-low (λ (ds : Deeds). rejects (making t s ds buf) ≡ true → N s body < afterAll t s ds .E) s body (λ e. omega arith) (λ e. omega arith) (λ e. omega arith);
       six = λ r q k n e. turn-passes n;
     })
@@ -122,7 +129,7 @@ module _ (s : Session) (body : Bytes) where
 pub rejected-passed : (s : Session) (f : Bytes) (t : ℕ) (buf store : Bytes) → OurPeer s (bodyIn f) → bare s (bodyIn f) ≡ false → rejects (step s f t buf store) ≡ true → N s (bodyIn f) < step s f t buf store .session .E
 rejected-passed s f t buf store p b = each-step (λ (o : Outcome). rejects o ≡ true → N s (bodyIn f) < o .session .E) s t buf f store (record {
   refused = λ k e. never refl e;
-  logon = λ P st y c e. never (tame t s (waiting s (bodyIn f)) buf (logon-tame s (bodyIn f))) e;
+  logon = λ P st y c e. never (tame t s (waiting s (bodyIn f) t) buf (logon-tame s (bodyIn f) t)) e;
   move = λ P st. move-passes s (bodyIn f) t buf p b;
 })
 
@@ -152,13 +159,13 @@ module _ (s : Session) (body : Bytes) (A : Ahead s body) where
     other = (tt, tt);
   })
 
-  move-tame : AllTame (active s body)
+  move-tame : (t : ℕ) → AllTame (active s body t)
   unfolding code35
-  move-tame = each-rule AllTame s body (record {
+  move-tame t = each-rule AllTame s body t (record {
     one = λ r. never r (A .numbered);
     two = λ r h tag l. absurd (h (A .peer));
     three = λ r p b. never (not-type "4" refl refl) (both (type s body "4") (not (isIt (fix "Y") (firstField 123 body))) b .0);
-    four = λ r p b l. high-tame s body;
+    four = λ r p b l. high-tame s body t;
     five = λ r p b l. let k = A .not-low in absurd (omega arith);
     six = λ r p b e. turn-tame;
   })
@@ -166,6 +173,6 @@ module _ (s : Session) (body : Bytes) (A : Ahead s body) where
 pub unrejected : (s : Session) (f : Bytes) (t : ℕ) (buf store : Bytes) → Ahead s (bodyIn f) → rejects (step s f t buf store) ≡ false
 unrejected s f t buf store A = each-step (λ (o : Outcome). rejects o ≡ false) s t buf f store (record {
   refused = λ k. refl;
-  logon = λ P st y c. tame t s (waiting s (bodyIn f)) buf (logon-tame s (bodyIn f));
-  move = λ P st. tame t s (active s (bodyIn f)) buf (move-tame s (bodyIn f) A);
+  logon = λ P st y c. tame t s (waiting s (bodyIn f) t) buf (logon-tame s (bodyIn f) t);
+  move = λ P st. tame t s (active s (bodyIn f) t) buf (move-tame s (bodyIn f) A t);
 })

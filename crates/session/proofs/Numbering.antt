@@ -13,13 +13,14 @@ use Rattle.fields.specs.Field.{firstField}
 use Rattle.calendar.specs.Time.{limit}
 use Rattle.message.specs.Message.{absent, bytes}
 use Rattle.message.specs.Whole.{good, bodyIn}
+use Rattle.gap.specs.Gap.{no-gap}
 use Rattle.moves.specs.Session.{_==_, Session, inRange}
 use Rattle.moves.specs.Seen.{isIt}
-use Rattle.moves.specs.Moves.{Heartbeat, Deed, Write, Start, Count, Fill-to, Reset-to, Anew, Heartbeat-becomes, Becomes, Deliver, Deeds, N, reject, reject-type, counted, logout, resend-request, served, logon, waiting, stranger, in-turn, active}
+use Rattle.moves.specs.Moves.{Heartbeat, Deed, Write, Start, Count, Fill-to, Reset-to, Anew, Heartbeat-becomes, Becomes, Gap-becomes, Deliver, Deeds, N, reject, reject-type, counted, logout, asking, served, logon, waiting, stranger, in-turn, active}
 use Rattle.moves.specs.declared.record.Status.{Status}
 use Rattle.moves.specs.declared.record.Status.the-variants.{Waiting, Active, Closed}
 use Rattle.moves.proofs.EachRule.{each-logon, each-serving, each-reset, each-high, each-low, each-gap, each-turn, each-rule}
-use Rattle.session.specs.Calls.{Outcome, afterDeed, afterAll, messages, making, refusing, step, renewed, storeBy, storeAfter, Call, Step, Tick, OurLogout, OurTestRequest, Reconnect, call}
+use Rattle.session.specs.Calls.{Outcome, afterDeed, afterAll, messages, making, refusing, settling, step, renewed, storeBy, storeAfter, Call, Step, Tick, OurLogout, OurTestRequest, Reconnect, call}
 use Rattle.session.specs.Replays.{Stored}
 use Rattle.session.specs.Promise.{Headed, OfBytes, first-out, time-of}
 use Rattle.session.specs.code.Fit.{AllFit}
@@ -42,6 +43,7 @@ Plain (Reset-to n) = Unit {0}
 Plain Anew = ⊥
 Plain (Heartbeat-becomes n) = Unit {0}
 Plain (Becomes st) = Unit {0}
+Plain (Gap-becomes g) = Unit {0}
 Plain Deliver = Unit {0}
 
 abbrev AllPlain : Deeds → Type 0
@@ -58,6 +60,7 @@ plain-next t s (Reset-to n ∷ ds) p = plain-next t (afterDeed t s (Reset-to n))
 plain-next t s (Anew ∷ ds) p = absurd (p .0)
 plain-next t s (Heartbeat-becomes n ∷ ds) p = plain-next t (afterDeed t s (Heartbeat-becomes n)) ds (p .1)
 plain-next t s (Becomes st ∷ ds) p = plain-next t (afterDeed t s (Becomes st)) ds (p .1)
+plain-next t s (Gap-becomes g ∷ ds) p = plain-next t (afterDeed t s (Gap-becomes g)) ds (p .1)
 plain-next t s (Deliver ∷ ds) p = plain-next t s ds (p .1)
 
 plain-headed : (t : ℕ) (s : Session) (ds : Deeds) → Sends t (s .ours) (s .peers) → AllFit t s ds → AllPlain ds → Headed (s .ours) (s .peers) t (s .next) (messages t s ds)
@@ -70,6 +73,7 @@ plain-headed t s (Reset-to n ∷ ds) S f p = plain-headed t (afterDeed t s (Rese
 plain-headed t s (Anew ∷ ds) S f p = absurd (p .0)
 plain-headed t s (Heartbeat-becomes n ∷ ds) S f p = plain-headed t (afterDeed t s (Heartbeat-becomes n)) ds S (f .1) (p .1)
 plain-headed t s (Becomes st ∷ ds) S f p = plain-headed t (afterDeed t s (Becomes st)) ds S (f .1) (p .1)
+plain-headed t s (Gap-becomes g ∷ ds) S f p = plain-headed t (afterDeed t s (Gap-becomes g)) ds S (f .1) (p .1)
 plain-headed t s (Deliver ∷ ds) S f p = plain-headed t s ds S (f .1) (p .1)
 
 -- NO MOVE of an Active session does
@@ -96,13 +100,13 @@ module _ (s : Session) (body : Bytes) where
     other = (tt, tt);
   })
 
-  active-plain : AllPlain (active s body)
+  active-plain : (t : ℕ) → AllPlain (active s body t)
   unfolding reject served
-  active-plain = each-rule AllPlain s body (record {
+  active-plain t = each-rule AllPlain s body t (record {
     one = λ r. (tt, (tt, tt));
     two = λ r h tag l. stranger-plain tag;
-    three = λ r p b. each-reset AllPlain s body (λ c. (tt, tt)) (λ c l. (tt, tt)) (λ c l. (tt, tt));
-    four = λ r p b h. each-high AllPlain s body (λ c y u. (tt, (tt, tt))) (tt, tt);
+    three = λ r p b. each-reset AllPlain s body (λ c. (tt, tt)) (λ c l. (tt, tt)) (λ c l. (tt, (tt, tt)));
+    four = λ r p b h. each-high AllPlain s body t (record { served-asks = λ c y u a. (tt, (tt, (tt, tt))); served-seen = λ c y u a. (tt, (tt, tt)); only-asks = λ a. (tt, (tt, tt)); only-seen = λ a. (tt, tt) });
     five = λ r p b l. each-low AllPlain s body (tt, (tt, tt)) (tt, tt) tt;
     six = λ r p b e. turn-plain;
   })
@@ -110,8 +114,8 @@ module _ (s : Session) (body : Bytes) where
 -- A STEP: a refusal, the answer to a logon that begins them anew, or deeds of which none does; and whether it is renewed
 record EachNumbering (Q : Bool → Outcome → Type 0) (s : Session) (f : Bytes) (t : ℕ) (buf store : Bytes) : Type 0 where
   refused : (k : Refusal) → Q false (refusing k s buf)
-  anew : Passed s (isStore store) (good f) t (length buf) → N s (bodyIn f) ≡ 1 → (Byted f → AllFit t s (Anew ∷ logon s (bodyIn f) (bytes (fix "Y")))) → Q true (making t s (Anew ∷ logon s (bodyIn f) (bytes (fix "Y"))) buf)
-  plain : Passed s (isStore store) (good f) t (length buf) → (ds : Deeds) → AllPlain ds → (Byted f → AllFit t s ds) → Q false (making t s ds buf)
+  anew : Passed s (isStore store) (good f) t (length buf) → N s (bodyIn f) ≡ 1 → (Byted f → AllFit t s (Anew ∷ logon s (bodyIn f) (bytes (fix "Y")))) → Q true (settling (making t s (Anew ∷ logon s (bodyIn f) (bytes (fix "Y"))) buf))
+  plain : Passed s (isStore store) (good f) t (length buf) → (ds : Deeds) → AllPlain ds → (Byted f → AllFit t s ds) → Q false (settling (making t s ds buf))
 
 module _ (Q : Bool → Outcome → Type 0) (s : Session) (f : Bytes) (t : ℕ) (buf store : Bytes) (R : EachNumbering Q s f t buf store) where
   abbrev body : Bytes
@@ -124,13 +128,13 @@ module _ (Q : Bool → Outcome → Type 0) (s : Session) (f : Bytes) (t : ℕ) (
   told-as o e h = subst (λ (b : Bool). Q b o) (sym e) h
 
   -- a logon that is answered, by the status behind it and by its 141
-  logon-told : Passed s (isStore store) (good f) t (length buf) → s .status ≡ Waiting → (Byted f → AllFit t s (waiting s body)) → Told (making t s (waiting s body) buf)
+  logon-told : Passed s (isStore store) (good f) t (length buf) → s .status ≡ Waiting → (Byted f → AllFit t s (waiting s body t)) → Told (settling (making t s (waiting s body t) buf))
   unfolding logon
-  logon-told P st = each-logon (λ (ds : Deeds). (Byted f → AllFit t s ds) → Told (making t s ds buf)) s body (record {
-    anew = λ y e F. told-as (making t s (Anew ∷ logon s body (bytes (fix "Y"))) buf) (accepted y) (R .anew P e F);
-    logged-out = λ F. told-as (making t s (logout s body 101) buf) closed (R .plain P (logout s body 101) (tt, (tt, tt)) F);
-    in-turn = λ y e F. told-as (making t s (counted s body (logon s body absent)) buf) (accepted y) (R .plain P (counted s body (logon s body absent)) (tt, (tt, (tt, (tt, tt)))) F);
-    high = λ y l F. told-as (making t s (logon s body absent ++ resend-request s body) buf) (accepted y) (R .plain P (logon s body absent ++ resend-request s body) (tt, (tt, (tt, (tt, tt)))) F);
+  logon-told P st = each-logon (λ (ds : Deeds). (Byted f → AllFit t s ds) → Told (settling (making t s ds buf))) s body t (record {
+    anew = λ y e F. told-as (settling (making t s (Anew ∷ logon s body (bytes (fix "Y"))) buf)) (accepted y) (R .anew P e F);
+    logged-out = λ F. told-as (settling (making t s (logout s body 101) buf)) closed (R .plain P (logout s body 101) (tt, (tt, tt)) F);
+    in-turn = λ y e F. told-as (settling (making t s (counted s body (logon s body absent)) buf)) (accepted y) (R .plain P (counted s body (logon s body absent)) (tt, (tt, (tt, (tt, (tt, tt))))) F);
+    high = λ y l F. told-as (settling (making t s (logon s body absent ++ asking s body t no-gap) buf)) (accepted y) (R .plain P (logon s body absent ++ asking s body t no-gap) (tt, (tt, (tt, (tt, (tt, (tt, tt)))))) F);
   })
     where
       accepted : {b : Bool} → isIt (fix "Y") (firstField 141 body) ≡ b → ((s .status == Waiting) && (Active == Active) && isIt (fix "Y") (firstField 141 body)) ≡ b
@@ -143,7 +147,7 @@ module _ (Q : Bool → Outcome → Type 0) (s : Session) (f : Bytes) (t : ℕ) (
   each-numbering = each-step Told s t buf f store (record {
     refused = λ k. told-as (refusing k s buf) (refused-old k s body buf) (R .refused k);
     logon = λ P st y c. logon-told P st (λ B. logon-fit s f t B P st y c);
-    move = λ P st. told-as (making t s (active s body) buf) (awake-old s body (making t s (active s body) buf) Active refl st) (R .plain P (active s body) (active-plain s body) (λ B. move-fit s f t B P st));
+    move = λ P st. told-as (settling (making t s (active s body t) buf)) (awake-old s body (settling (making t s (active s body t) buf)) Active refl st) (R .plain P (active s body t) (active-plain s body t) (λ B. move-fit s f t B P st));
   })
 
 -- EACH CALL
@@ -158,7 +162,7 @@ module _ (s : Session) (bo : Byted (s .ours)) (bp : Byted (s .peers)) where
       each-numbering (λ (b : Bool) (o : Outcome). Headed (s .ours) (s .peers) t (cond b 1 (s .next)) (o .reply)) s f t buf store
       (record {
         refused = λ k. tt;
-        anew = λ P e F. plain-headed t (afterDeed t s Anew) (logon s (bodyIn f) (bytes (fix "Y"))) (sends (P .timed) (P .ranged)) (F B .1) (tt, (tt, (tt, tt)));
+        anew = λ P e F. plain-headed t (afterDeed t s Anew) (logon s (bodyIn f) (bytes (fix "Y"))) (sends (P .timed) (P .ranged)) (F B .1) (tt, (tt, (tt, (tt, tt))));
         plain = λ P ds p F. plain-headed t s ds (sends (P .timed) (P .ranged)) (F B) p;
       })
 

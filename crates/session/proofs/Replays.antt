@@ -16,16 +16,16 @@ use Rattle.message.specs.Whole.{bodyIn}
 use Rattle.moves.specs.Words.{speaks}
 use Rattle.moves.specs.Session.{Session, Replay, no-replay, expecting, replaying, inRange}
 use Rattle.moves.specs.Seen.{isClean}
-use Rattle.moves.specs.Moves.{Deeds, Start, OurPeer, N, readable, type, reject, reject-type, counted, logout, resend-request, unserved, requested, served, logon, waiting, stranger, too-high, in-turn, active}
+use Rattle.moves.specs.Moves.{Deeds, Start, OurPeer, N, readable, type, reject, reject-type, counted, logout, unserved, requested, served, logon, waiting, stranger, served-first, asks-or-not, too-high, in-turn, active}
 use Rattle.moves.specs.declared.record.Status.the-variants.{Active, Closed}
-use Rattle.session.specs.Calls.{Outcome, making, refusing, keeping, step, tick, reconnect, afterAll}
+use Rattle.session.specs.Calls.{Outcome, making, refusing, keeping, settled, settling, step, tick, reconnect, afterAll}
 use Rattle.session.specs.Delivery.{Unrefused}
 use Rattle.session.specs.Replays.{Served, Moved, kept, dropped, replaced, Disturbs}
 use Rattle.session.specs.declared.Refusal.{Refusal}
 use Rattle.session.specs.declared.Answer.the-variants.{Done}
 use Rattle.letters.proofs.Carried.{type-is}
 use Rattle.moves.proofs.Readings.{is-clean}
-use Rattle.moves.proofs.EachRule.{each-logon, each-serving, each-reset, each-high, each-low, each-gap, each-turn, each-rule}
+use Rattle.moves.proofs.EachRule.{each-logon, each-serving, each-reset, each-asking, each-high, each-low, each-gap, each-turn, each-rule}
 use Rattle.session.proofs.Fitting.{fit-served}
 use Rattle.session.proofs.Stepping.{ranged-is, none-waiting, ample-by}
 use Rattle.session.proofs.EachCall.{each-refusal, each-step, each-tick, each-logout, each-test, active-step, body-bytes}
@@ -33,6 +33,16 @@ use Rattle.session.proofs.EachCall.{each-refusal, each-step, each-tick,
 -- A REFUSAL leaves it, or drops it by closing
 refusal-moves : (k : Refusal) (s : Session) (buf : Bytes) {Serves : Type 0} {asked-for : Replay} → Moved s (refusing k s buf .session) Serves asked-for
 refusal-moves k s buf {Serves} {asked-for} = each-refusal (λ (u : Session). Moved s u Serves asked-for) k s (kept refl (λ e. e)) (dropped refl refl)
+
+-- nor does the look at the gap behind a step
+settled-moves : {s u : Session} {Serves : Type 0} {asked-for : Replay} → Moved s u Serves asked-for → Moved s (settled u) Serves asked-for
+settled-moves (kept a b) = kept a b
+settled-moves (dropped a b) = dropped a b
+settled-moves (replaced a b) = replaced a b
+
+-- nor do asking and seeing
+pub asking-stays : (u s : Session) (body : Bytes) (t : ℕ) → afterAll t u (asks-or-not s body t) .replay ≡ u .replay
+asking-stays u s body t = each-asking (λ (ds : Deeds). afterAll t u ds .replay ≡ u .replay) s body t (λ a. refl) (λ a. refl)
 
 -- EVERY MOVE
 module _ (s : Session) (f : Bytes) (t : ℕ) (buf store : Bytes) where
@@ -42,9 +52,9 @@ module _ (s : Session) (f : Bytes) (t : ℕ) (buf store : Bytes) where
   abbrev Goes : Deeds → Type 0
   Goes ds = Moved s (afterAll t s ds) (Served s f t buf store) (requested s body)
 
-  logon-moves : s .replay ≡ no-replay → Goes (waiting s body)
+  logon-moves : s .replay ≡ no-replay → Goes (waiting s body t)
   unfolding logon
-  logon-moves idle = each-logon Goes s body (record { anew = λ y e. kept (sym idle) unclosed; logged-out = dropped refl refl; in-turn = λ y e. kept (sym idle) unclosed; high = λ y l. kept (sym idle) unclosed })
+  logon-moves idle = each-logon Goes s body t (record { anew = λ y e. kept (sym idle) unclosed; logged-out = dropped refl refl; in-turn = λ y e. kept (sym idle) unclosed; high = λ y l. kept (sym idle) unclosed })
     where
       unclosed : Active ≡ Closed → s .status ≡ Closed
       unclosed e = let z : _≡_ {A = ℕ} 0 1 = cc in absurd (omega arith)
@@ -76,13 +86,18 @@ module _ (s : Session) (f : Bytes) (t : ℕ) (buf store : Bytes) where
       other = kept refl (λ e. e);
     })
 
-    active-moves : Goes (active s body)
+    active-moves : Goes (active s body t)
     unfolding reject served
-    active-moves = each-rule Goes s body (record {
+    active-moves = each-rule Goes s body t (record {
       one = λ r. dropped refl refl;
       two = λ r h tag l. stranger-moves tag;
       three = λ r p b. each-reset Goes s body (λ c. kept refl (λ e. e)) (λ c l. kept refl (λ e. e)) (λ c l. kept refl (λ e. e));
-      four = λ r p b h. each-high Goes s body (λ c y u. replaced (serves r p (omega (arith, h)) y c u) refl) (kept refl (λ e. e));
+      four = λ r p b h. each-high Goes s body t (record {
+        served-asks = λ c y u a. replaced (serves r p (omega (arith, h)) y c u) refl;
+        served-seen = λ c y u a. replaced (serves r p (omega (arith, h)) y c u) refl;
+        only-asks = λ a. kept refl (λ e. e);
+        only-seen = λ a. kept refl (λ e. e);
+      });
       five = λ r p b l. each-low Goes s body (dropped refl refl) (kept refl (λ e. e)) (kept refl (λ e. e));
       six = λ r p b e. turn-moves r p e;
     })
@@ -101,9 +116,9 @@ module _ (s : Session) (f : Bytes) (t : ℕ) (buf store : Bytes) where
         (h .1, h .2, h .3)
 
     -- of the six rules only those for E and above it can speak
-    served-by : (ds : Deeds) → (s .E < N s body → too-high s body ≡ ds) → (N s body ≡ s .E → in-turn s body ≡ ds) → active s body ≡ ds
+    served-by : (ds : Deeds) → (s .E < N s body → too-high s body t ≡ ds) → (N s body ≡ s .E → in-turn s body ≡ ds) → active s body t ≡ ds
     unfolding code35
-    served-by ds high turn = each-rule (λ (x : Deeds). x ≡ ds) s body (record {
+    served-by ds high turn = each-rule (λ (x : Deeds). x ≡ ds) s body t (record {
       one = λ k. absurd (false≢true (sym k ∙ S .numbered));
       two = λ k h tag m. absurd (h (S .peer));
       three = λ k h b. absurd (false≢true (sym (rw its-type) ∙ b));
@@ -112,27 +127,27 @@ module _ (s : Session) (f : Bytes) (t : ℕ) (buf store : Bytes) where
       six = λ k h b m. turn m;
     })
 
-    starts : N s body ≡ s .E → step s f t buf store ≡ keeping Done (replaying (requested s body) (expecting (s .E + 1) s)) buf
+    starts : N s body ≡ s .E → step s f t buf store ≡ settling (keeping Done (replaying (requested s body) (expecting (s .E + 1) s)) buf)
     unfolding code35 in-turn served
     starts e =
         let k : in-turn s body ≡ counted s body (served s body) = rw (is-clean (verdict body) (S .no-verdict), its-type, S .not-rejected) in
         active-step s f t buf store (S .unrefused)
-        ∙ ap (λ (ds : Deeds). making t s ds buf) (served-by (counted s body (served s body)) (λ m. absurd (omega (arith, m, e))) (λ m. k))
+        ∙ ap (λ (ds : Deeds). settling (making t s ds buf)) (served-by (counted s body (served s body)) (λ m. absurd (omega (arith, m, e))) (λ m. k))
 
-    starts-too-high : s .E < N s body → step s f t buf store ≡ making t s (Start (requested s body) ∷ resend-request s body) buf
-    unfolding too-high served
+    starts-too-high : s .E < N s body → step s f t buf store ≡ settling (making t s (Start (requested s body) ∷ asks-or-not s body t) buf)
+    unfolding too-high served-first served
     starts-too-high l =
-        let k : too-high s body ≡ served s body ++ resend-request s body = rw (S .request, S .no-verdict, S .not-rejected) in
+        let k : too-high s body t ≡ served s body ++ asks-or-not s body t = rw (S .request, S .no-verdict, S .not-rejected) in
         active-step s f t buf store (S .unrefused)
-        ∙ ap (λ (ds : Deeds). making t s ds buf) (served-by (served s body ++ resend-request s body) (λ m. k) (λ m. absurd (omega (arith, l, m))))
+        ∙ ap (λ (ds : Deeds). settling (making t s ds buf)) (served-by (served s body ++ asks-or-not s body t) (λ m. k) (λ m. absurd (omega (arith, l, m))))
 
 -- IN EVERY CALL
 module _ (s : Session) where
   by-step : (f : Bytes) (t : ℕ) (buf store : Bytes) → Moved s (step s f t buf store .session) (Served s f t buf store) (requested s (bodyIn f))
   by-step f t buf store = each-step (λ (o : Outcome). Moved s (o .session) (Served s f t buf store) (requested s (bodyIn f))) s t buf f store (record {
     refused = λ k. refusal-moves k s buf;
-    logon = λ P st y c. logon-moves s f t buf store (none-waiting s (ranged-is s (P .ranged)) st);
-    move = λ P st. active-moves s f t buf store (record { ranged = P .ranged; stored = P .lent; one-frame = P .framed; timed = P .timed; room = P .roomy; is-active = st; unspent = P .unspent });
+    logon = λ P st y c. settled-moves (logon-moves s f t buf store (none-waiting s (ranged-is s (P .ranged)) st));
+    move = λ P st. settled-moves (active-moves s f t buf store (record { ranged = P .ranged; stored = P .lent; one-frame = P .framed; timed = P .timed; room = P .roomy; is-active = st; unspent = P .unspent }));
   })
 
   by-tick : (t : ℕ) (buf : Bytes) → Moved s (tick s t buf .session) ⊥ no-replay

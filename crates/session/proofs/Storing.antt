@@ -13,7 +13,7 @@ use Rattle.message.specs.Whole.{good, bodyIn}
 use Rattle.moves.specs.Words.{first}
 use Rattle.moves.specs.Session.{_==_, Session}
 use Rattle.moves.specs.Seen.{isIt}
-use Rattle.session.specs.Calls.{Outcome, refusing, outcome, refusals, turned-away, moves, step, renewed, storeBy, storeAfter}
+use Rattle.session.specs.Calls.{Outcome, refusing, stepping, refusals, turned-away, moves, step, renewed, storeBy, storeAfter}
 use Rattle.moves.specs.Held.{sessionOf}
 use Rattle.session.specs.Held.{Leaves}
 use Rattle.moves.specs.declared.record.Record.{Record}
@@ -80,6 +80,6 @@ unfolding storeAfter
 after-as s f t buf store {body = body} {o = o} b e w = w ∙ ap (λ (x : Bytes). storeBy s x o store) b ∙ ap (λ (x : Outcome). storeBy s (bodyIn f) x store) (sym e)
 
 pub after-lent : (s : Session) (f : Bytes) (t : ℕ) (buf store : Bytes) {b : Bool} → isStore store ≡ b
-    → storeAfter s f t buf store ≡ storeBy s (bodyIn f) (outcome (first (refusals s b (good f) t (length buf) ++ turned-away s (bodyIn f))) t (moves (s .status) s (bodyIn f)) s buf) store
+    → storeAfter s f t buf store ≡ storeBy s (bodyIn f) (stepping (first (refusals s b (good f) t (length buf) ++ turned-away s (bodyIn f))) t (moves (s .status) s (bodyIn f) t) s buf) store
 unfolding storeAfter
 after-lent s f t buf store e = ap (λ (o : Outcome). storeBy s (bodyIn f) o store) (step-lent s f t buf store e)

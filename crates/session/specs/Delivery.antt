@@ -12,10 +12,11 @@ use Rattle.message.specs.Message.{absent}
 use Rattle.message.specs.Whole.{good, bodyIn}
 use Rattle.calendar.specs.Time.{utc, limit}
 use Rattle.moves.specs.Words.{_≤?_, if_then_else_, speaks}
-use Rattle.moves.specs.Session.{Session, expecting, numbering, sent-at, inRange}
+use Rattle.gap.specs.Gap.{no-gap}
+use Rattle.moves.specs.Session.{Session, expecting, numbering, sent-at, missing, inRange}
 use Rattle.moves.specs.Seen.{repeated, codeOf, reasonOf, tagOf}
 use Rattle.moves.specs.Moves.{OurPeer, bare, Reject, letter, #, readable, N, type, clean, bare-reset}
-use Rattle.session.specs.Calls.{Outcome, over, making, keeping, spent, step}
+use Rattle.session.specs.Calls.{Outcome, over, making, keeping, settling, spent, step}
 use Rattle.moves.specs.declared.record.Status.the-variants.{Active}
 use Rattle.session.specs.declared.Refusal.the-variants.{NotOneFrame, BadRecord, BadStore}
 use Rattle.session.specs.declared.Answer.the-variants.{Done, Delivered, Refused}
@@ -48,9 +49,9 @@ module _ (s : Session) (f : Bytes) (t : ℕ) (buf store : Bytes) where
     pub is-active : s .status ≡ Active
     pub unspent : spent s ≡ false
 
-  -- THE DELIVERED FRAME: E + 1 and nothing else changed, no reply, the buffer as it was
+  -- THE DELIVERED FRAME: E + 1 and nothing else changed, no reply, the buffer as it was; and, as behind every step, a gap that E is past is closed
   abbrev pub handed-on : Outcome
-  handed-on = keeping Delivered (expecting (s .E + 1) s) buf
+  handed-on = settling (keeping Delivered (expecting (s .E + 1) s) buf)
 
   pub record Delivery : Type 0 where
     -- nothing else is delivered,
@@ -69,7 +70,7 @@ module _ (s : Session) (f : Bytes) (t : ℕ) (buf store : Bytes) where
 
   -- such a message is sent, and E + 1
   abbrev pub rejected-by : Bytes → Outcome
-  rejected-by m = record { answer = Done; session = sent-at t (numbering (s .next + 1) (expecting (s .E + 1) s)); reply = m ∷ []; buffer = over (m ∷ []) buf }
+  rejected-by m = settling (record { answer = Done; session = sent-at t (numbering (s .next + 1) (expecting (s .E + 1) s)); reply = m ∷ []; buffer = over (m ∷ []) buf })
 
   abbrev pub rejected : Outcome
   rejected = rejected-by the-reject
@@ -97,6 +98,6 @@ module _ (s : Session) (f : Bytes) (t : ℕ) (buf store : Bytes) where
     -- but of a Trade Capture Report the verdict plays no part
     pub report-rejected : Unrefused → N s body ≡ s .E → OurPeer s body → type s body "AE" ≡ true → result ≡ type-rejected
     -- "Answering a Reset against its 34.": it is rule 3's, whatever N is; to which E it leads is said without N
-    pub by-rule-3 : Reset → result ≡ making t s (bare-reset s body) buf
+    pub by-rule-3 : Reset → result ≡ settling (making t s (bare-reset s body) buf)
     pub leads-to : Reset → result .session .E ≡ (if clean s body && s .E ≤? # s body 36 then # s body 36 else s .E)
-    pub reset-taken : Reset → clean s body ≡ true → s .E ≤ # s body 36 → result ≡ keeping Done (expecting (# s body 36) s) buf
+    pub reset-taken : Reset → clean s body ≡ true → s .E ≤ # s body 36 → result ≡ keeping Done (missing no-gap (expecting (# s body 36) s)) buf

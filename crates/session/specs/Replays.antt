@@ -9,8 +9,8 @@ use Rattle.places.specs.Places.{zeroed}
 use Rattle.message.specs.Whole.{bodyIn}
 use Rattle.moves.specs.Words.{speaks}
 use Rattle.moves.specs.Session.{Session, Replay, no-replay, expecting, replaying, inRange}
-use Rattle.moves.specs.Moves.{OurPeer, Start, readable, N, type, clean, resend-request, unserved, requested}
-use Rattle.session.specs.Calls.{making, keeping, step, renewed, storeAfter, tick, logout, test-request, reconnect}
+use Rattle.moves.specs.Moves.{OurPeer, Start, readable, N, type, clean, asks-or-not, unserved, requested}
+use Rattle.session.specs.Calls.{making, keeping, settling, step, renewed, storeAfter, tick, logout, test-request, reconnect}
 use Rattle.session.specs.Delivery.{Unrefused}
 use Rattle.moves.specs.declared.record.Status.the-variants.{Closed}
 use Rattle.session.specs.declared.Refusal.{Refusal}
@@ -49,11 +49,11 @@ pub data Moved (s left : Session) (Serves : Type 0) (asked-for : Replay) : Type 
 
 pub record Disturbs (s : Session) : Type 0 where
   pub by-step : (f : Bytes) (t : ℕ) (buf store : Bytes) → Moved s (step s f t buf store .session) (Served s f t buf store) (requested s (bodyIn f))
-  -- "The step, in rule 4 too, only starts this": in turn nothing is written, E + 1; with too high a number our Resend Request goes out and nothing else
+  -- "The step, in rule 4 too, only starts this": in turn nothing is written, E + 1; with too high a number it asks or not, and nothing else goes out
   pub starts : (f : Bytes) (t : ℕ) (buf store : Bytes) → Served s f t buf store → N s (bodyIn f) ≡ s .E
-      → step s f t buf store ≡ keeping Done (replaying (requested s (bodyIn f)) (expecting (s .E + 1) s)) buf
+      → step s f t buf store ≡ settling (keeping Done (replaying (requested s (bodyIn f)) (expecting (s .E + 1) s)) buf)
   pub starts-too-high : (f : Bytes) (t : ℕ) (buf store : Bytes) → Served s f t buf store → s .E < N s (bodyIn f)
-      → step s f t buf store ≡ making t s (Start (requested s (bodyIn f)) ∷ resend-request s (bodyIn f)) buf
+      → step s f t buf store ≡ settling (making t s (Start (requested s (bodyIn f)) ∷ asks-or-not s (bodyIn f) t) buf)
   -- "the place, within 1 to L"
   pub within-L : (f : Bytes) (t : ℕ) (buf store : Bytes) → Byted f → Served s f t buf store
       → (1 ≤ requested s (bodyIn f) .at) × (requested s (bodyIn f) .at ≤ requested s (bodyIn f) .to) × (requested s (bodyIn f) .to < s .next)

@@ -1,4 +1,5 @@
 // The records that a new session begins with.
+use gap::no_gap;
 use moves::Record;
 use moves::Status;
 ghost use mathlib.Core.Path.{_≡_};
@@ -38,5 +39,6 @@ pub fn blank() -> Record
         sent: 0,
         at: 0,
         to: 0,
+        gap: no_gap(),
     }
 }

@@ -7,6 +7,7 @@ mod played;
 use begin::blank;
 use begin::in_eleven;
 use frame::body_of;
+use gap::no_gap;
 pub use gates::is_spent;
 use gates::logon_gate;
 use gates::step_gate;
@@ -19,6 +20,7 @@ use moves::in_range;
 use moves::is_active;
 use moves::is_comp_id;
 use moves::saying;
+use moves::settled;
 use moves::turned;
 use own::is_test_id;
 use own::own_gate;
@@ -33,13 +35,13 @@ use rulebook::waiting;
 ghost use mathlib.Core.Path.{_≡_};
 ghost use mathlib.Core.List.{[]};
 ghost use mathlib.Core.Option.{none};
-ghost use mathlib.Core.Bool.{true};
+ghost use mathlib.Core.Bool.{true, false};
 ghost use Prim.Native.Nat.{_≤_, _<_};
 ghost use lib.ListN.{length};
 ghost use Rattle.calendar.specs.Time.{limit};
 ghost use Rattle.session.specs.Refusals.{No};
 ghost use Rattle.moves.specs.Words.{first};
-ghost use Rattle.moves.specs.Session.{turned, inRange};
+ghost use Rattle.moves.specs.Session.{_==_, turned, inRange};
 ghost use Rattle.session.specs.declared.Answer.the-variants as Answer;
 ghost use Rattle.session.specs.Calls.{refusing, turned-away, movesOn, due, step, storeBy, storeAfter, tick, logout, test-request, new, reconnect};
 ghost use Rattle.moves.specs.Held.{sessionOf};
@@ -137,7 +139,7 @@ fn logging_on(r: Record, body: &[u8], time: u64, buf: &mut [u8], store: &mut [u8
     ensures moved { λ a. ⌜ Leaves r (movesOn (sessionOf r) (now (body .entry)) time (now (buf .entry))) a (now (buf .exit)) ⌝ }
     ensures stored { λ _. ⌜ now (store .exit) ≡ storeBy (sessionOf r) (now (body .entry)) (movesOn (sessionOf r) (now (body .entry)) time (now (buf .entry))) (now (store .entry)) ⌝ }
 {
-    let p = waiting(r, body);
+    let p = settled(waiting(r, body, time));
     let left = say(r, p, body, time, buf);
     let after = left.after;
     let st = after.status;
@@ -153,7 +155,7 @@ fn logging_on(r: Record, body: &[u8], time: u64, buf: &mut [u8], store: &mut [u8
 
 // A step that no refusal before the moves stopped.
 fn moving(r: Record, body: &[u8], time: u64, buf: &mut [u8], store: &mut [u8]) -> Answered
-    requires { ⌜ Ready r × (inRange (sessionOf r) ≡ true) ⌝ }
+    requires { ⌜ Ready r × (inRange (sessionOf r) ≡ true) × ((r .status == Status.Closed) ≡ false) ⌝ }
     requires { ⌜ (600 ≤ length (now buf)) × (time < limit) ⌝ }
     ensures moved { λ a. ⌜ Leaves r (movesOn (sessionOf r) (now (body .entry)) time (now (buf .entry))) a (now (buf .exit)) ⌝ }
     ensures stored { λ _. ⌜ now (store .exit) ≡ storeBy (sessionOf r) (now (body .entry)) (movesOn (sessionOf r) (now (body .entry)) time (now (buf .entry))) (now (store .entry)) ⌝ }
@@ -168,9 +170,10 @@ fn moving(r: Record, body: &[u8], time: u64, buf: &mut [u8], store: &mut [u8]) -
             }
         }
         Status::Active => {
-            let p = active(r, body);
+            let p = settled(active(r, body, time));
             play(r, p, body, time, buf)
         }
+        // It was refused before.
         Status::Closed => unchanged(r, Answer::Done),
     }
 }
@@ -287,6 +290,7 @@ pub fn new(ours: &[u8], peer: &[u8]) -> Answered
         sent: 0,
         at: 0,
         to: 0,
+        gap: no_gap(),
     };
     unchanged(r, Answer::Done)
 }

@@ -16,8 +16,9 @@ ghost use lib.ListN.{length};
 ghost use Rattle.calendar.specs.Time.{limit};
 ghost use Rattle.message.specs.Message.{absent};
 ghost use Rattle.moves.specs.Moves.{Heartbeat, Write};
-ghost use Rattle.moves.specs.Held.{sessionOf};
-ghost use Rattle.moves.specs.code.Plan.{planned, Ready};
+ghost use Rattle.gap.specs.Held.{gapOf};
+ghost use Rattle.moves.specs.Held.{sessionOf, with};
+ghost use Rattle.moves.specs.code.Plan.{changed, planned, Ready};
 ghost use Rattle.letters.specs.code.Put.{AllPut};
 ghost use Rattle.session.specs.declared.Answer.the-variants as Answer;
 ghost use Rattle.session.specs.Calls.{making};
@@ -43,6 +44,24 @@ pub fn answer_of(delivered: bool) -> Answer
     Answer::Done
 }
 
+// The record as a plan leaves it.
+fn left(r: Record, p: Plan, next: u64, sent: u64) -> Record
+    ensures { λ z. ⌜ z ≡ with r (changed (sessionOf r) (p .status) (p .expected) next (p .heartbeat) sent (record { at = p .at; to = p .to }) (gapOf (p .gap))) ⌝ }
+{
+    let st = p.status;
+    changed(
+        r,
+        st,
+        p.expected,
+        next,
+        p.heartbeat,
+        sent,
+        p.at,
+        p.to,
+        p.gap,
+    )
+}
+
 // A plan with a message, carried out: what it says is put, and the record changed.
 pub fn say(r: Record, p: Plan, body: &[u8], time: u64, buf: &mut [u8]) -> Answered
     requires { ⌜ Ready r ⌝ }
@@ -51,11 +70,10 @@ pub fn say(r: Record, p: Plan, body: &[u8], time: u64, buf: &mut [u8]) -> Answer
 {
     let first = p.first;
     let second = p.second;
-    let st = p.status;
     let answer = answer_of(p.delivered);
     let next = next_after(second, next_after(first, r.next));
     let len = stamped(r, first, second, body, time, buf);
-    let after = changed(r, st, p.expected, next, p.heartbeat, time, p.at, p.to);
+    let after = left(r, p, next, time);
     Answered { answer, after, len }
 }
 
@@ -68,12 +86,8 @@ pub fn play(r: Record, p: Plan, body: &[u8], time: u64, buf: &mut [u8]) -> Answe
     let first = p.first;
     let second = p.second;
     if is_quiet(first, second) {
-        let st = p.status;
         let answer = answer_of(p.delivered);
-        return unchanged(
-            changed(r, st, p.expected, r.next, p.heartbeat, r.sent, p.at, p.to),
-            answer,
-        );
+        return unchanged(left(r, p, r.next, r.sent), answer);
     }
     say(r, p, body, time, buf)
 }
@@ -86,7 +100,17 @@ pub fn beating(r: Record, time: u64, buf: &mut [u8]) -> Answered
     let st = r.status;
     let next = r.next + 1;
     let len = beat(r, time, buf);
-    let after = changed(r, st, r.expected, next, r.heartbeat, time, r.at, r.to);
+    let after = changed(
+        r,
+        st,
+        r.expected,
+        next,
+        r.heartbeat,
+        time,
+        r.at,
+        r.to,
+        r.gap,
+    );
     Answered {
         answer: Answer::Done,
         after,

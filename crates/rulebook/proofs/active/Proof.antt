@@ -4,6 +4,9 @@ use Rattle.rulebook.proofs.Choosing.{choosing, is-N}
 use Rattle.rulebook.proofs.active.Statement.{statement}
 use Rattle.rulebook.proofs.active.Tie as tie
 
+rule-4-requires : tie.Need-rule-4-requires
+rule-4-requires c κs = (c .before .before .before .before .before .before .before .before .before .before .pre, is-N _ (c .before .before .before .before .before .before .before .number-at .ensures), c .before .before .before .type-in .ensures)
+
 rule-6-requires : tie.Need-rule-6-requires
 rule-6-requires c κs = (c .before .before .before .before .before .before .before .before .before .before .before .pre, is-N _ (c .before .before .before .before .before .before .before .before .number-at .ensures), c .before .before .before .before .type-in .ensures)
 
@@ -22,7 +25,7 @@ active-spec =
     (λ c κs. search needs)
     (λ c κs. search needs)
     (λ c. search choosing)
-    (λ c κs. search needs)
+    rule-4-requires
     (λ c. search choosing)
     (λ c κs. search needs)
     (λ c. search choosing)

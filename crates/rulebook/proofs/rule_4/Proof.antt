@@ -9,6 +9,7 @@ rule-4-spec =
     tie.close
     (tie.spec
     (λ c κs. search needs)
+    (λ c κs. search needs)
     (λ c. search deciding)
     (λ c κs. search needs)
     (λ c κs. search needs)

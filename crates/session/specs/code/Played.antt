@@ -38,4 +38,4 @@ Spoken (x ∷ xs) = Unit {0}
 
 abbrev pub outcomeOf : ℕ → Session → Sum → Bytes → Outcome
 outcomeOf t s a old =
-    record { answer = cond (a .delivered) Delivered Done; session = changed s (a .status) (a .E) (a .next) (a .heartbeat) (sentBy t (s .sent) (a .letters)) (a .replay); reply = bytesOf (s .ours) (s .peers) (utc t) (a .letters); buffer = over (bytesOf (s .ours) (s .peers) (utc t) (a .letters)) old }
+    record { answer = cond (a .delivered) Delivered Done; session = changed s (a .status) (a .E) (a .next) (a .heartbeat) (sentBy t (s .sent) (a .letters)) (a .replay) (a .gap); reply = bytesOf (s .ours) (s .peers) (utc t) (a .letters); buffer = over (bytesOf (s .ours) (s .peers) (utc t) (a .letters)) old }

@@ -19,4 +19,6 @@ in-range-spec =
     (λ c. search ranges)
     (λ c. search ranges)
     (λ c κs. search needs)
+    (λ c. search ranges)
+    (λ c κs. search needs)
     (λ c. search ranges))

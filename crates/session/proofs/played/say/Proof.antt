@@ -9,7 +9,7 @@ returns c =
     let u = c .before .before .before .before .before .before .before .before .before .before in
     let a = u .args in
     let w = c .before .before .before .stamped .ensures in
-    wrote-played (a .r) (a .p) (a .time) (a .body .now) (a .buf .now) (c .before .before .before .before .before .before .before .answer-of .ensures) (c .before .before .before .before .before .before .next-after .ensures .0) (c .before .before .before .before .before .next-after2 .ensures .0) (u .pre .0) (u .pre .1 .3) (c .changed .ensures) (u .pre .1 .0) (w .1) (w .0)
+    wrote-played (a .r) (a .p) (a .time) (a .body .now) (a .buf .now) (c .before .before .before .before .before .before .before .answer-of .ensures) (c .before .before .before .before .before .before .next-after .ensures .0) (c .before .before .before .before .before .next-after2 .ensures .0) (u .pre .0) (u .pre .1 .3) (c .left .ensures) (u .pre .1 .0) (w .1) (w .0)
 
 pub say-spec : {M : Type 1} → statement M
 say-spec =
