@@ -1,0 +1,9 @@
+pub mod RuleFour
+pub mod Logons
+pub mod Leaving
+pub mod Resting
+pub mod Asking
+pub mod OneRequest
+pub mod AroundE
+pub mod Worked
+pub mod Promise

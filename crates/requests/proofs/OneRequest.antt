@@ -1,0 +1,107 @@
+-- One request for each gap: behind a frame that asked, no frame within 10 seconds asks again, whatever calls come between them, and one after 10 seconds does.
+-- Assumes nothing.
+use Prim.Native.Nat.{ℕ}
+use mathlib.Core.Path.{_≡_, refl, sym, ap, ap₂, _∙_, subst}
+use mathlib.Core.Bool.{Bool, true, false}
+use mathlib.Core.List.{List, [], _∷_, _++_, append-assoc}
+use Rattle.bytes.specs.Bytes.{Bytes}
+use Rattle.message.specs.Whole.{bodyIn}
+use Rattle.gap.specs.Gap.{asks, asked-for, seen}
+use Rattle.moves.specs.Words.{if_then_else_}
+use Rattle.moves.specs.Session.{Session}
+use Rattle.moves.specs.Moves.{N}
+use Rattle.session.specs.Calls.{Outcome, step, Step, Tick, OurLogout, OurTestRequest, Reconnect}
+use Rattle.replaying.specs.Run.{Turn, Ours, OurReport, OurReplay, turn, final}
+use Rattle.requests.specs.Requests.{TooHigh, the-request, answered, all-answered, High, AllHigh, Within, Passed, OneRequest}
+use Rattle.requests.proofs.RuleFour.{rule-4}
+use Rattle.requests.proofs.Resting.{Rests, tick-rests, logout-rests, test-rests, reconnect-rests, report-rests, replay-rests}
+use Rattle.requests.proofs.Asking.{AskedAt, asks-not, asks-again}
+
+-- A FRAME THAT IS TOO HIGH, by whether it asks
+module _ (s : Session) (f : Bytes) (t : ℕ) (buf store : Bytes) (T : TooHigh s f t buf store) where
+  abbrev result : Outcome
+  result = step s f t buf store
+
+  asking-reply : asks t (s .E) (s .gap) ≡ true → result .reply ≡ the-request s f t buf store ∷ []
+  asking-reply a = rule-4 s f t buf store T .asks-or-not ∙ ap (λ (b : Bool). if b then the-request s f t buf store ∷ [] else []) a
+
+  silent-reply : asks t (s .E) (s .gap) ≡ false → result .reply ≡ []
+  silent-reply a = rule-4 s f t buf store T .asks-or-not ∙ ap (λ (b : Bool). if b then the-request s f t buf store ∷ [] else []) a
+
+  its-gap : (b : Bool) → asks t (s .E) (s .gap) ≡ b → result .session .gap ≡ (if b then asked-for t (s .E) (N s (bodyIn f)) (s .gap) else seen (N s (bodyIn f)) (s .gap))
+  its-gap b a = rule-4 s f t buf store T .gap-behind ∙ ap (λ (x : Bool). if x then asked-for t (s .E) (N s (bodyIn f)) (s .gap) else seen (N s (bodyIn f)) (s .gap)) a
+
+-- A SESSION WHOSE GAP is open for e, which is its E, and was asked for at the time t
+record Waits (t e : ℕ) (u : Session) : Type 0 where
+  same-E : u .E ≡ e
+  asked : AskedAt t e (u .gap)
+
+module _ (t e : ℕ) where
+  abbrev Quiet : Session → Turn → Type 0
+  Quiet u c = (answered u c ≡ []) × Waits t e (turn u c .session)
+
+  rests-waits : (u : Session) (o : Outcome) → Waits t e u → Rests u o → Waits t e (o .session)
+  rests-waits u o W R = record { same-E = R .same-E ∙ W .same-E; asked = subst (AskedAt t e) (sym (R .same-gap)) (W .asked) }
+
+  -- such a frame within 10 seconds
+  high-quiet : (u : Session) (f : Bytes) (t′ : ℕ) (buf store : Bytes) → Waits t e u → TooHigh u f t′ buf store → Within t t′ → Quiet u (Ours (Step f t′ buf store))
+  high-quiet u f t′ buf store W T w =
+      let a = subst (λ (n : ℕ). asks t′ n (u .gap) ≡ false) (sym (W .same-E)) (asks-not t t′ e (u .gap) (W .asked) w) in
+      let A = W .asked in (
+        silent-reply u f t′ buf store T a,
+        record {
+          same-E = rule-4 u f t′ buf store T .E-stays ∙ W .same-E;
+          asked = subst (AskedAt t e) (sym (its-gap u f t′ buf store T false a)) (record { is-open = A .is-open; for-E = A .for-E; at = A .at });
+        },
+      )
+
+  turn-quiet : (u : Session) (c : Turn) → Waits t e u → High (Within t) u c → Quiet u c
+  turn-quiet u (Ours (Step f t′ buf store)) W h = high-quiet u f t′ buf store W (h .0) (h .1)
+  turn-quiet u (Ours (Tick t′ buf)) W h = (refl, rests-waits u _ W (tick-rests u t′ buf))
+  turn-quiet u (Ours (OurLogout t′ buf)) W h = (refl, rests-waits u _ W (logout-rests u t′ buf))
+  turn-quiet u (Ours (OurTestRequest id t′ buf)) W h = (refl, rests-waits u _ W (test-rests u id t′ buf))
+  turn-quiet u (Ours Reconnect) W h = (refl, rests-waits u _ W (reconnect-rests u))
+  turn-quiet u (OurReport v t′ buf store) W h = (refl, rests-waits u _ W (report-rests u v t′ buf store))
+  turn-quiet u (OurReplay t′ buf store) W h = (refl, rests-waits u _ W (replay-rests u t′ buf store))
+
+  run-quiet : (u : Session) (cs : List Turn) → Waits t e u → AllHigh (Within t) u cs → (all-answered u cs ≡ []) × Waits t e (final u cs)
+  run-quiet u [] W h = (refl, W)
+  run-quiet u (c ∷ cs) W h =
+      let q = turn-quiet u c W (h .0) in
+      let r = run-quiet (turn u c .session) cs (q .1) (h .1) in
+      (ap₂ (λ (k l : List Bytes). k ++ l) (q .0) (r .0), r .1)
+
+-- A RUN and what comes behind it
+answered-then : (u : Session) (cs ds : List Turn) → all-answered u (cs ++ ds) ≡ all-answered u cs ++ all-answered (final u cs) ds
+answered-then u [] ds = refl
+answered-then u (c ∷ cs) ds =
+    ap (λ (l : List Bytes). answered u c ++ l) (answered-then (turn u c .session) cs ds)
+    ∙ sym (append-assoc (answered u c) (all-answered (turn u c .session) cs) (all-answered (final u (c ∷ cs)) ds))
+
+-- ONE REQUEST
+module _ (s : Session) (f : Bytes) (t : ℕ) (buf store : Bytes) (cs : List Turn) (T : TooHigh s f t buf store) (a : asks t (s .E) (s .gap) ≡ true)
+    (H : AllHigh (Within t) (step s f t buf store .session) cs) where
+  abbrev behind : Session
+  behind = step s f t buf store .session
+
+  first-waits : Waits t (s .E) behind
+  first-waits = record { same-E = rule-4 s f t buf store T .E-stays; asked = subst (AskedAt t (s .E)) (sym (its-gap s f t buf store T true a)) (record { is-open = refl; for-E = refl; at = refl }) }
+
+  quiet : (all-answered behind cs ≡ []) × Waits t (s .E) (final behind cs)
+  quiet = run-quiet t (s .E) behind cs first-waits H
+
+  -- after 10 seconds
+  last-reply : (f′ : Bytes) (t′ : ℕ) (buf′ store′ : Bytes) → TooHigh (final behind cs) f′ t′ buf′ store′ → Passed t t′
+      → step (final behind cs) f′ t′ buf′ store′ .reply ≡ the-request (final behind cs) f′ t′ buf′ store′ ∷ []
+  last-reply f′ t′ buf′ store′ T′ p =
+      let W = quiet .1 in
+      asking-reply (final behind cs) f′ t′ buf′ store′ T′ (subst (λ (n : ℕ). asks t′ n (final behind cs .gap) ≡ true) (sym (W .same-E)) (asks-again t t′ (s .E) (final behind cs .gap) (W .asked) p))
+
+  pub one-request : OneRequest s f t buf store cs
+  one-request = record {
+    one = ap₂ (λ (k l : List Bytes). k ++ l) (asking-reply s f t buf store T a) (quiet .0);
+    E-stays = quiet .1 .same-E;
+    one-more = λ f′ t′ buf′ store′ T′ p.
+        ap₂ (λ (k l : List Bytes). k ++ l) (asking-reply s f t buf store T a)
+        (answered-then behind cs (Ours (Step f′ t′ buf′ store′) ∷ []) ∙ ap₂ (λ (k l : List Bytes). k ++ (l ++ [])) (quiet .0) (last-reply f′ t′ buf′ store′ T′ p));
+  }

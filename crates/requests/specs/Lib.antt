@@ -1,0 +1,3 @@
+pub mod Requests
+pub mod Day
+pub mod Promise

@@ -1,0 +1,26 @@
+-- What is promised of a gap and its requests (document 02, Q-5): Requests.antt says it.
+use mathlib.Core.Path.{_≡_}
+use mathlib.Core.List.{List}
+use mathlib.Core.Bool.{true}
+use Prim.Native.Nat.{ℕ}
+use Rattle.bytes.specs.Bytes.{Bytes}
+use Rattle.gap.specs.Gap.{asks}
+use Rattle.moves.specs.Session.{Session}
+use Rattle.session.specs.Calls.{step, new}
+use Rattle.replaying.specs.Run.{Turn, run}
+use Rattle.requests.specs.Requests.{TooHigh, RuleFour, LogonsGap, LeavesGap, AllHigh, Within, OneRequest, Around, AllAround}
+use Rattle.requests.specs.Day.{Day}
+
+pub record Promise : Type 0 where
+  -- "A too-high frame asks only if no gap is open, or E has moved since, or 10 seconds have passed on the step's clock"
+  pub rule-4 : (s : Session) (f : Bytes) (t : ℕ) (buf store : Bytes) → TooHigh s f t buf store → RuleFour s f t buf store
+  pub logons : (s : Session) (f : Bytes) (t : ℕ) (buf store : Bytes) → LogonsGap s f t buf store
+  pub leaves : (s : Session) (f : Bytes) (t : ℕ) (buf store : Bytes) → LeavesGap s f t buf store
+  -- "One request for each gap."
+  pub one-request : (s : Session) (f : Bytes) (t : ℕ) (buf store : Bytes) (cs : List Turn) → TooHigh s f t buf store → asks t (s .E) (s .gap) ≡ true
+      → AllHigh (Within t) (step s f t buf store .session) cs → OneRequest s f t buf store cs
+  -- "E above the highest seen closes it": every call leaves a gap around E, from a new session on
+  pub around : (s : Session) (cs : List Turn) → Around s → AllAround (run s cs)
+  pub new-around : (us them : Bytes) → Around (new us them .session)
+  -- a run that it speaks of
+  pub day : Day
