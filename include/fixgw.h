@@ -4,7 +4,7 @@
 #define FIXGW_H
 
 /* The version of this header, as major * 10000 + minor * 100 + patch. fixgw_version() answers that of the library. */
-#define FIXGW_VERSION 20100
+#define FIXGW_VERSION 20200
 
 /* Only these two headers are needed. A compiler that has none, but names its types, is served as well. */
 #ifdef __has_include
@@ -262,7 +262,9 @@ static inline void fixgw_give_bytes(uint64_t values[FIXGW_VALUES], enum fixgw_pl
 
 enum fixgw_status { FIXGW_WAITING = 0, FIXGW_ACTIVE = 1, FIXGW_CLOSED = 2 };
 
-/* The record of a session: 216 bytes without padding, which may be kept, copied and compared as they are. */
+/* The record of a session: 216 bytes without padding, which may be kept, copied and compared as they are. One that an
+   older version kept is taken as it is: a word that was not used then is zero, and zero means none, no replay and no
+   gap. */
 enum fixgw_word {
     FIXGW_WORD_VERSION = 0,                 /* of the record: FIXGW_RECORD_VERSION */
     FIXGW_WORD_STATUS,                      /* one of fixgw_status */
@@ -272,6 +274,10 @@ enum fixgw_word {
     FIXGW_WORD_LAST_SENT,                   /* when we last sent a message, in microseconds since 1970; any number */
     FIXGW_WORD_REPLAY_AT,                   /* the next number of a replay, which runs while Active alone; 0: none runs */
     FIXGW_WORD_REPLAY_TO,                   /* the last number asked for, not below that, but below next out; or 0 too */
+    FIXGW_WORD_GAP_OPEN,                    /* 1 while a gap in the peer's numbers is open; else 0, and so the next three */
+    FIXGW_WORD_GAP_FOR,                     /* the E that the peer was asked to resend from, 1 to 999,999,999 */
+    FIXGW_WORD_GAP_HIGHEST,                 /* the highest number seen, 1 to 999,999,999 */
+    FIXGW_WORD_GAP_ASKED,                   /* when it was last asked for, in microseconds since 1970; any number */
     FIXGW_WORDS_USED,                       /* from here on all are zero, and kept for versions to come */
     FIXGW_WORDS = 24
 };
@@ -310,13 +316,15 @@ enum {
    has another number of words or another version, or if a word that is kept for later is not zero: so a host that was
    built for another version is refused, and nothing of its memory is touched. */
 
-/* Fills the record of a new session: Waiting, both numbers 1, heartbeat 30, last sent 0, no replay. Lend it a store of zeros.
+/* Fills the record of a new session: Waiting, both numbers 1, heartbeat 30, last sent 0, no replay, no gap. Lend it a store
+   of zeros.
    11: a CompID is not 1 to 11 bytes without `|`. The record is then as new, but Closed and with two empty CompIDs; no
    step is taken on it. With another number of words than FIXGW_WORDS nothing is written. */
 uint32_t fixgw_new(uint8_t comp_ids[FIXGW_COMP_IDS], uint64_t *words, size_t words_len,
                    const uint8_t *our_id, size_t our_len, const uint8_t *peer_id, size_t peer_len);
 
-/* The peer has a new connection: the status becomes Waiting, an unfinished replay is dropped, everything else stays.
+/* The peer has a new connection: the status becomes Waiting, an unfinished replay is dropped, everything else stays, an
+   open gap too: the next accepted Logon closes it.
    11: the record breaks its ranges and stays as it is. */
 uint32_t fixgw_reconnect(const uint8_t comp_ids[FIXGW_COMP_IDS], uint64_t *words, size_t words_len);
 
@@ -326,6 +334,10 @@ uint32_t fixgw_reconnect(const uint8_t comp_ids[FIXGW_COMP_IDS], uint64_t *words
    them. The store is zeroed by an accepted Logon with 141=Y, and stays as it is otherwise.
    A Resend Request that can be served only starts a replay, in place of one that is running: FIXGW_WORD_REPLAY_AT is
    then not 0. Send what is in buf, and call fixgw_replay until it is 0 again.
+   A message whose number is above E opens a gap: the peer is asked to resend from E, once. While the gap is open further
+   such messages ask again only if E has moved since, ten seconds have passed, or the clock has gone back behind the
+   asking. It is closed once E is above the highest number seen, by an accepted Logon, and by a Sequence Reset without
+   123=Y that is taken; a Logon above E opens one anew. A host does nothing for it but keep the record.
    11, 14, 10, 7, 6, 2, 5, 3, 4, looked for in this order: out is {0, 0}, buf and store keep all of their bytes, and the
    record stays as it is, except that 5, 3 and 4 set it Closed. What closes a session drops an unfinished replay. */
 uint32_t fixgw_step(const uint8_t comp_ids[FIXGW_COMP_IDS], uint64_t *words, size_t words_len,

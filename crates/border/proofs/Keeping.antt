@@ -6,28 +6,30 @@ use mathlib.Core.List.{List, [], _∷_, _++_}
 use mathlib.Core.Bool.{Bool, true, false, cond, _&&_, false≢true}
 use mathlib.Core.Option.{Option, none, some, Option·some-injective, Option·none-ne-some}
 use native.Mathlib.Omega.{arith}
-use borrow.Author.Tests.{eq-eqb, eqb-true}
+use borrow.Author.Tests.{eqb-true}
 use lib.Dec.{eqb, leb}
 use lib.ListN.{length, getD, take, drop, drop-of-length-le}
 use lib.Seq.{drop-cons, length-sets}
 use Rattle.bytes.specs.Bytes.{Bytes, Byted}
 use Rattle.bytes.proofs.Tests.{both}
+use Rattle.gap.specs.declared.Gap.{Gap}
 use Rattle.moves.specs.Session.{Session, code, turned}
 use Rattle.moves.specs.Held.{held, sessionOf, with}
 use Rattle.moves.specs.declared.record.Record.{Record}
 use Rattle.moves.specs.declared.record.Status.{Status}
 use Rattle.moves.specs.declared.record.Status.the-variants.{Waiting, Active, Closed}
 use Rattle.border.proofs.Records.{status-read}
-use Rattle.border.specs.Record.{eleven, compIDsOf, state, wordsOf, saved, closedIn, statusOf, spare, statusIf, statusIn, recordWith, recordIf, recordIn}
+use Rattle.border.specs.Record.{eleven, compIDsOf, state, wordsOf, saved, closedIn, statusOf, spare, statusIf, statusIn, gapIn, recordWith, recordIf, recordIn}
 use Rattle.border.specs.code.Held.{found, statusHeld}
 
 -- A LIST element by element
 front-of : (w : List ℕ) (j : ℕ) → j < length w → drop j w ≡ getD w j 0 ∷ drop (suc j) w
 front-of w j h = drop-cons w j 0 h
 
-eight : (w : List ℕ) → 8 ≤ length w → w ≡ getD w 0 0 ∷ getD w 1 0 ∷ getD w 2 0 ∷ getD w 3 0 ∷ getD w 4 0 ∷ getD w 5 0 ∷ getD w 6 0 ∷ getD w 7 0 ∷ drop 8 w
-eight w h =
-    front-of w 0 (omega arith) ∙ rw (front-of w 1 (omega arith), front-of w 2 (omega arith), front-of w 3 (omega arith), front-of w 4 (omega arith), front-of w 5 (omega arith), front-of w 6 (omega arith), front-of w 7 (omega arith))
+twelve : (w : List ℕ) → 12 ≤ length w → w ≡ getD w 0 0 ∷ getD w 1 0 ∷ getD w 2 0 ∷ getD w 3 0 ∷ getD w 4 0 ∷ getD w 5 0 ∷ getD w 6 0 ∷ getD w 7 0 ∷ getD w 8 0 ∷ getD w 9 0 ∷ getD w 10 0 ∷ getD w 11 0 ∷ drop 12 w
+twelve w h =
+    front-of w 0 (omega arith)
+    ∙ rw (front-of w 1 (omega arith), front-of w 2 (omega arith), front-of w 3 (omega arith), front-of w 4 (omega arith), front-of w 5 (omega arith), front-of w 6 (omega arith), front-of w 7 (omega arith), front-of w 8 (omega arith), front-of w 9 (omega arith), front-of w 10 (omega arith), front-of w 11 (omega arith))
 
 eleven-all : (l : Bytes) → length l ≡ 11 → eleven 0 l ≡ l
 eleven-all l e =
@@ -75,9 +77,9 @@ its-number (suc zero) st e = ap code (Option·some-injective Active st e)
 its-number (suc (suc zero)) st e = ap code (Option·some-injective Closed st e)
 its-number (suc (suc (suc n))) st e = absurd (Option·none-ne-some st e)
 
--- WHAT IS SAVED: the state's seven words, and nothing else
-pub saved-is : (words : List ℕ) (r : Record) → 8 ≤ length words → saved words r ≡ getD words 0 0 ∷ (state r ++ drop 8 words)
-saved-is words r h = ap (λ (w : List ℕ). saved w r) (eight words h)
+-- WHAT IS SAVED: the state's eleven words, and nothing else
+pub saved-is : (words : List ℕ) (r : Record) → 12 ≤ length words → saved words r ≡ getD words 0 0 ∷ (state r ++ drop 12 words)
+saved-is words r h = ap (λ (w : List ℕ). saved w r) (twelve words h)
 
 -- words that hold a status: 24 of them, of this version, spare ones zero
 record Kept (words : List ℕ) (st : Status) : Type 0 where
@@ -116,9 +118,9 @@ module _ (ids : Bytes) (words : List ℕ) where
       let K = kept-is words (r .status) (L .0) in
       let n = its-number (getD words 1 0) (r .status) (K .numbered) in
       saved-is words r (omega (arith, K .long))
-      ∙ ap (λ (x : Record). getD words 0 0 ∷ (code (r .status) ∷ x .expected ∷ x .next ∷ x .heartbeat ∷ x .sent ∷ x .at ∷ x .to ∷ drop 8 words)) (L .1)
-      ∙ ap (λ (k : ℕ). getD words 0 0 ∷ k ∷ getD words 2 0 ∷ getD words 3 0 ∷ getD words 4 0 ∷ getD words 5 0 ∷ getD words 6 0 ∷ getD words 7 0 ∷ drop 8 words) (sym n)
-      ∙ sym (eight words (omega (arith, K .long)))
+      ∙ ap (λ (x : Record). getD words 0 0 ∷ (code (r .status) ∷ x .expected ∷ x .next ∷ x .heartbeat ∷ x .sent ∷ x .at ∷ x .to ∷ x .gap .isOpen ∷ x .gap .expected ∷ x .gap .highest ∷ x .gap .asked ∷ drop 12 words)) (L .1)
+      ∙ ap (λ (k : ℕ). getD words 0 0 ∷ k ∷ getD words 2 0 ∷ getD words 3 0 ∷ getD words 4 0 ∷ getD words 5 0 ∷ getD words 6 0 ∷ getD words 7 0 ∷ getD words 8 0 ∷ getD words 9 0 ∷ getD words 10 0 ∷ getD words 11 0 ∷ drop 12 words) (sym n)
+      ∙ sym (twelve words (omega (arith, K .long)))
 
   -- another state that is saved is loaded again
   pub saved-loads : (r : Record) (s : Session) → recordIn ids words ≡ some r → recordIn ids (saved words (with r s)) ≡ some (with r s)
@@ -168,15 +170,15 @@ module _ (words : List ℕ) where
       go none e = refl
       go (some st) e = absurd (false≢true (sym e))
 
-  pub a-record : (ids : Bytes) {ours peer : Bytes} {o p : ℕ} {st : Status} → found (statusIn words) ≡ true → ours ≡ eleven 1 ids → o ≡ getD ids 0 0 → peer ≡ eleven 13 ids → p ≡ getD ids 12 0 → st ≡ statusHeld (statusOf (getD words 1 0)) → some (record { ours = ours; oursLen = o; peer = peer; peerLen = p; status = st; expected = getD words 2 0; next = getD words 3 0; heartbeat = getD words 4 0; sent = getD words 5 0; at = getD words 6 0; to = getD words 7 0 }) ≡ recordIn ids words
-  a-record ids h a b c d e =
+  pub a-record : (ids : Bytes) {ours peer : Bytes} {o p : ℕ} {st : Status} {g : Gap} → found (statusIn words) ≡ true → ours ≡ eleven 1 ids → o ≡ getD ids 0 0 → peer ≡ eleven 13 ids → p ≡ getD ids 12 0 → st ≡ statusHeld (statusOf (getD words 1 0)) → g ≡ gapIn words → some (record { ours = ours; oursLen = o; peer = peer; peerLen = p; status = st; expected = getD words 2 0; next = getD words 3 0; heartbeat = getD words 4 0; sent = getD words 5 0; at = getD words 6 0; to = getD words 7 0; gap = g }) ≡ recordIn ids words
+  a-record ids h a b c d e i =
       let f = its-found h in
       let s = ap statusHeld (kept-is words (statusHeld (statusIn words)) f .numbered) in
-      rw (a, b, c, d, e) (ap (λ (z : Status). some (recordWith ids words z)) s ∙ ap (recordIf ids words) (sym f))
+      rw (a, b, c, d, e, i) (ap (λ (z : Status). some (recordWith ids words z)) s ∙ ap (recordIf ids words) (sym f))
 
 -- a new session's record is loaded again
 pub new-loads : (r : Record) → length (r .ours) ≡ 11 → length (r .peer) ≡ 11 → recordIn (compIDsOf r) (wordsOf r) ≡ some r
 unfolding statusIn spare
 new-loads r a b =
     ap (recordIf (compIDsOf r) (wordsOf r)) (its-status (r .status))
-    ∙ ap (λ (x : Bytes × Bytes). some (record { ours = x .0; oursLen = r .oursLen; peer = x .1; peerLen = r .peerLen; status = r .status; expected = r .expected; next = r .next; heartbeat = r .heartbeat; sent = r .sent; at = r .at; to = r .to })) (rw (eleven-all (r .ours) a, eleven-all (r .peer) b))
+    ∙ ap (λ (x : Bytes × Bytes). some (record { ours = x .0; oursLen = r .oursLen; peer = x .1; peerLen = r .peerLen; status = r .status; expected = r .expected; next = r .next; heartbeat = r .heartbeat; sent = r .sent; at = r .at; to = r .to; gap = r .gap })) (rw (eleven-all (r .ours) a, eleven-all (r .peer) b))

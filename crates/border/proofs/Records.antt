@@ -70,7 +70,7 @@ module _ (words : List ℕ) where
 abbrev pub zeroWord : ℕ → Bool
 zeroWord w = eqb w 0
 
-pub spare-is : (words : List ℕ) → spare words ≡ all zeroWord (drop 8 words)
+pub spare-is : (words : List ℕ) → spare words ≡ all zeroWord (drop 12 words)
 unfolding spare
 spare-is words = refl
 

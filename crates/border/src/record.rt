@@ -1,5 +1,6 @@
 // The session's record as the C side keeps it: 24 bytes for the CompIDs with their lengths, and 24 words.
 use crate::answer::number_of;
+use gap::Gap;
 use moves::Record;
 use moves::Status;
 use session::Answered;
@@ -8,10 +9,11 @@ ghost use mathlib.Core.Path.{_≡_};
 ghost use mathlib.Core.Bool.{true};
 ghost use mathlib.Core.Option.{some};
 ghost use lib.ListN.{length, replicate};
+ghost use lib.Seq.{sets};
 ghost use Rattle.moves.specs.Session.{code};
 ghost use Rattle.session.specs.Refusals.{numbers};
 ghost use Rattle.border.specs.Numbers.{refusalOf};
-ghost use Rattle.border.specs.Record.{eleven, compIDsOf, wordsOf, saved, spare, statusOf, statusIn, recordIn};
+ghost use Rattle.border.specs.Record.{eleven, compIDsOf, gapWords, wordsOf, saved, spare, statusOf, statusIn, gapIn, recordIn};
 ghost use Rattle.border.specs.code.Held.{found, statusHeld};
 
 // Whether the words that are kept for later are zero. The loop has no way out, so the compiler compares several words at once.
@@ -19,7 +21,7 @@ fn is_spare(words: &[u64]) -> bool
     ensures { λ r. ⌜ r ≡ spare (now (words .entry)) ⌝ }
 {
     let mut none = true;
-    let mut i = 8;
+    let mut i = 12;
     while i < words.len() {
         if words[i] != 0 {
             none = false;
@@ -29,7 +31,7 @@ fn is_spare(words: &[u64]) -> bool
     none
 }
 
-// Whether the words are a record's: 24, of this version, with a status, and zeros behind the eight that are used.
+// Whether the words are a record's: 24, of this version, with a status, and zeros behind the twelve that are used.
 pub fn is_record(words: &[u64]) -> bool
     ensures { λ r. ⌜ r ≡ found (statusIn (now (words .entry))) ⌝ }
 {
@@ -86,6 +88,19 @@ fn eleven_from(ids: &[u8; 24], at: usize) -> [u8; 11]
     c
 }
 
+// The gap that lies in the words.
+fn gap_from(words: &[u64]) -> Gap
+    requires { ⌜ length (now words) ≡ 24 ⌝ }
+    ensures { λ g. ⌜ g ≡ gapIn (now (words .entry)) ⌝ }
+{
+    Gap {
+        isOpen: words[8],
+        expected: words[9],
+        highest: words[10],
+        asked: words[11],
+    }
+}
+
 // The record that lies in the bytes and words.
 pub fn load(ids: &[u8; 24], words: &[u64]) -> Record
     requires { ⌜ found (statusIn (now words)) ≡ true ⌝ }
@@ -103,7 +118,19 @@ pub fn load(ids: &[u8; 24], words: &[u64]) -> Record
         sent: words[5],
         at: words[6],
         to: words[7],
+        gap: gap_from(words),
     }
+}
+
+// A gap into its words.
+fn save_gap(words: &mut [u64], g: Gap)
+    requires { ⌜ length (now words) ≡ 24 ⌝ }
+    ensures { λ _. ⌜ now (words .exit) ≡ sets (now (words .entry)) 8 (gapWords g) ⌝ }
+{
+    words[8] = g.isOpen;
+    words[9] = g.expected;
+    words[10] = g.highest;
+    words[11] = g.asked;
 }
 
 // The state of a record into its words; the others stay.
@@ -119,6 +146,7 @@ fn save(words: &mut [u64], r: Record)
     words[5] = r.sent;
     words[6] = r.at;
     words[7] = r.to;
+    save_gap(words, r.gap);
 }
 
 // What a call on a record leaves: the state into the words, and its number.

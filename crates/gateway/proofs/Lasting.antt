@@ -13,6 +13,7 @@ use lib.Seq.{take-append-seam}
 use Rattle.bytes.specs.Bytes.{Bytes, Byted, has, within}
 use Rattle.bytes.proofs.Tests.{both}
 use Rattle.bytes.proofs.Numerals.{within-is}
+use Rattle.gap.specs.Gap.{bounded}
 use Rattle.moves.specs.Words.{if_then_else_}
 use Rattle.moves.specs.Session.{Session, inRange, fresh, turned}
 use Rattle.message.specs.Unfit.{compID}
@@ -62,7 +63,7 @@ module _ (us them : Bytes) (a : compID us ≡ true) (b : compID them ≡ true) w
   held-padded c h = ap (λ (x : Bool). cond x (take (length c) (padded c)) []) (le-leb (length c) 11 h) ∙ take-append-seam c (replicate (11 - length c) 0)
 
   fresh-in : inRange (fresh us them) ≡ true
-  unfolding inRange
+  unfolding inRange bounded
   fresh-in = rw (a, b)
 
   begun : Begun us them (newFrom (keeping Answer.Done (fresh us them) []))

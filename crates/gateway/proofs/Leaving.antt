@@ -69,7 +69,7 @@ module _ (ids : Bytes) (words : List ℕ) (r : Record) (lies : recordIn ids word
 
     -- its record is the session that the call left
     same-session : sessionOf (with r (o .session)) ≡ o .session
-    same-session = ap₂ (λ (us them : Bytes). record { ours = us; peers = them; status = o .session .status; E = o .session .E; next = o .session .next; heartbeat = o .session .heartbeat; sent = o .session .sent; replay = o .session .replay }) (sym (kept .ours)) (sym (kept .peers))
+    same-session = ap₂ (λ (us them : Bytes). record { ours = us; peers = them; status = o .session .status; E = o .session .E; next = o .session .next; heartbeat = o .session .heartbeat; sent = o .session .sent; replay = o .session .replay; gap = o .session .gap }) (sym (kept .ours)) (sym (kept .peers))
 
     pub left-lies : Lies ids (saved words (with r (o .session))) (o .session)
     left-lies = record { its-record = with r (o .session); lies = saved-loads ids words r (o .session) lies; is = same-session }

@@ -32,6 +32,7 @@ use Rattle.kept.proofs.Promise as Kept
 use Rattle.store.proofs.Promise as Store
 use Rattle.replaying.proofs.Promise as Replaying
 use Rattle.sequence.proofs.Promise as Sequence
+use Rattle.requests.proofs.Promise as Requests
 use Rattle.report.proofs.Promise as ReportMessage
 use Rattle.reporting.proofs.Promise as Reporting
 use Rattle.readback.proofs.Promise as Back
@@ -139,4 +140,5 @@ promise =
       store = Store.promise;
       replays = Replaying.promise;
       sequence = Sequence.promise;
+      requests = Requests.promise;
     }

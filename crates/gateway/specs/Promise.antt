@@ -45,6 +45,7 @@ use Rattle.reporting.specs.Promise as ReportCall
 use Rattle.replaying.specs.Call.{its-table, replay}
 use Rattle.replaying.specs.Promise as Replaying
 use Rattle.sequence.specs.Promise as Sequence
+use Rattle.requests.specs.Promise as Requests
 use Rattle.moves.specs.declared.record.Record.{Record}
 use Rattle.gateway.specs.Border.{ReadOut, PutOut, DropOut, BodyOut, FieldOut, FirstOut, VerdictOut, ReportValuesOut}
 use Rattle.border.specs.Numbers.{refusalOf}
@@ -244,3 +245,5 @@ pub record Promise : Type 0 where
   pub replays : Replaying.Promise
   -- "Nothing delivered twice, nothing stepped over", in any run of all calls between two resets
   pub sequence : Sequence.Promise
+  -- "One request for each gap", in any run of all calls, and what the record says of a gap behind each
+  pub requests : Requests.Promise

@@ -13,7 +13,7 @@ use Rattle.border.specs.Record.{spare}
 use Rattle.border.proofs.Records.{zeroWord, spare-is, spare-stop, spare-next, spare-end}
 
 abbrev Inv-loop : tie.InvT-loop
-Inv-loop words none₀ i₀ none i = (8 ≤ i) × (spare words ≡ none && all zeroWord (drop i words))
+Inv-loop words none₀ i₀ none i = (12 ≤ i) × (spare words ≡ none && all zeroWord (drop i words))
 
 abbrev μ-loop : tie.MeasureT-loop
 μ-loop words none₀ i₀ none i = length words - i

@@ -26,10 +26,14 @@ shared-slice-read-t25 c = let s = c .before .before .before .before .before .bef
 shared-slice-read-t27 : tie.Need-shared-slice-read-t27
 shared-slice-read-t27 c = let s = c .before .before .before .before .before .before .before .before .before .before .before .before .before .before .before in omega (arith, record-length (s .args .words .now) (s .pre))
 
+gap-from-requires : tie.Need-gap-from-requires
+gap-from-requires c κs = let s = c .before .before .before .before .before .before .before .before .before .before .before .before .before .before .before in record-length (s .args .words .now) (s .pre)
+
 returns : tie.Need-returns
 returns c =
-    let s = c .before .before .before .before .before .before .before .before .before .before .before .before .before .before .before in
-    a-record (s .args .words .now) (s .args .ids .now) (s .pre) (c .before .before .before .before .before .before .before .before .before .before .before .before .before .eleven-from .ensures) (c .before .before .before .before .before .before .before .before .before .before .before .length-of .ensures) (c .before .before .before .before .before .before .before .before .before .before .eleven-from2 .ensures) (c .before .before .before .before .before .before .before .before .length-of2 .ensures) (c .before .before .before .before .before .before .status-of .ensures)
+    let s = c .before .before .before .before .before .before .before .before .before .before .before .before .before .before .before .before in
+    a-record (s .args .words .now) (s .args .ids .now) (s .pre) (c .before .before .before .before .before .before .before .before .before .before .before .before .before .before .eleven-from .ensures) (c .before .before .before .before .before .before .before .before .before .before .before .before .length-of .ensures) (c .before .before .before .before .before .before .before .before .before .before .before .eleven-from2 .ensures) (c .before .before .before .before .before .before .before .before .before .length-of2 .ensures) (c .before .before .before .before .before .before .before .status-of .ensures)
+    (c .gap-from .ensures)
 
 pub load-spec : {M : Type 1} → statement M
 load-spec =
@@ -49,4 +53,5 @@ load-spec =
     shared-slice-read-t23
     shared-slice-read-t25
     shared-slice-read-t27
+    gap-from-requires
     returns)

@@ -1,10 +1,14 @@
--- `save`: seven stores.
+-- `save`: seven stores, and the gap's.
 use borrow.Author.Needs.{needs}
 use native.Mathlib.Omega.{arith}
 use Rattle.border.proofs.record.save.Statement.{statement}
 use Rattle.border.proofs.record.save.Tie as tie
 use mathlib.Core.List.{_∷_, []}
-use lib.Seq.{lt-length-sets}
+use mathlib.Core.Path.{ap, _∙_}
+use Prim.Native.Nat.{ℕ}
+use lib.ListN.{length}
+use lib.Seq.{sets, length-sets, lt-length-sets}
+use Rattle.border.specs.Record.{gapWords}
 
 slice-write-words-5 : tie.Need-slice-write-words-5
 slice-write-words-5 c = let a = c .before .before .args in lt-length-sets (a .words .now) 1 (c .status-number .result ∷ a .r .expected ∷ a .r .next ∷ a .r .heartbeat ∷ []) (omega arith)
@@ -15,8 +19,22 @@ slice-write-words-6 c = let a = c .before .before .args in lt-length-sets (a .wo
 slice-write-words-7 : tie.Need-slice-write-words-7
 slice-write-words-7 c = let a = c .before .before .args in lt-length-sets (a .words .now) 1 (c .status-number .result ∷ a .r .expected ∷ a .r .next ∷ a .r .heartbeat ∷ a .r .sent ∷ a .r .at ∷ []) (omega arith)
 
+save-gap-requires : tie.Need-save-gap-requires
+save-gap-requires c κs =
+    let a = c .before .before .before .args in
+    length-sets (a .words .now) 1 (c .before .status-number .result ∷ a .r .expected ∷ a .r .next ∷ a .r .heartbeat ∷ a .r .sent ∷ a .r .at ∷ a .r .to ∷ []) ∙ c .before .before .before .pre
+
+same-length : tie.Need-same-length
+same-length c =
+    let a = c .before .before .before .before .before .before .args in
+    ap length (c .before .before .save-gap .ensures)
+    ∙ length-sets (a .words .now) 1 (c .before .before .before .before .status-number .result ∷ a .r .expected ∷ a .r .next ∷ a .r .heartbeat ∷ a .r .sent ∷ a .r .at ∷ a .r .to ∷ gapWords (a .r .gap))
+
 returns : tie.Need-returns
-returns c = rw (c .status-number .ensures)
+returns c =
+    let a = c .before .before .before .before .before .before .args in
+    c .before .before .save-gap .ensures
+    ∙ ap (λ (k : ℕ). sets (a .words .now) 1 (k ∷ a .r .expected ∷ a .r .next ∷ a .r .heartbeat ∷ a .r .sent ∷ a .r .at ∷ a .r .to ∷ gapWords (a .r .gap))) (c .before .before .before .before .status-number .ensures)
 
 pub save-spec : {M : Type 1} → statement M
 save-spec =
@@ -30,5 +48,6 @@ save-spec =
     slice-write-words-5
     slice-write-words-6
     slice-write-words-7
-    (λ c. search needs)
+    save-gap-requires
+    same-length
     returns)
