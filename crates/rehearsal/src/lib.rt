@@ -1,6 +1,7 @@
 // A session played line by line: what each call answers, the messages that it sends, and the record that it leaves.
 // `new OURS PEER`, `step TIME FRAME`, `tick TIME`, `replay TIME`, `reconnect`. A time is in microseconds since 1970.
 use frame::Reading;
+use gap::Gap;
 use moves::Record;
 use moves::Status;
 use print::begins;
@@ -87,6 +88,18 @@ fn print_replay(at: u64, to: u64) {
     print_number(b" to ", to);
 }
 
+// A gap, if one is open.
+fn print_gap(g: Gap) {
+    if g.isOpen != 1 {
+        return;
+    }
+    print_number(b", a gap for ", g.expected);
+    print_number(b" up to ", g.highest);
+    io::write_all(1, b", asked ");
+    let asked = calendar::utc(g.asked);
+    print_bytes(&asked);
+}
+
 fn print_record(r: Record) {
     let status = r.status;
     print_status(status);
@@ -97,6 +110,7 @@ fn print_record(r: Record) {
     let sent = calendar::utc(r.sent);
     print_bytes(&sent);
     print_replay(r.at, r.to);
+    print_gap(r.gap);
     io::write_all(1, b"\n");
 }
 
