@@ -4,9 +4,11 @@
 enum {
     WIDTH = 120,
     INDENT = 24,                            /* of what stands below a row */
+    BELOW = INDENT + 3,                     /* of what goes on below a => */
     MOST_SHOWN = 380,                       /* of bytes that are no message */
-    WORDS = 200,
-    CHANGES = 360                           /* of six changes of any numbers */
+    WORDS = 300,
+    CHANGE = 80,
+    CHANGES = 560                           /* of all changes of any numbers */
 };
 
 #define SECOND 1000000u
@@ -44,12 +46,19 @@ static struct date date_of(uint64_t time)
     return date;
 }
 
+void clock_words(uint64_t time, char words[CLOCK])
+{
+    uint64_t second = time % DAY / SECOND;
+    snprintf(words, CLOCK, "%02u:%02u:%02u.%06u", (unsigned)(second / 3600), (unsigned)(second / 60 % 60),
+             (unsigned)(second % 60), (unsigned)(time % SECOND));
+}
+
 /* A row's front: the time, which way, and of which line unless it is the first. */
 static void print_row(uint64_t time, const char *way)
 {
-    uint64_t second = time % DAY / SECOND;
-    printf("%02u:%02u:%02u.%06u  %s", (unsigned)(second / 3600), (unsigned)(second / 60 % 60), (unsigned)(second % 60),
-           (unsigned)(time % SECOND), way);
+    char clock[CLOCK];
+    clock_words(time, clock);
+    printf("%s  %s", clock, way);
     if (line_of_rows > 1)
         printf(" %u%*s", line_of_rows, (int)(5 - strlen(way)), "");
     else
@@ -108,12 +117,51 @@ static const char *status_name(uint64_t status)
     return status <= FIXGW_CLOSED ? names[status] : "no status";
 }
 
-/* Appends one number's change; `used` is how much of the room is taken. */
+/* Appends one change; `used` is how much of the room is taken. */
+static void add(char *changes, size_t *used, const char *change)
+{
+    *used += (size_t)snprintf(changes + *used, CHANGES - *used, "%s%s", *used > 1 ? ", " : "", change);
+}
+
 static void add_change(char *changes, size_t *used, const char *name, uint64_t before, uint64_t after)
 {
-    if (before != after)
-        *used += (size_t)snprintf(changes + *used, CHANGES - *used, "%s%s %lu -> %lu", *used > 1 ? ", " : "", name,
-                                  (unsigned long)before, (unsigned long)after);
+    char change[CHANGE];
+    if (before == after)
+        return;
+    snprintf(change, sizeof change, "%s %lu -> %lu", name, (unsigned long)before, (unsigned long)after);
+    add(changes, used, change);
+}
+
+static void add_asked(char *changes, size_t *used, uint64_t time)
+{
+    char clock[CLOCK], change[CHANGE];
+    clock_words(time, clock);
+    snprintf(change, sizeof change, "asked at %s", clock);
+    add(changes, used, change);
+}
+
+static void add_opened_gap(char *changes, size_t *used, const uint64_t *new)
+{
+    char change[CHANGE];
+    snprintf(change, sizeof change, "gap open for %lu, highest %lu", (unsigned long)new[FIXGW_WORD_GAP_FOR],
+             (unsigned long)new[FIXGW_WORD_GAP_HIGHEST]);
+    add(changes, used, change);
+    add_asked(changes, used, new[FIXGW_WORD_GAP_ASKED]);
+}
+
+static void add_gap(char *changes, size_t *used, const uint64_t *old, const uint64_t *new)
+{
+    bool was_open = old[FIXGW_WORD_GAP_OPEN], is_open = new[FIXGW_WORD_GAP_OPEN];
+    if (was_open && !is_open)
+        add(changes, used, "gap closed");
+    if (!was_open && is_open)
+        add_opened_gap(changes, used, new);
+    if (!was_open || !is_open)
+        return;
+    add_change(changes, used, "gap for", old[FIXGW_WORD_GAP_FOR], new[FIXGW_WORD_GAP_FOR]);
+    add_change(changes, used, "highest", old[FIXGW_WORD_GAP_HIGHEST], new[FIXGW_WORD_GAP_HIGHEST]);
+    if (old[FIXGW_WORD_GAP_ASKED] != new[FIXGW_WORD_GAP_ASKED])
+        add_asked(changes, used, new[FIXGW_WORD_GAP_ASKED]);
 }
 
 static void list_changes(const struct fixgw_session *before, const struct fixgw_session *after, char changes[CHANGES])
@@ -128,6 +176,7 @@ static void list_changes(const struct fixgw_session *before, const struct fixgw_
     add_change(changes, &used, "heartbeat", old[FIXGW_WORD_HEARTBEAT], new[FIXGW_WORD_HEARTBEAT]);
     add_change(changes, &used, "replay at", old[FIXGW_WORD_REPLAY_AT], new[FIXGW_WORD_REPLAY_AT]);
     add_change(changes, &used, "replay to", old[FIXGW_WORD_REPLAY_TO], new[FIXGW_WORD_REPLAY_TO]);
+    add_gap(changes, &used, old, new);
     snprintf(changes + used, CHANGES - used, "%s]", used > 1 ? "" : "no change");
 }
 
@@ -228,16 +277,49 @@ void take_reply(struct step *step, const uint8_t *reply, size_t len)
     }
 }
 
+static size_t print_new_line(void)
+{
+    printf("\n%*s", BELOW, "");
+    return BELOW;
+}
+
+/* How long the words are up to the next place where a line may break: behind a `,`, `;` or `:` before a space. */
+static size_t length_of_piece(const char *words)
+{
+    size_t len = 1;
+    while (words[len] && !(words[len] == ' ' && (words[len - 1] == ',' || words[len - 1] == ';' || words[len - 1] == ':')))
+        len++;
+    return len;
+}
+
+/* Words from a column on, in as many lines as they need; the column behind them. */
+static size_t print_words(const char *words, size_t column)
+{
+    const char *space = "";
+    for (size_t len; *words; words += len + (words[len] == ' ')) {
+        len = length_of_piece(words);
+        if (column + strlen(space) + len > WIDTH) {
+            column = print_new_line();
+            space = "";
+        }
+        column += (size_t)printf("%s%.*s", space, (int)len, words);
+        space = " ";
+    }
+    return column;
+}
+
 /* What changes in the record follows on the same line, or on the next if that has no room for it. */
 static void print_decision(const char *words, const char *changes)
 {
-    bool has_room = INDENT + strlen("=> ") + strlen(words) + 2 + strlen(changes) <= WIDTH;
     print_indent();
-    printf("=> %s", words);
-    if (has_room)
+    printf("=> ");
+    size_t column = print_words(words, BELOW);
+    if (column + 2 + strlen(changes) <= WIDTH)
         printf("  %s\n", changes);
-    else
-        printf("\n%*s%s\n", INDENT + 3, "", changes);
+    else {
+        print_words(changes, print_new_line());
+        printf("\n");
+    }
 }
 
 void ledger_step(uint64_t time, const struct step *step)

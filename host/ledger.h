@@ -14,6 +14,11 @@ struct step {
     size_t replies;
 };
 
+enum { CLOCK = 16 };                        /* HH:MM:SS.microseconds and its end */
+
+/* The time of day. */
+void clock_words(uint64_t time, char words[CLOCK]);
+
 /* Puts the messages of a reply in the step. */
 void take_reply(struct step *step, const uint8_t *reply, size_t len);
 

@@ -53,6 +53,19 @@ static bool is_clean(const struct message *message)
     return fixgw_verdict(message->body, message->body_len, out) == FIXGW_OK && out[0] == 0;
 }
 
+static void say_clock(struct words *words, uint64_t time)
+{
+    char clock[CLOCK];
+    clock_words(time, clock);
+    say(words, clock);
+}
+
+static void say_highest(struct words *words, const struct step *step)
+{
+    say(words, ", the highest seen is ");
+    say_number(words, step->after.words[FIXGW_WORD_GAP_HIGHEST]);
+}
+
 /* The Reject at the front of the reply, with its reason and its tag. */
 static void say_reject(struct words *words, const struct step *step)
 {
@@ -71,6 +84,14 @@ static void say_reject(struct words *words, const struct step *step)
     say(words, tag_name(tag));
 }
 
+/* A Logon above E: the gap that it opens is not the one that it closed. */
+static void explain_high_logon(struct words *words, const struct step *step)
+{
+    say(words, "Waiting, N > E: Logon, then Resend Request from E, ");
+    say(words, step->before.words[FIXGW_WORD_GAP_OPEN] ? "another gap is open" : "a gap is open");
+    say_highest(words, step);
+}
+
 static void explain_waiting(struct words *words, const struct step *step)
 {
     bool is_reset = holds(step, FIXGW_TAG_RESET_SEQ_NUM_FLAG, "Y"), is_taken = replies_with(step, 0, FIXGW_TYPE_LOGON);
@@ -80,9 +101,15 @@ static void explain_waiting(struct words *words, const struct step *step)
     else if (!is_taken)
         say(words, "Waiting, N < E: Logout");
     else if (replies_with(step, 1, FIXGW_TYPE_RESEND_REQUEST))
-        say(words, "Waiting, N > E: Logon, then Resend Request from E");
+        explain_high_logon(words, step);
     else
         say(words, "Waiting, N = E: Logon");
+}
+
+/* A Sequence Reset that is no gap fill. */
+static bool is_bare_reset(const struct step *step)
+{
+    return type_of(&step->in) == FIXGW_TYPE_SEQUENCE_RESET && !holds(step, FIXGW_TAG_GAP_FILL_FLAG, "Y");
 }
 
 static void explain_reset(struct words *words, const struct step *step)
@@ -114,14 +141,40 @@ static void say_replay(struct words *words, const struct step *step)
     say(words, step->before.words[FIXGW_WORD_REPLAY_AT] ? " starts in place of another" : " starts");
 }
 
+/* The gap as it was and, if it is asked for, why: "only if no gap is open, or E has moved since, or 10 seconds have passed
+   on the step's clock; a clock that went back counts as passed". The record behind an asking has the step's time. */
+static void say_gap(struct words *words, const struct step *step, bool is_asked)
+{
+    const uint64_t *gap = step->before.words;
+    uint64_t asked = step->after.words[FIXGW_WORD_GAP_ASKED];
+    if (!gap[FIXGW_WORD_GAP_OPEN]) {
+        say(words, "no gap is open");
+        return;
+    }
+    say(words, "a gap is open for ");
+    if (gap[FIXGW_WORD_GAP_FOR] != gap[FIXGW_WORD_EXPECTED]) {
+        say_number(words, gap[FIXGW_WORD_GAP_FOR]);
+        say(words, ", E has moved since");
+        return;
+    }
+    say(words, "E, asked at ");
+    say_clock(words, gap[FIXGW_WORD_GAP_ASKED]);
+    if (is_asked)
+        say(words, asked < gap[FIXGW_WORD_GAP_ASKED] ? ", the clock went back" : ", ten seconds have passed");
+}
+
 static void explain_high(struct words *words, const struct step *step)
 {
-    say(words, "rule 4, N > E: ");
+    bool is_asked = replies_with(step, 0, FIXGW_TYPE_RESEND_REQUEST);
+    say(words, "rule 4, N > E, ");
+    say_gap(words, step, is_asked);
+    say(words, ": ");
     if (is_served(step)) {
         say_replay(words, step);
         say(words, ", as asked for, and ");
     }
-    say(words, "Resend Request 7=E, 16=0");
+    say(words, is_asked ? "Resend Request 7=E, 16=0" : "we do not ask again");
+    say_highest(words, step);
 }
 
 static void explain_low(struct words *words, const struct step *step)
@@ -174,14 +227,13 @@ static void explain_active(struct words *words, const struct step *step)
 {
     uint64_t n = number_in(first_field(&step->in, FIXGW_TAG_MSG_SEQ_NUM));
     uint64_t expected = step->before.words[FIXGW_WORD_EXPECTED];
-    bool is_reset = type_of(&step->in) == FIXGW_TYPE_SEQUENCE_RESET && !holds(step, FIXGW_TAG_GAP_FILL_FLAG, "Y");
     if (n == 0)
         say(words, "rule 1, 34 unreadable: Logout");
     else if (replies_with(step, 1, FIXGW_TYPE_LOGOUT)) {
         say(words, "rule 2, CompIDs: ");
         say_reject(words, step);
         say(words, ", then Logout");
-    } else if (is_reset)
+    } else if (is_bare_reset(step))
         explain_reset(words, step);
     else if (n > expected)
         explain_high(words, step);
@@ -205,6 +257,19 @@ static void say_changes(struct words *words, const struct step *step)
     }
 }
 
+/* A gap that was open and is not any more. */
+static void say_closed_gap(struct words *words, const struct step *step)
+{
+    if (!step->before.words[FIXGW_WORD_GAP_OPEN] || step->after.words[FIXGW_WORD_GAP_OPEN])
+        return;
+    if (replies_with(step, 0, FIXGW_TYPE_LOGON))
+        say(words, "; the Logon closes the gap");
+    else if (is_bare_reset(step) && step->replies == 0)
+        say(words, "; the reset closes the gap");
+    else
+        say(words, "; E is now above the highest seen, the gap is closed");
+}
+
 void explain(const struct step *step, char *at, size_t room)
 {
     struct words words = { at, room };
@@ -217,8 +282,10 @@ void explain(const struct step *step, char *at, size_t room)
         explain_waiting(&words, step);
     else
         explain_active(&words, step);
-    if (!step->refusal)
+    if (!step->refusal) {
         say_changes(&words, step);
+        say_closed_gap(&words, step);
+    }
     if (step->after.words[FIXGW_WORD_STATUS] == FIXGW_CLOSED && step->before.words[FIXGW_WORD_STATUS] != FIXGW_CLOSED)
         say(&words, "; Closed");
 }
