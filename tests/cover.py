@@ -127,6 +127,47 @@ def of_the_replay(before, after):
     return ", a replay is replaced" if before.at else ", a replay starts"
 
 
+def classes_of_gap(line, words, answer):
+    """What became of a gap in a step, and by what; nothing where none was open and none opens."""
+    before, after = model.record_of(words[3:3 + model.RECORD_WORDS]), left_by("step", answer)
+    if before.gap == after.gap == model.NO_GAP:
+        return
+    if not answer.startswith("ok"):
+        yield f"gap, step {' '.join(answer.split(' ')[:2])}: left as it is"
+        return
+    by = moved_by(line, words)
+    if after.gap == model.NO_GAP:
+        yield f"gap, {by}: closed"
+    elif by == "rule 4":
+        yield f"gap, {by}: {why_it_asks(before, after, int(words[0]))}"
+    elif by == "Waiting" and after.gap != before.gap:
+        yield f"gap, {by}: opened{', which was open' if before.gap.is_open else ''}"
+    else:
+        yield f"gap, {by}: left as it is"
+
+
+def moved_by(line, words):
+    """The rule that a step came to, in rule 6 for a Sequence Reset with its type."""
+    rule, frame = model.rule_of(line), model.bytes_of(words[2])
+    kind = ", type 4" if rule == 6 and model.first_field(frame[model.good_frame(frame)[0]:], 35) == b"4" else ""
+    return "Waiting" if rule == "Waiting" else f"rule {rule}{kind}"
+
+
+def why_it_asks(before, after, time):
+    """Of a too-high frame on an open gap, the first reason of the sentence, and at the edges of ten seconds these."""
+    gap, since = before.gap, time - before.gap.asked
+    if not gap.is_open:
+        return "opened"
+    if gap.expected != before.expected:
+        return "asked for again, E has moved"
+    if since < 0:
+        return "asked for again, the clock went back"
+    edge = {model.RE_ASK - 1: ", a microsecond before", model.RE_ASK: ", just then"}.get(since, "")
+    if since >= model.RE_ASK:
+        return "asked for again, ten seconds have passed" + edge
+    return f"not asked for, the highest {'rises' if after.gap.highest > gap.highest else 'stays'}" + edge
+
+
 def class_of_replay(words, answer):
     """A message by its type, and whether it is the first of several, the last of them, or in their midst."""
     if not answer.startswith("ok"):
@@ -163,7 +204,10 @@ def class_of_tick(words, answer):
 
 def classes_of(line, answer):
     word, words = model.words_of(line) if answer != "error" else ("error", [])
-    return classes_of_report(words, answer) if word == "report" else [class_of(line, word, words, answer)]
+    if word == "report":
+        return classes_of_report(words, answer)
+    gaps = classes_of_gap(line, words, answer) if word == "step" and 5 in model.LANDED else ()
+    return [class_of(line, word, words, answer), *gaps]
 
 
 def class_of(line, word, words, answer):
@@ -253,7 +297,21 @@ OF_REPLAYS = (
     *(f"replay {status}: nothing" for status in ("Waiting", "Active", "Closed")),
     *(f"replay: {what}{last}" for what in ("AE", "Sequence Reset") for last in ("", ", the last")),
 )
+OF_GAPS = (
+    "step rule 4: nothing", "step rule 4, type AE: nothing",
+    *(f"step rule 4: nothing, a replay {becomes}" for becomes in ("starts", "is replaced")),
+    "gap, rule 4: opened",
+    *(f"gap, rule 4: asked for again, {why}" for why in (
+        "E has moved", "the clock went back", "ten seconds have passed", "ten seconds have passed, just then")),
+    *(f"gap, rule 4: not asked for, the highest {becomes}{edge}" for becomes in ("rises", "stays")
+      for edge in ("", ", a microsecond before")),
+    *(f"gap, {by}: {becomes}" for becomes in ("closed", "left as it is")
+      for by in ("Waiting", "rule 1", "rule 2", "rule 3", "rule 5", "rule 6", "rule 6, type 4")),
+    "gap, Waiting: opened", "gap, Waiting: opened, which was open",
+    *(f"gap, step refusal {refusal}: left as it is" for refusal in (2, 3, 4, 5, 6, 7, 10, 11, 14)),
+)
 WANTED += OF_REPORTS if 1 in model.LANDED else ()
+WANTED += OF_GAPS if 5 in model.LANDED else ()
 WANTED += OF_REPLAYS if 4 in model.LANDED else OF_GAP_FILLS
 
 

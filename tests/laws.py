@@ -1,15 +1,17 @@
 """What must hold of a session's calls one behind the other, whatever they are: numbers out used once, replays that cover their
-range, the last 64 reports in the store, refusals that change nothing, numbers in that rise. It looks at requests and answers
-alone, by splitting them, and does not use the model."""
+range, the last 64 reports in the store, refusals that change nothing, numbers in that rise, one request for each gap. It looks
+at requests and answers alone, by splitting them, and does not use the model."""
 from collections import Counter, namedtuple
 
-from messages import PLACES, first, messages, number, replayed, stamp
+from messages import PLACES, first, messages, number, readable, replayed, stamp
 
-Record = namedtuple("Record", "ours peer status expected next_out heartbeat last at to")
+Record = namedtuple("Record", "ours peer status expected next_out heartbeat last at to open gap_for high asked")
 Call = namedtuple("Call", "word time frame before store")       # what was asked: the record and the store as they were lent
 Answer = namedtuple("Answer", "refusal delivered reply after store")
 WAITING, ACTIVE, CLOSED = 0, 1, 2
 NONE = (0, 0)
+NO_GAP = (0, 0, 0, 0)
+TEN_SECONDS = 10_000_000
 CLOSING = (3, 4, 5)                                             # the refusals that close
 
 
@@ -37,8 +39,8 @@ def answer_of(word, line):
         return Answer(int(words[1]), False, b"", record_of(words[2:]), None)
     must(words[0] == "ok", "the driver complains")
     store = words.pop() if word in ("step", "report") else None
-    after = record_of(words[-9:])
-    rest = words[1:-9]
+    after = record_of(words[-len(Record._fields):])
+    rest = words[1:-len(Record._fields)]
     return Answer(None, word == "step" and rest[0] == "1", bytes_of(rest[-1]) if rest else b"", after, store)
 
 
@@ -48,6 +50,28 @@ def asked_range(frame, last):
     if first(frame, 35) != b"2" or not (begin or b"").isdigit() or not (end or b"").isdigit():
         return None
     return int(begin), min(int(end), last) if int(end) else last
+
+
+def gap_of(record):
+    return record.open, record.gap_for, record.high, record.asked
+
+
+def is_bare_reset(frame):
+    return first(frame, 35) == b"4" and first(frame, 123) != b"Y"
+
+
+def too_high(call):
+    """The number of a frame that comes to rule 4: it is above E, the CompIDs are right, and it is no bare reset. Else None."""
+    n = readable(call.frame, 34)
+    if call.word != "step" or call.before.status != ACTIVE or n is None or n <= call.before.expected:
+        return None
+    sender, target = ((first(call.frame, tag) or b"").hex() for tag in (49, 56))
+    return n if (sender, target) == (call.before.peer, call.before.ours) and not is_bare_reset(call.frame) else None
+
+
+def requests_in(answer):
+    """7 and 16 of each Resend Request that goes out."""
+    return [(first(message, 7), first(message, 16)) for message in messages(answer.reply) if first(message, 35) == b"2"]
 
 
 class Laws:
@@ -65,6 +89,12 @@ class Laws:
         self.first_sent = {}                    # every report by its number, in their order
         self.kept = {}                          # the last 64 of them
         self.replay = None                      # [begin, end, the numbers that were covered so far] of one that is running
+        self.forget_gap()
+
+    def forget_gap(self):
+        """No Resend Request of ours counts any more: behind a new session, a logon, or a reset."""
+        self.asking = None                      # the number that the last one asked from, and when
+        self.highest = 0                        # of the too-high frames since the gap is open; 0 if none is
 
     def see(self, call, line):
         """Holds one answer to all laws."""
@@ -72,11 +102,13 @@ class Laws:
         if answer.refusal:
             return self.see_refusal(call, answer)
         if call.word == "new":
+            must(gap_of(answer.after) == NO_GAP, "a new session has no gap open")
             return self.begin_anew()
         self.is_reset = False
         self.numbers_out(call, answer)
         self.numbers_in(call, answer)
         self.replays(call, answer)
+        self.gaps(call, answer)
         return self.stores(call, answer)
 
     def see_refusal(self, call, answer):
@@ -87,6 +119,7 @@ class Laws:
             wanted = wanted._replace(status=CLOSED, at=0, to=0)
             self.drop()
         must(answer.after == wanted, f"refusal {answer.refusal} changes nothing but, where it closes, the status and the replay")
+        self.counts["gaps left by a refusal"] += answer.refusal in CLOSING and answer.after.open
         must(answer.refusal != 13 or (call.before.at, call.before.to) != NONE, "13 is for a report while replaying")
 
     def drop(self):
@@ -184,6 +217,50 @@ class Laws:
         must(message.split(b"\x01")[9:-2] == sent.split(b"\x01")[7:-2], "a report goes out again with its values")
         covered.append(n)
         self.counts["reports again"] += 1
+
+    def gaps(self, call, answer):
+        """02: The session record shall hold whether a gap is open, for which expected number, the highest number seen, and when
+        it was last asked for."""
+        before, after = gap_of(call.before), gap_of(answer.after)
+        must(call.word == "step" or after == before, "a gap is a step's to change")
+        if call.word == "step":
+            self.asks(call, answer)
+        if answer.after.expected > self.highest:
+            self.highest = 0                    # 02: E above the highest seen closes it
+        wanted = (1, self.asking[0], self.highest, self.asking[1]) if self.highest else NO_GAP
+        must(after == wanted, f"the record holds the gap that is open, {wanted}, and zeros where there is none")
+        must(after == NO_GAP or after[1] <= answer.after.expected <= after[2], "while open E lies from its number to the highest")
+        self.counts["gaps closed"] += before != NO_GAP and after == NO_GAP
+
+    def asks(self, call, answer):
+        """What one step asks for: once for each gap. 02: E above the highest seen closes it, as do logon and any reset; a logon
+        above E opens one"""
+        n, is_logon = too_high(call), call.before.status == WAITING and answer.after.status == ACTIVE
+        is_reset = call.before.status == ACTIVE and is_bare_reset(call.frame) and not answer.reply
+        if is_logon or is_reset:
+            self.counts["gaps closed by a logon or a reset"] += self.highest > 0
+            self.forget_gap()
+            n = number(call.frame) if is_logon and answer.after.expected < number(call.frame) else None
+        why = self.reason_to_ask(call) if n else None
+        wanted = [(b"%d" % call.before.expected, b"0")] if why else []
+        must(requests_in(answer) == wanted, f"a frame asks {'once: ' + why if why else 'for nothing'}")
+        if n:
+            self.counts[why or "not asked again"] += 1
+            self.counts["highest raised"] += not why and n > self.highest
+            self.highest = max(self.highest, n)
+            self.asking = (call.before.expected, call.time) if why else self.asking
+
+    def reason_to_ask(self, call):
+        """02: A too-high frame asks only if no gap is open, or E has moved since, or 10 seconds have passed on the step's clock;
+        a clock that went back counts as passed. None if it does not."""
+        if not self.highest:
+            return "no gap is open"
+        expected, time = self.asking
+        if expected != call.before.expected:
+            return "E has moved"
+        if call.time < time:
+            return "the clock went back"
+        return "ten seconds have passed" if call.time - time >= TEN_SECONDS else None
 
     def stores(self, call, answer):
         """02: Keep the last 64 reports .. in a store. An accepted logon with 141=Y zeroes the store"""

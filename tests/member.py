@@ -8,11 +8,13 @@ from messages import OURS, PEER, first, messages, number, stamp
 # What it sends while logged on, and how often.
 SENDS = {"heartbeat": 12, "test_request": 8, "resend_request": 15, "unservable": 3, "gap_fill": 4, "gap_fill_back": 1,
          "bare_reset": 3, "reject": 4, "request": 16, "cancel": 16, "report": 2, "unclean": 4, "duplicate": 3, "too_high": 3,
-         "too_low": 0.5, "logon_again": 1, "stranger": 0.5, "unnumbered": 0.4, "logout": 1.2, "end_of_numbers": 0.1}
+         "in_flight": 3, "too_low": 0.5, "logon_again": 1, "stranger": 0.5, "unnumbered": 0.4, "logout": 1.2,
+         "end_of_numbers": 0.1}
 LOGONS = {"in_turn": 61, "reset": 12, "high": 7, "low": 4, "reset_high": 4, "no_logon": 6, "bad_logon": 6}
 # What becomes of a frame on its way, and how often. A cut one comes in two pieces, the second of a torn one with the next; a
 # late one comes once more behind some others.
 FAULTS = {"lost": 0.01, "doubled": 0.003, "damaged": 0.017, "overtaken": 0.01, "torn": 0.05, "cut": 0.21}
+ANSWERS_LATE = 0.25     # how often it sends something else before what it owes
 KINDS = {"heartbeat": b"0", "test_request": b"1", "reject": b"3", "request": b"AD", "cancel": b"F", "report": b"AE",
          "logon_again": b"A", "logout": b"5"}
 
@@ -38,10 +40,12 @@ class Member:
 
     def sends(self):
         """The frames that it sends at a turn: what it owes, else something new."""
-        if self.owed:
+        if self.owed and not chance(self.r, ANSWERS_LATE):
             owed, self.owed = self.owed, []
             return owed
         what = self.r.choices(tuple(self.kinds), tuple(self.kinds.values()))[0]
+        if what == "in_flight":
+            return self.in_flight()
         return [framed(joined(getattr(self, what, lambda: self.made(KINDS[what]))()))]
 
     def logs_on(self):
@@ -108,6 +112,11 @@ class Member:
 
     def too_high(self):
         return self.made(self.r.choice((b"0", b"F", b"AE", b"4")), at=self.next + self.r.choice((1, 2, 500)))
+
+    def in_flight(self):
+        """Frames that are on their way, of which the first is lost: 02: After a line fault each frame in flight .."""
+        self.next += 1
+        return [framed(joined(self.made(self.r.choice((b"0", b"F", b"AD", b"1"))))) for _ in range(self.r.randint(2, 6))]
 
     def too_low(self):
         return self.made(b"0", at=max(1, self.next - 1))

@@ -4,7 +4,8 @@ import struct
 import subprocess
 
 ROOT = pathlib.Path(__file__).resolve().parent.parent
-IDS, WORDS, USED, VERSION = 24, 24, 8, 1
+IDS, WORDS, USED, VERSION = 24, 24, 12, 1
+GAP = 8                     # the first of the four words of a gap
 BUILD = """
 set -eu
 . host/kit.sh
@@ -26,5 +27,5 @@ def answers(requests):
 def record_bytes(record, behind=b"\1"):
     """A record of the model; of a CompID that is too long the true length, as far as it goes in a byte. `behind` fills a CompID's place."""
     ids = b"".join(bytes([min(len(one), 255)]) + one[:11].ljust(11, behind) for one in (record.ours, record.peer))
-    used = [VERSION, record.status, record.expected, record.next_out, record.heartbeat, record.last_sent, record.at, record.to]
+    used = [VERSION, record.status, record.expected, record.next_out, record.heartbeat, record.last_sent, record.at, record.to, *record.gap]
     return ids + struct.pack(f"<{WORDS}Q", *used, *[0] * (WORDS - USED))

@@ -40,6 +40,12 @@ def number(frame):
     return int(first(frame, 34))
 
 
+def readable(frame, tag):
+    """02: numbers have up to 12 digits; those read here are 1 to 999,999,999. None if it is not one."""
+    value = first(frame, tag) or b""
+    return int(value) if value.isdigit() and len(value) <= 12 and 1 <= int(value) <= 999_999_999 else None
+
+
 def message(pairs):
     return framed(b"".join(tag + b"=" + value + BAR for tag, value in pairs))
 

@@ -6,7 +6,7 @@ from collections import Counter
 from generate.basics import chance, framed, joined, noise
 from generate.records import LATE
 from generate.reports import VALUE_FAULTS, Report, good_party, stretch
-from laws import ACTIVE, CLOSED, WAITING, Broken, Call, answer_of, bytes_of
+from laws import ACTIVE, CLOSED, TEN_SECONDS, WAITING, Broken, Call, answer_of, bytes_of
 from member import FAULTS, LOGONS, SENDS, Line, Member
 from messages import LAST_USABLE
 
@@ -83,6 +83,8 @@ class Play:
         r = self.r
         self.time = max(0, self.time + r.choice((0, 1, 1, 400_000, 1_000_000, 7_000_000, 31_000_000 * chance(r, 0.2))))
         self.time -= r.choice((1, 20_000_000, 90_000_000)) * chance(r, 0.02)
+        if self.record.open and chance(r, 0.2):         # just before the last asking, at it, and around ten seconds behind it
+            self.time = max(0, self.record.asked + r.choice((-1, 0, TEN_SECONDS - 1, TEN_SECONDS)))
         if self.record.expected > LAST_USABLE and self.record.status == CLOSED and chance(r, 0.3):
             return self.begin()
         does = self.does["replaying" if self.record.at else self.record.status]
@@ -155,7 +157,8 @@ class Play:
         out = self.record.next_out
         return self.record._replace(**self.r.choice((
             {"heartbeat": 0}, {"next_out": 0}, {"expected": 10 ** 9}, {"status": 3}, {"ours": "-"}, {"at": out, "to": out},
-            {"at": 2, "to": 1})))
+            {"at": 2, "to": 1}, {"open": 2}, {"open": 0, "high": 1}, {"open": 0, "asked": 1, "high": 0, "gap_for": 0},
+            {"open": 1, "gap_for": 0}, {"open": 1, "high": 10 ** 9})))
 
     def in_turn(self):
         """What the member would send next."""

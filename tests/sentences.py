@@ -6,7 +6,7 @@ from the record that it met, its frame and its answer, by splitting them. It doe
 from collections import namedtuple
 
 from laws import ACTIVE, WAITING, must
-from messages import BAR, FRONT, first, framed, messages
+from messages import BAR, FRONT, first, framed, messages, readable
 
 Made = namedtuple("Made", "word frame before answer")       # a call; its frame is None unless it is a step
 
@@ -21,9 +21,7 @@ def is_frame(data):
 
 
 def number(made, tag):
-    """02: numbers have up to 12 digits; those read here are 1 to 999,999,999. None if it is not one."""
-    value = first(made.frame, tag) or b""
-    return int(value) if value.isdigit() and len(value) <= 12 and 1 <= int(value) <= 999_999_999 else None
+    return readable(made.frame, tag)
 
 
 def is_type(made, kind):

@@ -8,7 +8,8 @@ OTHER_TYPES = (b"", b"6", b"00", b"a", b"AF" if 1 in LANDED else b"AE", b"D", b"
                b"x" * 33, b"\x00")
 OURS, PEER = b"GW", b"MM"
 CALL_TIME = 1_704_187_800_000_000
-NONE_RUNNING = " 0 0" if 4 in LANDED else ""            # behind the first seven words of a record
+NONE_OPEN = " 0 0 0 0" if 5 in LANDED else ""           # at the end of a record: no gap is open
+AT_REST = (" 0 0" if 4 in LANDED else "") + NONE_OPEN   # behind its first seven words, no replay and no gap
 LENT = " 32768" if 4 in LANDED else ""                  # an empty store, behind a record
 
 

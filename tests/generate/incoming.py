@@ -71,6 +71,6 @@ def incoming(r, session, msg_type=None):
 def asked_step(r, session, frame, time=None, lent=None, store=None):
     time = call_time(r) if time is None else time
     lent = room(r) if lent is None else lent
-    session.replaying(r, 0.15 if session.place == (0, 0) else 0)
+    session.replaying(r, 0.15 if session.place == (0, 0) else 0).gapped(r, time, 0.4)
     store = any_store(r) if store is None else store
     return f"step {time} {lent} {hexed(frame)} {session.words()}{store}"

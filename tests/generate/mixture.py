@@ -3,12 +3,12 @@ import random
 
 from model import LANDED, LEAST_REPLY_ROOM
 
-from . import frames, odd, records, replays, reports, reports_in, steps, verdicts, writes
-from .basics import CALL_TIME, LENT, NONE_RUNNING, chance, framed, hexed
+from . import frames, gaps, odd, records, replays, reports, reports_in, steps, verdicts, writes
+from .basics import AT_REST, CALL_TIME, LENT, chance, framed, hexed
 
 # In this order: a seed's requests depend on it. Those of the requests of document 02 behind the others.
 PARTS = [frames, verdicts, records, steps, writes, odd] + ([reports, reports_in] if 1 in LANDED else []) \
-    + ([replays] if 4 in LANDED else [])
+    + ([replays] if 4 in LANDED else []) + ([gaps] if 5 in LANDED else [])
 WEIGHTS = {generator: weight for part in PARTS for generator, weight in part.WEIGHTS.items()}
 
 
@@ -22,8 +22,8 @@ def desk_requests():
     for line in ("8=FIXT.1.1|9=5|35=0|10=241|", "8=FIXT.1.1|9=5|35=0|10=242|", "8=FIXT.1.1|9=05|35=0|10=241|", "",
                  "8=FIXT.1.1|9=40|8=FIXT.1.1|9=5|35=0|10=241|"):
         yield "read " + hexed(whole(line))
-    call, behind = f"{CALL_TIME} {LEAST_REPLY_ROOM}", NONE_RUNNING + LENT
-    yield f"tick {call} 4757 4d4d 1 1 2 30 0{NONE_RUNNING}"
+    call, behind = f"{CALL_TIME} {LEAST_REPLY_ROOM}", AT_REST + LENT
+    yield f"tick {call} 4757 4d4d 1 1 2 30 0{AT_REST}"
     yield f"step {call} {hexed(framed(whole(report)))} 4757 4d4d 1 32768 1 30 0{behind}"
     for body in ("35=0|" + header.format(7), "35=4|" + header.format(9) + "36=5|", "35=4|" + header.format(9) + "36=4|",
                  "35=4|" + header.format(5) + "36=5|123=Y|"):

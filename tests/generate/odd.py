@@ -1,8 +1,9 @@
 """Lines that make no sense: listed ones, and requests with one character or one word changed."""
 from model import LANDED
 
-from .basics import LENT, NONE_RUNNING
+from .basics import AT_REST, LENT, NONE_OPEN
 from .frames import read_one
+from .gaps import step_too_high
 from .records import new_session, reconnect, tick
 from .replays import replay_some, report_stored
 from .reports import report_clean, report_parties
@@ -21,20 +22,20 @@ ODD_LINES = ("", " ", "read", "read ", " read -", "read  -", "read - -", "READ -
              "write 512 - 9999=c1", "write 512 30 9999=n1 9999=b-", "write 512 30 34=N1", "write 512 30 49=B41",
              "write 1048576 30", "write 1048577 30", "write 18446744073709551615 30", "write 512 30 0=n0",
              "write 512 30 18446744073709551616=n0", "write 512 30 34=n18446744073709551616",
-             "write 512 30 34=n99999999999999999999999999", *(f"tick {front} 47 4d {words}{NONE_RUNNING}" for front, words in (
+             "write 512 30 34=n99999999999999999999999999", *(f"tick {front} 47 4d {words}{AT_REST}" for front, words in (
                  ("0 600", "0 1 1 30"), ("0 600", "0 1 1 30 0 0"), ("0 1048577", "0 1 1 30 0"), ("0 1048576", "0 1 1 30 0"),
                  ("00 600", "0 1 1 30 0"), ("0 0600", "0 1 1 30 0"), ("- 600", "0 1 1 30 0"),
                  ("18446744073709551616 600", "0 1 1 30 0"))),
-             *(f"step {front} 47 4d {words}{NONE_RUNNING}{LENT}" for front, words in (
+             *(f"step {front} 47 4d {words}{AT_REST}{LENT}" for front, words in (
                  ("0 600 -", "0 1 1 30"), ("0 600 3", "0 1 1 30 0"), ("0 1048577 -", "0 1 1 30 0"))),
-             *(f"reconnect {words}{NONE_RUNNING}" for words in (
+             *(f"reconnect {words}{AT_REST}" for words in (
                  "47 4d 0 1 1 30", "47 4d 0 1 1 30 +1", "47 4d -0 1 1 30 1", "4 4d 0 1 1 30 1", "47 4D 0 1 1 30 1",
                  "47 4d 0 1 1 30 1 ", "47 4d 0 1 1 30 1a")))
 CHANGED = (step_any, tick, reconnect, write_clean, verdict_clean, read_one, new_session)
 if 1 in LANDED:
-    ON = f"47 4d 1 1 1 30 0{NONE_RUNNING}{LENT}"
+    ON = f"47 4d 1 1 1 30 0{AT_REST}{LENT}"
     ODD_LINES += ("landed", "landed ", "landed 1", "fixt landed", "Landed", "report",
-                  f"report 0 512 47 4d 1 1 1 30{NONE_RUNNING}{LENT}", f"report 0 512 {ON}", f"fixt report 0 0 {ON}",
+                  f"report 0 512 47 4d 1 1 1 30{AT_REST}{LENT}", f"report 0 512 {ON}", f"fixt report 0 0 {ON}",
                   f"report 0 1048577 {ON}", f"report 0 1048576 {ON}", f"report 00 512 {ON}", f"report 0 512 {ON} ",
                   "report-values", "report-values -", "report-values - -", "report-values 3", "report_values -",
                   *(f"report 0 512 {ON} {words}" for words in (
@@ -49,11 +50,11 @@ if 1 in LANDED:
                       "party =41,44,31", "18446744073709551616=b-", "0=b-", " 571=b41", "571=b41 ")))
     CHANGED += (report_clean, report_parties)
 if 4 in LANDED:
-    RUNNING = "47 4d 1 1 9 30 0 2 8"
+    RUNNING = f"47 4d 1 1 9 30 0 2 8{NONE_OPEN}"
     ODD_LINES += ("replay", f"replay 0 600 {RUNNING}", f"replay 0 600 {RUNNING} 32768", f"fixt replay 0 600 {RUNNING} 32768",
                   f"replay 0 600 {RUNNING} 32768 ", f"replay 0 600 {RUNNING} 32768 32768", f"replay 0 {RUNNING} 32768",
                   f"replay 0 600 {RUNNING} 8 32768", f"tick 0 600 {RUNNING} 32768", f"step 0 600 - {RUNNING}",
-                  f"reconnect {RUNNING}", f"reconnect {RUNNING} 32768", "reconnect 47 4d 1 1 9 30 0 2",
+                  f"reconnect {RUNNING}", f"reconnect {RUNNING} 32768", f"reconnect 47 4d 1 1 9 30 0 2{NONE_OPEN}",
                   *(f"replay 0 600 {RUNNING} {store}" for store in (
                       "-", "x", "0", "1", "32767", "32769", "1048576", "1048577", "032768", "32768,", "32768,0", "32768,0=",
                       "32768,=41", "32768,0=4", "32768,0=4G", "32768,0=4A", ",0=41", "32768,00=41", "32768,-1=41", "32768,63=41",
@@ -62,6 +63,13 @@ if 4 in LANDED:
                       "32768,0=41=42", "32768,18446744073709551616=41", "32768,0=41,1=4", f"32767,63={'41' * 511}",
                       f"32767,63={'41' * 512}", "0,0=-", "1,0=-", "1,0=41", "1,0=4142", "1048576,2047=41", "1048576,2048=41")))
     CHANGED += (replay_some, report_stored)
+if 5 in LANDED:
+    RESTING = "47 4d 1 5 9 30 0 0 0"
+    ODD_LINES += tuple(f"{request} {RESTING}{words}" for request in ("reconnect", "tick 0 600") for words in (
+        "", " 0", " 0 0 0", " 0 0 0 0 0", " 0 0 0 0 ", " 0 0 0 -", " - 0 0 0", " 0 00 0 0", " 1 5 7 -1",
+        " 1 5 7 18446744073709551616", " 1 5 7 18446744073709551615", " 18446744073709551615 5 7 0",
+        " 18446744073709551616 5 7 0", " 1 5 7 0 32768"))
+    CHANGED += (step_too_high,)
 
 
 def error_listed(r):

@@ -1,5 +1,5 @@
 """Records to ask about, in their ranges and out of them, and the requests `new`, `reconnect` and `tick` on them."""
-from model import ACTIVE, CLOSED, LANDED, LEAST_REPLY_ROOM, RECORD_WORDS, STORE, WAITING
+from model import ACTIVE, CLOSED, LANDED, LEAST_REPLY_ROOM, NO_GAP, RE_ASK, RECORD_WORDS, STORE, WAITING
 
 from .basics import BAR, CALL_TIME, END, LENT, MAX, OURS, PEER, chance, hexed, noise
 
@@ -33,6 +33,7 @@ class Session:
         self.heartbeat = r.choice((1, 2, 30, 59, 60))
         self.last = r.choice((0, 1, CALL_TIME, CALL_TIME - 30000000, END, MAX))
         self.at = self.to = 0
+        self.gap = NO_GAP
 
     def replaying(self, r, share=1.0):
         """By chance a replay is running, where one can."""
@@ -42,11 +43,24 @@ class Session:
             self.at = r.choice((1, self.to, r.randint(1, self.to), max(1, self.to - r.randrange(70))))
         return self
 
+    def gapped(self, r, time, share=1.0):
+        """By chance a gap is open, where none is: for E or another number, asked for around ten seconds before this time, or
+        behind it."""
+        if 5 in LANDED and tuple(self.gap) == NO_GAP and chance(r, share):
+            expected = min(max(1, self.expected), 999_999_999)
+            number = r.choice((expected, expected, expected, expected - 1 or 1, r.randint(1, expected), r.choice(NUMBERS)))
+            highest = expected + r.choice((-1, 0, 0, 1, 1, 2, 3, 1000, r.choice(NUMBERS)))
+            asked = r.choice((time, time - 1, time + 1, time + RE_ASK, 0, MAX, time - 5 * RE_ASK,
+                              *(time - RE_ASK + beside for beside in (-1, 0, 0, 1, 1))))
+            self.gap = 1, number, min(999_999_999, max(1, highest)), min(MAX, max(0, asked))
+        return self
+
     def spoil(self, r):
-        """One of the seven out of its range, or the place of a replay."""
+        """One of the seven out of its range, or the place of a replay, or the gap."""
         name, values = r.choice((("ours", BAD_COMP_IDS), ("peer", BAD_COMP_IDS), ("status", BAD_STATUSES),
                                  ("expected", BAD_NUMBERS), ("next_out", BAD_NUMBERS), ("heartbeat", BAD_HEARTBEATS),
-                                 *([("place", self.bad_places())] * 3 if 4 in LANDED else ())))
+                                 *([("place", self.bad_places())] * 3 if 4 in LANDED else ()),
+                                 *([("gap", self.bad_gaps())] * 3 if 5 in LANDED else ())))
         setattr(self, name, r.choice(values))
         return self
 
@@ -54,6 +68,15 @@ class Session:
         out = self.next_out
         return ((0, 1), (1, 0), (2, 1), (0, out - 1 or 1), (1, out), (out, out), (out - 1 or 1, out), (1, MAX), (MAX, MAX),
                 (MAX, 1), (1, 2 ** 32 + 1), (2 ** 32 + 1, 2 ** 32 + 1), (2 ** 63, 2 ** 63))
+
+    def bad_gaps(self):
+        """Of one that is not open a word that is not 0; of an open one a number out of its range; open, but not 1."""
+        good = min(max(1, self.expected), 999_999_999)
+        closed = ((0, *words) for value in (1, good, 2 ** 32, 2 ** 63, MAX)
+                  for words in ((value, 0, 0), (0, value, 0), (0, 0, value)))
+        opened = ((1, *words, CALL_TIME) for bad in BAD_NUMBERS for words in ((bad, good), (good, bad), (bad, bad)))
+        other = ((word, good, good, CALL_TIME) for word in (0, 2, 3, 255, 256, 257, 2 ** 32, 2 ** 32 + 1, 2 ** 63, MAX))
+        return (*closed, *opened, *other, (1, 0, 0, 0), (2, 0, 0, 0), (MAX, 0, 0, 0))
 
     @property
     def place(self):
@@ -64,9 +87,10 @@ class Session:
         self.at, self.to = value
 
     def words(self):
-        words = (f"{hexed(self.ours)} {hexed(self.peer)} {self.status} {self.expected} {self.next_out} {self.heartbeat}"
-                 f" {self.last}")
-        return f"{words} {self.at} {self.to}" if 4 in LANDED else words
+        words = [hexed(self.ours), hexed(self.peer), self.status, self.expected, self.next_out, self.heartbeat, self.last]
+        words += self.place if 4 in LANDED else ()
+        words += self.gap if 5 in LANDED else ()
+        return " ".join(map(str, words))
 
 
 def any_session(r, spoilt=0.03):
@@ -111,12 +135,12 @@ def new_session(r):
 
 def reconnect(r):
     session = any_session(r, spoilt=0.5)
-    yield "reconnect " + session.replaying(r, 0.2 if session.place == (0, 0) else 0).words()
+    yield "reconnect " + session.replaying(r, 0.2 if session.place == (0, 0) else 0).gapped(r, CALL_TIME, 0.3).words()
 
 
 def tick(r):
     session, time = any_session(r), call_time(r)
-    session.replaying(r, 0.2 if session.place == (0, 0) else 0)
+    session.replaying(r, 0.2 if session.place == (0, 0) else 0).gapped(r, time, 0.3)
     due = session.heartbeat * 1000000
     last = r.choice((0, time - due - 1, time - due, time - due + 1, time - 1, time, time + 1, END, MAX))
     session.last = min(max(0, last), MAX)
@@ -125,7 +149,7 @@ def tick(r):
 
 def tick_status(r):
     """Every status with used up numbers, a short room and a late time by turns."""
-    session = Session(r, r.choice((WAITING, ACTIVE, CLOSED))).replaying(r, 0.2)
+    session = Session(r, r.choice((WAITING, ACTIVE, CLOSED))).replaying(r, 0.2).gapped(r, CALL_TIME, 0.3)
     if chance(r, 0.5):
         session.expected = r.choice(USED_UP + (999999990,))
     else:

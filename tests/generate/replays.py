@@ -2,7 +2,7 @@
 import model
 from model import ACTIVE, CLOSED, LEAST_REPLY_ROOM, WAITING
 
-from .basics import CALL_TIME, END, LENT, MAX, NONE_RUNNING, OURS, PEER, chance, framed, hexed, joined
+from .basics import AT_REST, CALL_TIME, END, LENT, MAX, OURS, PEER, chance, framed, hexed, joined
 from .bodies import any_type, message
 from .incoming import asked_step, incoming, near, text
 from .records import BAD_STORES, ROOMS, SHORT_ROOMS, USED_UP, Session, any_session, any_store, call_time, left_by, room
@@ -15,7 +15,12 @@ def replaying(r):
     session = Session(r, ACTIVE)
     if chance(r, 0.8):
         session.next_out = r.choice((2, 3, 10, 42, 80, r.randint(2, 90)))
-    return session.replaying(r)
+    return session.replaying(r).gapped(r, CALL_TIME, 0.2)
+
+
+def is_replaying(words):
+    """Whether a replay is running by the words of a record."""
+    return model.record_of(words.split(" ")).at != 0
 
 
 def asked_replay(session, time, lent, store):
@@ -34,7 +39,7 @@ def replay_empty(r):
 
 def replay_idle(r):
     """Nothing is running, in any status."""
-    session = any_session(r)
+    session = any_session(r).gapped(r, CALL_TIME, 0.2)
     yield asked_replay(session, call_time(r), room(r), any_store(r))
 
 
@@ -60,7 +65,7 @@ def replay_whole(r):
         yield request
         words, _ = left_by(request, model.answer(request), store)
         time += r.choice((0, 1, 1000))
-        if words.split(" ")[-1] == "0":
+        if not is_replaying(words):
             return
 
 
@@ -151,11 +156,10 @@ def next_request(r, time, words, store):
     session = Session(r, ACTIVE)
     session.ours, session.peer = OURS, PEER
     status, session.expected, session.next_out = map(int, words.split(" ")[2:5])
-    is_running = words.split(" ")[-1] != "0"
     if status == CLOSED and chance(r, 0.8):
         return f"reconnect {words}"
     choice = r.random()
-    if is_running and choice < 0.5 or choice < 0.05:
+    if is_replaying(words) and choice < 0.5 or choice < 0.05:
         return f"replay {time} {LEAST_REPLY_ROOM} {words}{store}"
     if choice < 0.7 and status == ACTIVE:
         return f"report {time} 512 {words}{store} {Report(r, r.choice((0, 1))).words(r)}"
@@ -175,7 +179,7 @@ def store_along(r):
     session = Session(r, ACTIVE)
     session.ours, session.peer, session.next_out = OURS, PEER, r.choice((1, 30, 200))
     store = LENT if chance(r, 0.5) else any_reports(r, session)
-    words, time = f"4757 4d4d 1 1 {session.next_out} 30 0{NONE_RUNNING}", CALL_TIME
+    words, time = f"4757 4d4d 1 1 {session.next_out} 30 0{AT_REST}", CALL_TIME
     for _ in range(r.randint(5, 30)):
         time += r.choice((0, 1, 999999, 1000000, 30000000))
         request = next_request(r, time, words, store)
@@ -185,7 +189,7 @@ def store_along(r):
 
 def store_last_64(r):
     """More reports than there are places, one behind the other, then a replay of all of them."""
-    words, store, time = f"4757 4d4d 1 1 1 30 0{NONE_RUNNING}", LENT, CALL_TIME
+    words, store, time = f"4757 4d4d 1 1 1 30 0{AT_REST}", LENT, CALL_TIME
     report = Report(r, 0)
     for _ in range(r.randint(60, 70)):
         time += 1
@@ -199,7 +203,7 @@ def store_last_64(r):
     while request:
         yield request
         words, store = left_by(request, model.answer(request), store)
-        request = f"replay {time} {LEAST_REPLY_ROOM} {words}{store}" if words.split(" ")[-1] != "0" else None
+        request = f"replay {time} {LEAST_REPLY_ROOM} {words}{store}" if is_replaying(words) else None
 
 
 # How often each comes, beside the others of mixture.py.

@@ -2,7 +2,7 @@
 import model
 from model import ACTIVE, CLOSED, LEAST_REPLY_ROOM, WAITING
 
-from .basics import BAR, CALL_TIME, END, LENT, MAX, NONE_RUNNING, OURS, PEER, chance, filler, framed, hexed, joined
+from .basics import AT_REST, BAR, CALL_TIME, END, LENT, MAX, OURS, PEER, chance, filler, framed, hexed, joined
 from .incoming import incoming
 from .records import USED_UP, Session, any_session, any_store, call_time, left_by
 from .values import edge_value, good_decimal, good_value
@@ -43,6 +43,7 @@ def good_party(r):
 
 def asked(r, session, report, time, lent, store=None):
     store = any_store(r) if store is None else store
+    session.gapped(r, time, 0.2)
     return " ".join(filter(None, ["report", str(time), str(lent), session.words() + store, report.words(r)]))
 
 
@@ -188,7 +189,7 @@ def report_several_refusals(r):
 
 def report_along(r):
     """A session as it goes, with reports among its steps and ticks: each takes the record that the one before gave."""
-    words, store, time = "4757 4d4d 1 1 1 30 0" + NONE_RUNNING, LENT, r.choice((0, CALL_TIME))
+    words, store, time = "4757 4d4d 1 1 1 30 0" + AT_REST, LENT, r.choice((0, CALL_TIME))
     for _ in range(r.randint(3, 12)):
         time += r.choice((0, 1, 999999, 1000000, 30000000))
         session, report = Session(r, ACTIVE), Report(r)

@@ -2,8 +2,7 @@
 import model
 from model import ACTIVE, CLOSED, LEAST_REPLY_ROOM, MARK, WAITING
 
-from .basics import (BAR, CALL_TIME, END, LENT, MAX, NONE_RUNNING, OURS, PEER, TYPES, byte_mutated, chance, framed, hexed,
-                     joined)
+from .basics import (AT_REST, BAR, CALL_TIME, END, LENT, MAX, OURS, PEER, TYPES, byte_mutated, chance, framed, hexed, joined)
 from .bodies import any_type, message, part, tag_of
 from .faults import double, drop, faulty, put_in, replace_by_edge
 from .frames import long_frame, soup
@@ -160,7 +159,7 @@ def step_longest_reply(r):
 
 def step_along(r):
     """A session as it goes: each step, tick or reconnect takes the record that the one before gave."""
-    words, store = "4757 4d4d 0 1 1 30 0" + NONE_RUNNING, LENT
+    words, store = "4757 4d4d 0 1 1 30 0" + AT_REST, LENT
     time, room = r.choice((0, CALL_TIME)), LEAST_REPLY_ROOM
     for _ in range(r.randint(3, 15)):
         time += r.choice((0, 1, 999999, 1000000, 29999999, 30000000, 60000000))

@@ -10,7 +10,7 @@ is document 01's wording; `|` is the byte 1. There is a file for each section of
   kinds        form and value of one field; times: the shape and the calendar of times, a reply's time; decimals
   walk         the verdict, ten steps at a field
   writer       the writer call
-  record       the record and its ranges, new session, reconnect
+  record       the record and its ranges, new session, reconnect; gap: the gap in it
   moves        what a call on a session writes and reads; waiting, rules, serving: the moves themselves
   report       a Trade Capture Report: its values, what is written of them, reading them back
   store        the store: which report a place holds, where a new one goes; replay: what goes out of it again
@@ -20,8 +20,8 @@ is document 01's wording; `|` is the byte 1. There is a file for each section of
 
 A request of document 02 stands in the files of its sections and, where it brings something new, in one of its own; its
 wording follows `02:`. Q-1 decimals, dictionary, walk, rules, and the report; Q-3 frame, kinds; Q-4 record, serving, and
-the store with its replay; Q-5 record, rules; Q-6 times, rules; Q-7 and Q-8 the explanation; Q-9 the settings, record; Q-11 frame,
-dictionary; Q-12 rules. Its request words go into answers. Users import names from here alone.
+the store with its replay; Q-5 record, rules, waiting, and the gap; Q-6 times, rules; Q-7 and Q-8 the explanation; Q-9 the
+settings, record; Q-11 frame, dictionary; Q-12 rules. Its request words go into answers. Users import names from here alone.
 """
 from .answers import answer, rule_of, words_of
 from .calls import replay, report, step, tick
@@ -30,6 +30,7 @@ from .dictionary import (ADMINISTRATIVE, DATES, DECIMALS, ENTRIES, FRAME_TAGS, F
                          GROUP_RANGES, GROUPS, HEADER, IN_DICTIONARY, MESSAGES, STRING_LENGTHS, TIMES, YES_OR_NO)
 from .fields import cut, first_field, is_body, parts
 from .frame import BAR, LONGEST_FRAME, MARK, TRAILER, good_frame, live, read, read_in_pieces
+from .gap import NO_GAP, RE_ASK, Gap
 from .kinds import number_range, of_its_kind
 from .landed import LANDED
 from .moves import Writing

@@ -41,8 +41,10 @@ def step(record, frame, time, room, store=EMPTY_STORE):
         refusal = waiting(move)
         if refusal:
             return refused(refusal, record, status=CLOSED)
+        move.close_passed_gap()
         return Outcome(None, False, move.reply, move.record, "Waiting", EMPTY_STORE if move.zeroes_store else store)
     number = next(number for number, rule in enumerate(RULES, 1) if rule(move))
+    move.close_passed_gap()
     return Outcome(None, move.delivered, move.reply, move.record, number, store)
 
 

@@ -3,7 +3,9 @@ from dataclasses import replace
 
 from .dictionary import MESSAGES
 from .fields import first_field
+from .gap import NO_GAP, asked_for, closed_by
 from .kinds import of_its_kind
+from .landed import LANDED
 from .record import CLOSED, no_replay
 from .times import in_utc
 from .walk import verdict
@@ -35,9 +37,6 @@ class Writing:
         self.send(b"5", {1409: session_status})
         self.record = no_replay(replace(self.record, status=CLOSED))
 
-    def ask_from_expected(self):
-        self.send(b"2", {7: self.record.expected, 16: 0})
-
 
 class Move(Writing):
     """One step under way, with what the incoming frame says."""
@@ -63,6 +62,19 @@ class Move(Writing):
         if self.first(49) != self.record.peer:
             return 49
         return 56 if self.first(56) != self.record.ours else None
+
+    def ask_from_expected(self):
+        """01: Resend Request 7=E, 16=0. 02: when it was last asked for"""
+        self.send(b"2", {7: self.record.expected, 16: 0})
+        if 5 in LANDED:
+            self.record.gap = asked_for(self.record.gap, self.record.expected, self.n, self.time)
+
+    def close_gap(self):
+        self.record.gap = NO_GAP
+
+    def close_passed_gap(self):
+        """Behind every step that is not refused, by E as the move leaves it."""
+        self.record.gap = closed_by(self.record.gap, self.record.expected)
 
     def reject(self, reason, tag, naming_type=True):
         """01: Reject writes 45 (N), 371 unless 0, 372 only if the type is one of the nine, 373. 02: AE as a tenth

@@ -1,9 +1,10 @@
-"""The session's record of document 01 with the place of a replay of document 02: its ranges, a new session, a reconnect,
-and what a call on a record answers."""
+"""The session's record of document 01 with the place of a replay and the gap of document 02: its ranges, a new session, a
+reconnect, and what a call on a record answers."""
 from collections import namedtuple
 from dataclasses import dataclass, replace
 
 from .frame import BAR
+from .gap import NO_GAP, Gap
 from .landed import LANDED
 
 WAITING, ACTIVE, CLOSED = 0, 1, 2
@@ -25,6 +26,7 @@ class Record:
     last_sent: int = 0
     at: int = 0                             # of a replay the next number, and the last one asked for; 0 and 0 for none
     to: int = 0
+    gap: Gap = NO_GAP
 
 
 # What a call answers: a refusal's number or None, whether the message is delivered, the reply's bytes, the record
@@ -42,13 +44,22 @@ def in_range(record):
     return (good_comp_id(record.ours) and good_comp_id(record.peer)
             and record.status in (WAITING, ACTIVE, CLOSED)
             and 1 <= record.expected <= GREATEST_NUMBER and 1 <= record.next_out <= GREATEST_NUMBER
-            and 1 <= record.heartbeat <= 60 and (is_running(record) or (record.at, record.to) == (0, 0)))
+            and 1 <= record.heartbeat <= 60 and (is_running(record) or (record.at, record.to) == (0, 0))
+            and gap_in_range(record.gap))
 
 
 def is_running(record):
     """02: the place, within 1 to L, is held in the record under refusal 11. Closing or a reconnect drops an unfinished
     replay, so that one is running while Active alone."""
     return record.status == ACTIVE and 1 <= record.at <= record.to <= record.next_out - 1
+
+
+def gap_in_range(gap):
+    """02: Under refusal 11 an open gap's two numbers are 1 to 999,999,999; with none open all three are 0. The word for
+    open is 0 or 1."""
+    if gap.is_open:
+        return gap.is_open == 1 and 1 <= gap.expected <= GREATEST_NUMBER and 1 <= gap.highest <= GREATEST_NUMBER
+    return gap == NO_GAP
 
 
 def no_replay(record):
@@ -68,7 +79,8 @@ def new_session(ours, peer):
 
 
 def reconnect(record):
-    """01: A reconnect sets Waiting and keeps the numbers. 02: Closing or a reconnect drops an unfinished replay"""
+    """01: A reconnect sets Waiting and keeps the numbers. 02: Closing or a reconnect drops an unfinished replay; an open gap
+    stays."""
     if not in_range(record):
         return 11, record
     return None, no_replay(replace(record, status=WAITING))

@@ -1,4 +1,5 @@
 """The moves of document 01 while Active, "first rule that fits", and rule 6 by type. Each rule answers whether it fits."""
+from .gap import asks, seen
 from .landed import LANDED
 from .serving import serve, unservable
 
@@ -26,7 +27,7 @@ def rule_2(move):
 
 def rule_3(move):
     """3. Type 4 without 123=Y: a verdict gives Reject; 36 below E gives Reject 5, tag 36; E stays. Otherwise E becomes
-    36."""
+    36. 02: E above the highest seen closes it, as do logon and any reset"""
     if move.msg_type != b"4" or move.first(123) == b"Y":
         return False
     finding = move.verdict()
@@ -36,17 +37,21 @@ def rule_3(move):
         move.reject(5, 36)
     else:
         move.record.expected = int(move.first(36))
+        move.close_gap()
     return True
 
 
 def rule_4(move):
     """4. N > E: Resend Request 7=E, 16=0; E stays. An incoming Resend Request, if clean and not rejected below, is
-    served first."""
+    served first. 02: A too-high frame asks only if no gap is open, or E has moved since, or 10 seconds have passed"""
     if not move.n > move.record.expected:
         return False
     if move.msg_type == b"2" and not move.verdict() and not unservable(move):
         serve(move)
-    move.ask_from_expected()
+    if 5 in LANDED and not asks(move.record.gap, move.record.expected, move.time):
+        move.record.gap = seen(move.record.gap, move.n)
+    else:
+        move.ask_from_expected()
     return True
 
 

@@ -17,12 +17,13 @@ def waiting(move):
 
 def accept_logon(move, reset):
     """01: An accepted logon sets Active and the heartbeat; our Logon repeats its 98, 108 and 1137. 02: what we write has
-    none (zeros in front of numbers)"""
+    none (zeros in front of numbers). E above the highest seen closes it, as do logon and any reset"""
     values = {98: move.first(98), 108: b"%d" % int(move.first(108)), 1137: move.first(1137)}
     if reset:
         values[141] = b"Y"
     move.send(b"A", values)
     move.record.status = ACTIVE
+    move.close_gap()
     move.record.heartbeat = int(move.first(108))
 
 
@@ -38,7 +39,7 @@ def logon_with_reset(move):
 
 
 def logon_without_reset(move):
-    """01: N < E, Logout; N = E, Logon, E + 1; N > E, Logon, then Resend Request from E."""
+    """01: N < E, Logout; N = E, Logon, E + 1; N > E, Logon, then Resend Request from E. 02: a logon above E opens one"""
     if move.n < move.record.expected:
         return move.log_out()
     accept_logon(move, reset=False)

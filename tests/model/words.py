@@ -9,9 +9,9 @@ The grammar of a request, where the driver's page leaves room:
   NUMBER   is `0`, or a digit 1 to 9 and further digits; no sign, no leading zero; at most 18446744073709551615.
   BYTES    is `-` for none, or one or more pairs of the digits 0-9 a-f.
   BUFLEN   is a NUMBER up to 1048576, so that the driver can always lend as much.
-  RECORD   is BYTES BYTES and five NUMBERs, with Q-4 seven, each as large as a NUMBER can be, the status too. The
-           answer's record repeats the request's words where the call left them alone: an overlong CompID stands in the
-           answer whole, and so does a status above 2.
+  RECORD   is BYTES BYTES and five NUMBERs, with Q-4 seven, with Q-5 eleven, each as large as a NUMBER can be, the status
+           and the word for an open gap too. The answer's record repeats the request's words where the call left them
+           alone: an overlong CompID stands in the answer whole, and so does a status above 2.
   STORE    (Q-4) is one word: its length, a NUMBER up to 1048576, then `,PLACE=BYTES` for any number of places of 512
            bytes, counted from 0, in any order, each at most once; the bytes of a place lie in it and in the length, and
            all others are zero. An answer has the places that are not all zero, rising, without the zeros at their ends.
@@ -33,6 +33,7 @@ import re
 
 from .decimals import Decimal
 from .dictionary import DECIMALS, FROM_ONE, FROM_ZERO
+from .gap import Gap
 from .landed import LANDED
 from .record import Record
 from .report import PARTY_TAGS, VALUE_TAGS, Values
@@ -41,7 +42,9 @@ from .writer import WRITER_TAGS
 
 GREATEST_WORD = 2 ** 64 - 1
 GREATEST_ROOM = 1_048_576
-RECORD_WORDS = 9 if 4 in LANDED else 7
+BASE_WORDS = 7                              # of a record; behind them the replay's two, and the gap's four
+GAP_AT = BASE_WORDS + (2 if 4 in LANDED else 0)
+RECORD_WORDS = GAP_AT + (4 if 5 in LANDED else 0)
 NUMBER = re.compile(r"0|[1-9][0-9]{0,19}")
 WRITER_NUMBERS = {tag for tag in WRITER_TAGS if tag in FROM_ONE or tag in FROM_ZERO}
 
@@ -69,7 +72,9 @@ def bytes_of(word):
 
 
 def record_of(words):
-    return Record(bytes_of(words[0]), bytes_of(words[1]), *(number_of(word) for word in words[2:]))
+    numbers = [number_of(word) for word in words[2:GAP_AT]]
+    gap = [Gap(*map(number_of, words[GAP_AT:]))] if 5 in LANDED else []
+    return Record(bytes_of(words[0]), bytes_of(words[1]), *numbers, *gap)
 
 
 def pair_of(word):
@@ -94,9 +99,11 @@ def in_hex(value):
 
 
 def in_words(record):
-    words = (f"{in_hex(record.ours)} {in_hex(record.peer)} {record.status} {record.expected} {record.next_out}"
-             f" {record.heartbeat} {record.last_sent}")
-    return f"{words} {record.at} {record.to}" if 4 in LANDED else words
+    words = [in_hex(record.ours), in_hex(record.peer), record.status, record.expected, record.next_out, record.heartbeat,
+             record.last_sent]
+    words += [record.at, record.to] if 4 in LANDED else []
+    words += record.gap if 5 in LANDED else []
+    return " ".join(map(str, words))
 
 
 # ---- The store ------------------------------------------------------------------------------------------------------

@@ -1,13 +1,15 @@
 """What the worked cases are made with: one assertion, messages as text, a record, and a step's outcome in short."""
 import model
-from model import ACTIVE, Record
+from model import ACTIVE, NO_GAP, Gap, Record
 
 HELD = 0
 AT = 1_704_187_800_000_000                              # 20240102-09:30:00.000000
 NOW = "20240102-09:30:00.000000"
 ROOM = model.LEAST_REPLY_ROOM
-NONE_RUNNING = " 0 0" if 4 in model.LANDED else ""      # behind the first seven words of a record, and an empty store
-LENT = " 32768" if 4 in model.LANDED else ""            # behind a whole one
+NO_REPLAY = " 0 0" if 4 in model.LANDED else ""         # behind the first seven words of a record
+NONE_OPEN = " 0 0 0 0" if 5 in model.LANDED else ""     # no gap, behind these
+AT_REST = NO_REPLAY + NONE_OPEN
+LENT = " 32768" if 4 in model.LANDED else ""            # an empty store, behind a whole record
 
 
 def same(got, wanted):
@@ -66,8 +68,13 @@ F_FIELDS, AD_FIELDS = FIELDS["F"], FIELDS["AD"]
 
 # ---- Session --------------------------------------------------------------------------------------------------------
 
-def record(status=ACTIVE, expected=5, next_out=3, heartbeat=30, last=7, at=0, to=0):
-    return Record(b"GW", b"MM", status, expected, next_out, heartbeat, last, at, to)
+def record(status=ACTIVE, expected=5, next_out=3, heartbeat=30, last=7, at=0, to=0, gap=NO_GAP):
+    return Record(b"GW", b"MM", status, expected, next_out, heartbeat, last, at, to, gap)
+
+
+def gap(highest, expected=5, asked=AT):
+    """The gap that is open behind a too-high frame; none before Q-5."""
+    return Gap(1, expected, highest, asked) if 5 in model.LANDED else NO_GAP
 
 
 def stepped(incoming, before=None, time=AT, room=ROOM):

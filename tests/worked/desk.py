@@ -1,7 +1,7 @@
 """The desk examples W1 to W12, and those that document 01 has run by a program."""
 import model
 
-from .basics import AT, F_FIELDS, HEADER, NOW, PARTY, ROOM, after, body, finding, framed, is_good, raw, record, same, stepped
+from .basics import AT, F_FIELDS, HEADER, NOW, PARTY, ROOM, after, body, finding, framed, gap, is_good, raw, record, same, stepped
 
 
 def test_desk_examples_of_frames():
@@ -23,7 +23,7 @@ def test_desk_examples_of_the_session():
     same(model.write(72, b"0", values), (9, None))
     same(stepped(body("AD", n=32768), record(expected=32768)),
          (None, True, [], after(expected=32769)))                                                               # W7
-    same(stepped(body("0", n=7)), (None, False, ["35=2|34=3|7=5|16=0|"], after(wrote=1)))                       # W8
+    same(stepped(body("0", n=7)), (None, False, ["35=2|34=3|7=5|16=0|"], after(wrote=1, gap=gap(7))))           # W8
     same(stepped(body("4", "36=5|", n=9)), (None, False, [], after(expected=5)))                                # W9
     same(stepped(body("4", "36=4|", n=9)),
          (None, False, ["35=3|34=3|45=9|371=36|372=4|373=5|"], after(wrote=1)))

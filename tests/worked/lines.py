@@ -1,7 +1,7 @@
 """Request lines and their answers, and lines that cannot be read."""
 import model
 
-from .basics import LENT, NONE_RUNNING, NOW, ROOM, same
+from .basics import AT_REST, LENT, NOW, ROOM, same
 
 
 def test_answers():
@@ -16,8 +16,8 @@ def test_answers():
             "fields -": "refusal 10",
             "verdict 33353d0101": "finding 11 35",
             "verdict 33353d01": "refusal 10",
-            "new 4757 4d4d": "ok 4757 4d4d 0 1 1 30 0" + NONE_RUNNING,
-            "new - 4d4d": "refusal 11 - - 2 1 1 30 0" + NONE_RUNNING,
+            "new 4757 4d4d": "ok 4757 4d4d 0 1 1 30 0" + AT_REST,
+            "new - 4d4d": "refusal 11 - - 2 1 1 30 0" + AT_REST,
             "write 0 30": "refusal 8",
             "write 0 - 9999=n1 9999=b-": "refusal 8",
             "write 0 30 49=b47 56=b4d 34=n1 52=b" + NOW.encode().hex(): "refusal 9",
@@ -32,9 +32,9 @@ def test_answers_on_a_record():
             ("reconnect", "4757 4d4d 18446744073709551615 5 6 7 8", "refusal 11", None),
             (f"tick 0 {ROOM}", "4757 4d4d 0 5 6 7 8", "ok -", None),
             (f"tick 0 {ROOM - 1}", "4757 4d4d 0 5 6 7 8", "refusal 6", None)):
-        same(model.answer(f"{request} {record}{NONE_RUNNING}"), f"{wanted} {left or record}{NONE_RUNNING}")
-    same(model.answer(f"step 0 {ROOM - 1} - 4757 4d4d 0 5 6 7 8{NONE_RUNNING}{LENT}"),
-         f"refusal 10 4757 4d4d 0 5 6 7 8{NONE_RUNNING}")
+        same(model.answer(f"{request} {record}{AT_REST}"), f"{wanted} {left or record}{AT_REST}")
+    same(model.answer(f"step 0 {ROOM - 1} - 4757 4d4d 0 5 6 7 8{AT_REST}{LENT}"),
+         f"refusal 10 4757 4d4d 0 5 6 7 8{AT_REST}")
 
 
 def test_unreadable_lines():
@@ -42,9 +42,9 @@ def test_unreadable_lines():
             "", " ", "read", "read ", " read -", "read  -", "read - -", "Read -", "read 3", "read 0A", "read 0g",
             "read --", "read -\r", "read 30 ", "read \u0661", "read -\0", "fixt", "fixt fixt read -", "fix42 read -",
             "verdict", "fields", "new 41", "new 41 42 43", "stream -  -", "stream - 3",
-            "tick 0 1048577 47 4d 0 5 6 7 8" + NONE_RUNNING,
-            "reconnect 4757 4d4d 0 5 6 7" + NONE_RUNNING, "reconnect 4757 4d4d 0 5 6 7 8 9" + NONE_RUNNING,
-            *(f"reconnect 4757 4d4d {words}{NONE_RUNNING}" for words in (
+            "tick 0 1048577 47 4d 0 5 6 7 8" + AT_REST,
+            "reconnect 4757 4d4d 0 5 6 7" + AT_REST, "reconnect 4757 4d4d 0 5 6 7 8 9" + AT_REST,
+            *(f"reconnect 4757 4d4d {words}{AT_REST}" for words in (
                 "00 5 6 7 8", "0 05 6 7 8", "0 5 6 7 18446744073709551616", "0 5 6 7 -1", "0 5 6 7 -")),
             "write 512", "write 512 A", "write x 30", "write 512 30 34=n1 34=n1", "write 512 30 34=b31",
             "write 512 30 49=n1", "write 512 30 34", "write 512 30 34=", "write 512 30 34=x1", "write 512 30 34=n",

@@ -1,8 +1,8 @@
 """Replays (Q-4): what starts, replaces and drops one, each message of one, the record's place, the refusals of the call."""
 import model
-from model import ACTIVE, CLOSED, STORE, WAITING, Values
+from model import ACTIVE, CLOSED, NO_GAP, STORE, WAITING, Values
 
-from .basics import AT, ROOM, after, bodies, body, framed, raw, record, same, stepped
+from .basics import AT, ROOM, after, bodies, body, framed, gap, raw, record, same, stepped
 from .reporting import FULL, PARTIES, values
 from .stores import reported, stored
 
@@ -74,11 +74,11 @@ def test_two_to_forty():
 def test_starting_in_rule_4():
     """The replay starts and our Resend Request goes out; L is from before the step."""
     same(stepped(body("2", "7=1|16=0|", n=9), record(next_out=4)),
-         (None, False, ["35=2|34=4|7=5|16=0|"], after(next_out=4, wrote=1, at=1, to=3)))
+         (None, False, ["35=2|34=4|7=5|16=0|"], after(next_out=4, wrote=1, at=1, to=3, gap=gap(9))))
     same(stepped(body("2", "7=4|16=0|", n=9), record(next_out=4)),
-         (None, False, ["35=2|34=4|7=5|16=0|"], after(next_out=4, wrote=1)))
+         (None, False, ["35=2|34=4|7=5|16=0|"], after(next_out=4, wrote=1, gap=gap(9))))
     same(stepped(body("2", "7=3|16=4|", n=9), record(next_out=4)),
-         (None, False, ["35=2|34=4|7=5|16=0|"], after(next_out=4, wrote=1, at=3, to=3)))
+         (None, False, ["35=2|34=4|7=5|16=0|"], after(next_out=4, wrote=1, at=3, to=3, gap=gap(9))))
 
 
 def test_starting_writes_nothing():
@@ -90,8 +90,9 @@ def test_starting_writes_nothing():
 def test_replacing():
     running = record(next_out=10, at=4, to=8)
     for fields, at, to in ("7=1|16=0|", 1, 9), ("7=9|16=9|", 9, 9), ("7=4|16=8|", 4, 8), ("7=2|16=50|", 2, 9):
-        for n, expected, wrote in (5, 6, 0), (7, 5, 1):
-            same(stepped(body("2", fields, n=n), running)[3], after(expected=expected, next_out=10, wrote=wrote, at=at, to=to))
+        for n, expected, wrote, left in (5, 6, 0, NO_GAP), (7, 5, 1, gap(7)):
+            same(stepped(body("2", fields, n=n), running)[3],
+                 after(expected=expected, next_out=10, wrote=wrote, at=at, to=to, gap=left))
 
 
 def test_going_on():
@@ -99,7 +100,7 @@ def test_going_on():
     running = record(next_out=10, at=4, to=8)
     for fields in "7=10|16=0|", "7=5|16=4|", "7=0|16=0|", "7=1|16=0|58=x|", "7=1|":
         same(stepped(body("2", fields), running)[3], after(expected=6, next_out=10, wrote=1, at=4, to=8))
-        same(stepped(body("2", fields, n=6), running)[3], after(next_out=10, wrote=1, at=4, to=8))
+        same(stepped(body("2", fields, n=6), running)[3], after(next_out=10, wrote=1, at=4, to=8, gap=gap(6)))
     header = "49=MM|56=GW|34={n}|52=20240102-09:30:00|43=Y|122=20240102-09:30:00|"
     same(stepped(body("2", "7=1|16=0|", n=4, header=header), running)[3], running)
     for msg_type in "0", "1", "3", "4", "A", "F", "AD", "AE":

@@ -1,11 +1,11 @@
 """The driver's request lines of Q-1 and their answers: landed, report, report-values; and lines that cannot be read."""
 import model
 
-from .basics import AT, LENT, NONE_RUNNING, body, raw, same
+from .basics import AT, AT_REST, LENT, body, raw, same
 from .reporting import FULL_FRAME, SHORTEST_FRAME
 
-RECORD = "4757 4d4d 1 5 3 30 7" + NONE_RUNNING
-AFTER = f"4757 4d4d 1 5 4 30 {AT}" + NONE_RUNNING
+RECORD = "4757 4d4d 1 5 3 30 7" + AT_REST
+AFTER = f"4757 4d4d 1 5 4 30 {AT}" + AT_REST
 ON = RECORD + LENT              # the record that a report is asked on, and the store that it is lent
 TIME = b"20240102-09:29:59".hex()
 SHORTEST = f"571=b5431 828=b30 60=b{TIME} 32=d100.0 31=d1250.2 574=b34 48=b313333323135 22=b38 54=b31"
@@ -41,7 +41,7 @@ def test_report():
         same(model.answer(line), f"refusal {refusal} {RECORD}")
     for before, refusal, left in (("4757 4d4d 0 5 3 30 7", 2, None), (f"{'41' * 12} 4d4d 1 5 3 30 7", 11, None),
                                   ("4757 4d4d 1 5 999999991 30 7", 5, "4757 4d4d 2 5 999999991 30 7")):
-        same(model.answer(f"report {AT} 0 {before}{NONE_RUNNING}{LENT}"), f"refusal {refusal} {left or before}{NONE_RUNNING}")
+        same(model.answer(f"report {AT} 0 {before}{AT_REST}{LENT}"), f"refusal {refusal} {left or before}{AT_REST}")
 
 
 def test_report_values():
@@ -72,7 +72,7 @@ def test_unreadable_lines():
                  "18446744073709551616=b-"):
         same(model.answer(f"{front} {word}"), "error")
     for line in ("report", f"report {AT} 512", f"report {AT} 1048577 {ON}",
-                 f"report {AT} 512 4757 4d4d 1 5 3 30{NONE_RUNNING}{LENT}",
+                 f"report {AT} 512 4757 4d4d 1 5 3 30{AT_REST}{LENT}",
                  f"report x 512 {ON}", f"report {AT} 512 {ON} ", "report-values", "report-values - -",
                  "report-values 3", "report_values -", "fix42 report-values -"):
         same(model.answer(line), "error")

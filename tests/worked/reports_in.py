@@ -1,7 +1,7 @@
 """Steps with a Trade Capture Report from a member (Q-1): rule 6 rejects it whatever its verdict, the others as any type."""
 from model import CLOSED, WAITING
 
-from .basics import AE_FRONT, FIELDS, HEADER, after, body, raw, record, same, stepped
+from .basics import AE_FRONT, FIELDS, HEADER, after, body, gap, raw, record, same, stepped
 
 BODIES = (AE_FRONT + "552=1|54=1|", AE_FRONT, AE_FRONT + "552=1|54=1|453=2|448=P|", "x|", "", "9999=x|", "571=|")
 
@@ -19,7 +19,7 @@ def test_in_turn():
 
 def test_too_high():
     for fields in BODIES:
-        same(stepped(body("AE", fields, n=6)), (None, False, ["35=2|34=3|7=5|16=0|"], after(wrote=1)))
+        same(stepped(body("AE", fields, n=6)), (None, False, ["35=2|34=3|7=5|16=0|"], after(wrote=1, gap=gap(6))))
 
 
 def test_too_low():

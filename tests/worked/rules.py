@@ -1,7 +1,7 @@
 """Steps while Active: the six rules, rule 6 by type, serving."""
 from model import CLOSED, LANDED
 
-from .basics import AT, HEADER, after, body, raw, record, same, stepped
+from .basics import AT, HEADER, after, body, gap, raw, record, same, stepped
 
 
 def test_rule_1():
@@ -39,13 +39,13 @@ def test_rule_3():
 def test_rule_4():
     ours = "7=5|16=0|"
     for msg_type in "0", "1", "3", "5", "A", "F", "AD":
-        same(stepped(body(msg_type, n=6)), (None, False, ["35=2|34=3|" + ours], after(wrote=1)))
-    same(stepped(body("4", "36=9|123=Y|", n=6)), (None, False, ["35=2|34=3|" + ours], after(wrote=1)))
-    same(stepped(raw("35=ZZ|49=MM|56=GW|34=6|")), (None, False, ["35=2|34=3|" + ours], after(wrote=1)))
+        same(stepped(body(msg_type, n=6)), (None, False, ["35=2|34=3|" + ours], after(wrote=1, gap=gap(6))))
+    same(stepped(body("4", "36=9|123=Y|", n=6)), (None, False, ["35=2|34=3|" + ours], after(wrote=1, gap=gap(6))))
+    same(stepped(raw("35=ZZ|49=MM|56=GW|34=6|")), (None, False, ["35=2|34=3|" + ours], after(wrote=1, gap=gap(6))))
     fills, place = served(1, 2)
-    same(stepped(body("2", "7=1|16=0|", n=6)), (None, False, [*fills, "35=2|34=3|" + ours], after(wrote=1, **place)))
+    same(stepped(body("2", "7=1|16=0|", n=6)), (None, False, [*fills, "35=2|34=3|" + ours], after(wrote=1, gap=gap(6), **place)))
     for fields in "7=3|16=0|", "7=2|16=1|", "7=0|16=0|", "7=1|", "7=1|16=0|58=x|":
-        same(stepped(body("2", fields, n=6)), (None, False, ["35=2|34=3|" + ours], after(wrote=1)))
+        same(stepped(body("2", fields, n=6)), (None, False, ["35=2|34=3|" + ours], after(wrote=1, gap=gap(6))))
 
 
 def served(begin, last):

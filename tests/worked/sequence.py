@@ -15,7 +15,7 @@ STRANGE = HEADER.replace("MM", "XX")
 
 
 def record(expected, status=ACTIVE):
-    return Record("4757", "4d4d", status, expected, 2, 30, 0, 0, 0)
+    return Record("4757", "4d4d", status, expected, 2, 30, 0, 0, 0, 0, 0, 0, 0)
 
 
 def made(before, after, msg_type=None, n=5, fields=None, refusal=None, delivered=False, reply=b"", status=ACTIVE, then=ACTIVE,

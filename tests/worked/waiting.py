@@ -1,7 +1,7 @@
 """Steps while Waiting: refusals 3 and 4, logons with a reset and without."""
 from model import ACTIVE, CLOSED, WAITING
 
-from .basics import FIELDS, HEADER, after, body, raw, record, same, stepped
+from .basics import FIELDS, HEADER, after, body, gap, raw, record, same, stepped
 
 LOGON = "98=0|108=20|1137=9|"
 OUR_LOGON = "98=0|108=20|1137=9|"
@@ -30,7 +30,7 @@ def test_logon():
          (None, False, ["35=A|34=3|" + OUR_LOGON], after(status=ACTIVE, expected=6, heartbeat=20, wrote=1)))
     same(stepped(body("A", LOGON, n=7), waiting()),
          (None, False, ["35=A|34=3|" + OUR_LOGON, "35=2|34=4|7=5|16=0|"],
-          after(status=ACTIVE, expected=5, heartbeat=20, wrote=2)))
+          after(status=ACTIVE, expected=5, heartbeat=20, wrote=2, gap=gap(7))))
     low = (None, False, ["35=5|34=3|1409=101|"], after(status=CLOSED, expected=5, wrote=1))
     same(stepped(body("A", LOGON, n=4), waiting()), low)
     same(stepped(body("A", LOGON, n=4, header=HEADER + "43=Y|122=20240102-09:30:00|"), waiting()), low)

@@ -1,7 +1,7 @@
 """Document 02's Q-3: zeros in front of the body length and of the numbers in fields, in frames, verdicts and moves."""
 import model
 
-from .basics import AD_FIELDS, F_FIELDS, HEADER, PARTY, after, body, finding, framed, raw, record, same, stepped
+from .basics import AD_FIELDS, F_FIELDS, HEADER, PARTY, after, body, finding, framed, gap, raw, record, same, stepped
 
 FRONT = "8=FIXT.1.1|9="
 
@@ -73,7 +73,7 @@ def test_moves_read_them():
     same(stepped(body("0", n="000000000005")), (None, False, [], after(expected=6)))
     for unreadable in "0000000000005", "1000000000", "000000000000":
         same(stepped(body("0", n=unreadable))[2], ["35=5|34=3|1409=101|"])
-    same(stepped(body("0", n="0007")), (None, False, ["35=2|34=3|7=5|16=0|"], after(wrote=1)))
+    same(stepped(body("0", n="0007")), (None, False, ["35=2|34=3|7=5|16=0|"], after(wrote=1, gap=gap(7))))
     same(stepped(body("4", "36=0009|123=Y|", n="05")), (None, False, [], after(expected=9)))
     same(stepped(body("4", "36=007|", n="9")), (None, False, [], after(expected=7)))
 
