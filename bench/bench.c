@@ -139,6 +139,7 @@ static const struct row rows[] = {
     BY("step, Logout and its answer", active_step, logout, 2000),
     BY("step, Heartbeat with a finding: Reject out", active_step, unclean, 2000),
     BY("step, Heartbeat too high: Resend Request out", active_step, too_high, 2000),
+    BY("step, Heartbeat too high in a gap: nothing out", gap_step, too_high, 2000),
     ON("tick, Heartbeat out", TICK, heartbeat, 2000),
     BY("logout, Logout out", logout, logout_out, 2000),
     BY("test request, Test Request out", test_request, test_request_out, 2000),
@@ -228,6 +229,8 @@ struct plain_session plain_of(const struct fixgw_session *session)
         .expected = session->words[FIXGW_WORD_EXPECTED], .next_out = session->words[FIXGW_WORD_NEXT_OUT],
         .heartbeat = session->words[FIXGW_WORD_HEARTBEAT], .last_sent = session->words[FIXGW_WORD_LAST_SENT],
         .at = session->words[FIXGW_WORD_REPLAY_AT], .to = session->words[FIXGW_WORD_REPLAY_TO],
+        .is_open = session->words[FIXGW_WORD_GAP_OPEN], .open_for = session->words[FIXGW_WORD_GAP_FOR],
+        .highest = session->words[FIXGW_WORD_GAP_HIGHEST], .asked = session->words[FIXGW_WORD_GAP_ASKED],
     };
     memcpy(plain.ours, session->ours, FIXGW_COMP_ID);
     memcpy(plain.peer, session->peer, FIXGW_COMP_ID);
@@ -260,6 +263,10 @@ struct plain_session *set_back_plain(const struct plain_session *to)
     plain_record.last_sent = to->last_sent;
     plain_record.at = to->at;
     plain_record.to = to->to;
+    plain_record.is_open = to->is_open;
+    plain_record.open_for = to->open_for;
+    plain_record.highest = to->highest;
+    plain_record.asked = to->asked;
     return &plain_record;
 }
 
@@ -473,6 +480,19 @@ static const struct fixgw_session records[] = {
     RECORD(2, 2, FIXGW_ACTIVE, 999999991, 10, 30, 0, 1, 9), RECORD(2, 2, FIXGW_ACTIVE, 2, 10, 30, 0, 1, 10),
     RECORD(2, 2, FIXGW_ACTIVE, 2, 10, 30, 0, 5, 4), RECORD(2, 2, FIXGW_ACTIVE, 2, 10, 30, 0, 0, 4),
     RECORD(2, 2, FIXGW_WAITING, 2, 10, 30, 0, 4, 4), RECORD(2, 2, FIXGW_CLOSED, 2, 10, 30, 0, 4, 4),
+    IN_GAP(FIXGW_ACTIVE, 1, 1, 1, CALL_TIME), IN_GAP(FIXGW_ACTIVE, 1, 1, 5, CALL_TIME),
+    IN_GAP(FIXGW_ACTIVE, 1, 1, 2, CALL_TIME - 9999999), IN_GAP(FIXGW_ACTIVE, 1, 1, 2, CALL_TIME - 10000000),
+    IN_GAP(FIXGW_ACTIVE, 1, 1, 2, CALL_TIME + 1), IN_GAP(FIXGW_ACTIVE, 1, 1, 2, ~(uint64_t)0),
+    IN_GAP(FIXGW_ACTIVE, 1, 2, 1, CALL_TIME), IN_GAP(FIXGW_ACTIVE, 2, 1, 2, CALL_TIME),
+    IN_GAP(FIXGW_ACTIVE, 2, 2, 9, CALL_TIME), IN_GAP(FIXGW_ACTIVE, 3, 3, 2, CALL_TIME),
+    IN_GAP(FIXGW_ACTIVE, 999999991, 1, 2, CALL_TIME), IN_GAP(FIXGW_WAITING, 1, 1, 999999999, CALL_TIME),
+    IN_GAP(FIXGW_WAITING, 2, 1, 9, CALL_TIME), IN_GAP(FIXGW_WAITING, 3, 1, 9, CALL_TIME),
+    IN_GAP(FIXGW_WAITING, 3, 1, 2, CALL_TIME), IN_GAP(FIXGW_CLOSED, 3, 1, 2, CALL_TIME),
+    IN_GAP(FIXGW_ACTIVE, 2, 0, 2, 0), IN_GAP(FIXGW_ACTIVE, 2, 1, 0, 0), IN_GAP(FIXGW_ACTIVE, 2, 1000000000, 2, 0),
+    IN_GAP(FIXGW_ACTIVE, 2, 1, 1000000000, 0), RECORD(2, 2, FIXGW_ACTIVE, 2, 10, 30, 0, 0, 0, 2, 1, 2, 0),
+    RECORD(2, 2, FIXGW_ACTIVE, 2, 10, 30, 0, 0, 0, 0, 1), RECORD(2, 2, FIXGW_ACTIVE, 2, 10, 30, 0, 0, 0, 0, 0, 1),
+    RECORD(2, 2, FIXGW_ACTIVE, 2, 10, 30, 0, 0, 0, 0, 0, 0, 1),
+    RECORD(2, 2, FIXGW_ACTIVE, 1, 10, 30, 0, 1, 9, 1, 1, 5, CALL_TIME),
     { 2, "GW", 2, "M\001", { FIXGW_RECORD_VERSION, FIXGW_ACTIVE, 2, 2, 30, 0 } },
 };
 

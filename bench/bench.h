@@ -42,6 +42,10 @@ void make_frame(struct bytes *frame, const char *body);
 #define RECORD(ours_len, peer_len, ...) \
     { ours_len, "GW", peer_len, "MM", { FIXGW_RECORD_VERSION, __VA_ARGS__ } }
 
+/* One with no replay running, and with a gap open. */
+#define IN_GAP(status, expected, open_for, highest, asked) \
+    RECORD(2, 2, status, expected, 10, 30, 0, 0, 0, 1, open_for, highest, asked)
+
 /* The same record for the plain side. */
 struct plain_session plain_of(const struct fixgw_session *session);
 
@@ -113,7 +117,7 @@ void check_fields(void);
 extern struct bytes logon, reset_logon, logout, unclean, too_high, logout_out, test_request_out;
 
 void make_replies(void);
-run active_step_ours, active_step_plain, waiting_step_ours, waiting_step_plain;
+run active_step_ours, active_step_plain, waiting_step_ours, waiting_step_plain, gap_step_ours, gap_step_plain;
 run logout_ours, logout_plain, test_request_ours, test_request_plain;
 
 /* Logouts and Test Requests of all kinds on one record; the steps and calls that are measured. */

@@ -7,11 +7,13 @@
 struct bytes logon, reset_logon, logout, unclean, too_high, logout_out, test_request_out;
 
 static const struct fixgw_session waiting = RECORD(2, 2, FIXGW_WAITING, 2, 2, 30, 0);
-static struct plain_session plain_waiting;
+static const struct fixgw_session in_gap = IN_GAP(FIXGW_ACTIVE, 2, 2, 8, CALL_TIME);
+static struct plain_session plain_waiting, plain_in_gap;
 
 void make_replies(void)
 {
     plain_waiting = plain_of(&waiting);
+    plain_in_gap = plain_of(&in_gap);
     make_frame(&logon, HEADER("A") "98=0|108=30|1137=9|");
     make_frame(&reset_logon, NUMBERED("A", "1") "98=0|108=30|1137=9|141=Y|");
     make_frame(&logout, HEADER("5"));
@@ -61,6 +63,16 @@ void waiting_step_ours(const uint8_t *frame, size_t len)
 void waiting_step_plain(const uint8_t *frame, size_t len)
 {
     sink += plain_step_on(&plain_waiting, frame, len);
+}
+
+void gap_step_ours(const uint8_t *frame, size_t len)
+{
+    sink += step_on(&in_gap, frame, len);
+}
+
+void gap_step_plain(const uint8_t *frame, size_t len)
+{
+    sink += plain_step_on(&plain_in_gap, frame, len);
 }
 
 /* The bytes of the venue's own messages are those that go out. */
@@ -143,7 +155,7 @@ void check_messages(const struct fixgw_session *session)
     check_test_request(session, NULL, 0, CALL_TIME, ROOM);
 }
 
-/* A step that is measured, and the type of its reply. */
+/* A step that is measured, and the type of its reply, 0 for none. */
 static void check_reply(const struct fixgw_session *session, const struct bytes *frame, uint8_t type)
 {
     check_step("a step that is answered", session, frame, frame->len, CALL_TIME, FIXGW_LEAST_REPLY_ROOM);
@@ -158,6 +170,7 @@ void check_replies(void)
     check_reply(&active, &logout, '5');
     check_reply(&active, &unclean, '3');
     check_reply(&active, &too_high, '2');
+    check_reply(&in_gap, &too_high, 0);
     logout_ours(NULL, 0);
     insist(memcmp(our_reply, logout_out.at, logout_out.len) == 0, "the venue's Logout");
     test_request_ours(NULL, 0);

@@ -36,7 +36,7 @@ uint32_t plain_verdict(const uint8_t *body, size_t n);
 /* The sum of bytes modulo 256. */
 uint8_t plain_sum(const uint8_t *s, size_t n);
 
-enum { PLAIN_COMP_ID = 11, PLAIN_RECORD = 9 * 8 + 2 * PLAIN_COMP_ID };     /* bytes, without padding */
+enum { PLAIN_COMP_ID = 11, PLAIN_RECORD = 13 * 8 + 2 * PLAIN_COMP_ID };    /* bytes, without padding */
 
 /* A session's record. The numbers are as wide as the library's, so that every one of its records can be put here. */
 struct plain_session {
@@ -44,6 +44,7 @@ struct plain_session {
     uint64_t status;                        /* 0 Waiting, 1 Active, 2 Closed */
     uint64_t expected, next_out, heartbeat, last_sent;
     uint64_t at, to;                        /* of a replay */
+    uint64_t is_open, open_for, highest, asked;     /* of a gap */
     uint8_t ours[PLAIN_COMP_ID], peer[PLAIN_COMP_ID];
 };
 

@@ -13,6 +13,7 @@
 #define LEAST_ROOM 600
 #define TRAILER_SIZE 7
 #define END_OF_TIME 253402300800000000u
+#define RE_ASK 10000000                     /* microseconds after which an open gap is asked for again */
 #define LEAST_BODY 5
 #define GREATEST_BODY 2048
 
@@ -55,11 +56,18 @@ static inline int is_placed(const struct plain_session *session)
     return session->status == ACTIVE && session->at <= session->to && session->to < session->next_out;
 }
 
+static inline int is_gap(const struct plain_session *session)
+{
+    if (session->is_open == 0)
+        return (session->open_for | session->highest | session->asked) == 0;
+    return session->is_open == 1 && is_numbered(session->open_for) && is_numbered(session->highest);
+}
+
 static inline int in_range(const struct plain_session *session)
 {
     return is_comp_id(session->ours, session->ours_size) && is_comp_id(session->peer, session->peer_size)
         && session->status <= CLOSED && is_numbered(session->expected) && is_numbered(session->next_out)
-        && session->heartbeat >= 1 && session->heartbeat <= 60 && is_placed(session);
+        && session->heartbeat >= 1 && session->heartbeat <= 60 && is_placed(session) && is_gap(session);
 }
 
 static inline int is_used_up(const struct plain_session *session)

@@ -101,11 +101,46 @@ static uint32_t verdict(const struct call *call)
     return plain_verdict(call->body, (size_t)(call->end - call->body));
 }
 
+/* ---- The gap ----------------------------------------------------------------------------------------------------- */
+
+static void close_gap(struct plain_session *session)
+{
+    session->is_open = session->open_for = session->highest = session->asked = 0;
+}
+
+static void see(struct call *call)
+{
+    if (call->n > call->session->highest)
+        call->session->highest = call->n;
+}
+
+static void ask(struct call *call)
+{
+    call->session->is_open = 1;
+    call->session->open_for = call->session->expected;
+    call->session->asked = call->time;
+    send_resend_request(call);
+}
+
+/* A clock that went back counts as passed. */
+static int has_passed(const struct call *call)
+{
+    uint64_t asked = call->session->asked;
+    return call->time < asked || call->time - asked >= RE_ASK;
+}
+
+static int is_to_ask(const struct call *call)
+{
+    const struct plain_session *session = call->session;
+    return !session->is_open || session->open_for != session->expected || has_passed(call);
+}
+
 /* ---- Waiting ----------------------------------------------------------------------------------------------------- */
 
 static void accept_logon(struct call *call, int reset)
 {
     call->session->status = ACTIVE;
+    close_gap(call->session);
     call->session->heartbeat = number(FIRST(call, "108"));
     send_logon(call, reset);
 }
@@ -130,10 +165,12 @@ static void logon(struct call *call)
         return;
     }
     accept_logon(call, 0);
-    if (call->n == expected)
+    if (call->n == expected) {
         call->session->expected++;
-    else
-        send_resend_request(call);
+        return;
+    }
+    see(call);
+    ask(call);
 }
 
 static uint32_t waiting(struct call *call)
@@ -173,10 +210,12 @@ static void bare_reset(struct call *call)
         return;
     }
     uint64_t next = number(FIRST(call, "36"));
-    if (next < call->session->expected)
+    if (next < call->session->expected) {
         send_reject(call, BAD_VALUE, 36);
-    else
-        call->session->expected = next;
+        return;
+    }
+    call->session->expected = next;
+    close_gap(call->session);
 }
 
 /* Starts the replay of a clean Resend Request: the tag for which it is rejected, or 0. */
@@ -196,7 +235,9 @@ static void too_high(struct call *call)
 {
     if (call->type == '2' && !verdict(call))
         serve(call);
-    send_resend_request(call);
+    see(call);
+    if (is_to_ask(call))
+        ask(call);
 }
 
 static void too_low(struct call *call)
@@ -317,6 +358,8 @@ uint32_t plain_step(struct plain_session *session, const uint8_t *frame, size_t 
         refusal = waiting(&call);
     else
         active(&call);
+    if (!refusal && session->expected > session->highest)
+        close_gap(session);
     out[0] = (uint64_t)call.delivered;
     out[1] = (uint64_t)(call.reply - buf);
     return refusal;
