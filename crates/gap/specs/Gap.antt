@@ -29,13 +29,16 @@ passed asked t = t <? asked || re-ask ≤? (t - asked)
 unfoldable pub asks : ℕ → ℕ → Gap → Bool
 asks t E g = not (opened g) || not (g .for =? E) || passed (g .asked) t
 
--- the gap behind a frame N that asked for E
-abbrev pub asked-for : ℕ → ℕ → ℕ → Gap → Gap
-asked-for t E N g = record { is-open = 1; for = E; highest = max (g .highest) N; asked = t }
+-- RAISING: "the highest number seen", by every frame N that is too high, whether it asks
+abbrev pub highest-with : ℕ → Gap → ℕ
+highest-with N g = max (g .highest) N
 
--- RAISING: "the highest number seen", by a frame N that does not ask
+-- the gap behind a frame N that asked for E, and behind one that did not
+abbrev pub asked-for : ℕ → ℕ → ℕ → Gap → Gap
+asked-for t E N g = record { is-open = 1; for = E; highest = highest-with N g; asked = t }
+
 abbrev pub seen : ℕ → Gap → Gap
-seen N g = record { is-open = g .is-open; for = g .for; highest = max (g .highest) N; asked = g .asked }
+seen N g = record { is-open = g .is-open; for = g .for; highest = highest-with N g; asked = g .asked }
 
 -- CLOSING: "E above the highest seen closes it"
 unfoldable pub unless-past : ℕ → Gap → Gap

@@ -23,8 +23,8 @@ use Rattle.session.specs.declared.Answer.the-variants.{Done, Refused}
 use Rattle.session.specs.declared.Refusal.the-variants.{BadRecord}
 use Rattle.session.proofs.EachCall.{each-refusal, each-step}
 use Rattle.replaying.specs.Run.{Turn, Ours, OurReport, OurReplay, turn, run}
-use Rattle.requests.specs.Requests.{Around, AllAround}
-use Rattle.requests.proofs.Resting.{Rests, tick-rests, logout-rests, test-rests, reconnect-rests, report-rests, replay-rests}
+use Rattle.requests.specs.Requests.{Rests, Around, AllAround}
+use Rattle.requests.proofs.Resting.{tick-rests, logout-rests, test-rests, reconnect-rests, report-rests, replay-rests}
 
 -- BEHIND THE LOOK AT THE GAP nothing but its first half is to be shown
 abbrev Before : ℕ → Gap → Type 0

@@ -1,4 +1,4 @@
--- A move that is neither rule 4's nor a reset that is taken leaves the gap, unless E is past it.
+-- A move that is neither rule 4's nor a reset that is taken leaves the gap, unless E is past it; a reset that is taken closes it.
 -- Assumes nothing.
 use Prim.Native.Nat.{ℕ, _≤_, _<_}
 use mathlib.Core.Path.{_≡_, refl, sym, ap, _∙_}
@@ -13,8 +13,9 @@ use Rattle.moves.specs.Session.{Session}
 use Rattle.moves.specs.Moves.{OurPeer, bare, Deeds, #, N, readable, clean, reject, reject-type, logout, counted, served, stranger, in-turn, active}
 use Rattle.moves.proofs.EachRule.{each-serving, each-reset, each-low, each-gap, each-turn, each-rule}
 use Rattle.session.specs.Calls.{Outcome, afterAll, making, settling}
+use Rattle.session.proofs.Promise as Session
 use Rattle.session.proofs.EachCall.{active-step}
-use Rattle.requests.specs.Requests.{LeavesGap}
+use Rattle.requests.specs.Requests.{ResetCloses, LeavesGap}
 
 module _ (t : ℕ) (s : Session) (body : Bytes) where
   abbrev Keeps : Deeds → Type 0
@@ -62,3 +63,7 @@ leaves s f t buf store U not-high not-taken =
     ap (λ (x : Outcome). x .session .gap) (active-step s f t buf store U)
     ∙ ap (unless-past (o .session .E)) k
     ∙ ap (λ (x : Outcome). unless-past (x .session .E) (s .gap)) (sym (active-step s f t buf store U))
+
+-- and one that is taken closes it
+pub resets : (s : Session) (f : Bytes) (t : ℕ) (buf store : Bytes) → ResetCloses s f t buf store
+resets s f t buf store R c l = ap (λ (o : Outcome). o .session .gap) (Session.promise .slips s f t buf store .reset-taken R c l)

@@ -2,7 +2,7 @@
 -- Assumes nothing.
 use Prim.Native.Nat.{ℕ, _+_}
 use native.Mathlib.Omega.{arith}
-use mathlib.Core.Path.{_≡_, refl, sym, _∙_}
+use mathlib.Core.Path.{_≡_, refl, sym, ap, _∙_}
 use mathlib.Core.Bool.{Bool, true, false, not, _&&_, false≢true}
 use lib.Dec.{ltb}
 use borrow.Author.Tests.{lt-ltb, le-ltb}
@@ -17,9 +17,10 @@ use Rattle.moves.specs.Seen.{isIt}
 use Rattle.moves.specs.Moves.{Deeds, N, logon, waiting}
 use Rattle.moves.specs.declared.record.Status.the-variants.{Waiting, Active, Closed}
 use Rattle.moves.proofs.EachRule.{each-logon}
-use Rattle.session.specs.Calls.{Outcome, settled, afterAll}
+use Rattle.session.specs.Calls.{Outcome, settled, afterAll, step}
+use Rattle.session.proofs.Promise as Session
 use Rattle.session.proofs.EachCall.{each-refusal, each-step}
-use Rattle.requests.specs.Requests.{LogonsGap}
+use Rattle.requests.specs.Requests.{LogonsGap, LogonAsks}
 
 -- a Closed session is not Active, nor is a Waiting one
 not-closed : Closed ≡ Active → ⊥
@@ -60,3 +61,10 @@ module _ (s : Session) (f : Bytes) (t : ℕ) (buf store : Bytes) where
     logon = λ P st y c. answered-logon;
     move = λ P st. absurd (not-waiting (sym w ∙ st));
   })
+
+  -- E stays behind a logon that is above it
+  pub logon-asks : LogonAsks s f t buf store
+  logon-asks w a l n =
+      let e = Session.promise .slips s f t buf store .not-raised l (λ R. not-waiting (sym w ∙ R .unrefused .is-active)) in
+      let g : step s f t buf store .session .gap ≡ asked-for t (s .E) (N s body) no-gap = logons w a ∙ rw (lt-ltb (s .E) (N s body) l, n) in
+      record { is-open = ap (λ (x : Gap). x .is-open) g; for-E = ap (λ (x : Gap). x .for) g ∙ sym e; at = ap (λ (x : Gap). x .asked) g }

@@ -6,15 +6,15 @@ use mathlib.Core.Bool.{Bool, true, false}
 use mathlib.Core.List.{List, [], _∷_, _++_, append-assoc}
 use Rattle.bytes.specs.Bytes.{Bytes}
 use Rattle.message.specs.Whole.{bodyIn}
-use Rattle.gap.specs.Gap.{asks, asked-for, seen}
+use Rattle.gap.specs.Gap.{Gap, asks, asked-for, seen}
 use Rattle.moves.specs.Words.{if_then_else_}
 use Rattle.moves.specs.Session.{Session}
 use Rattle.moves.specs.Moves.{N}
 use Rattle.session.specs.Calls.{Outcome, step, Step, Tick, OurLogout, OurTestRequest, Reconnect}
 use Rattle.replaying.specs.Run.{Turn, Ours, OurReport, OurReplay, turn, final}
-use Rattle.requests.specs.Requests.{TooHigh, the-request, answered, all-answered, High, AllHigh, Within, Passed, OneRequest}
+use Rattle.requests.specs.Requests.{Rests, TooHigh, the-request, answered, all-answered, High, AllHigh, Within, Asked, AskedOnce, OneRequest}
 use Rattle.requests.proofs.RuleFour.{rule-4}
-use Rattle.requests.proofs.Resting.{Rests, tick-rests, logout-rests, test-rests, reconnect-rests, report-rests, replay-rests}
+use Rattle.requests.proofs.Resting.{tick-rests, logout-rests, test-rests, reconnect-rests, report-rests, replay-rests}
 use Rattle.requests.proofs.Asking.{AskedAt, asks-not, asks-again}
 
 -- A FRAME THAT IS TOO HIGH, by whether it asks
@@ -78,30 +78,38 @@ answered-then u (c ∷ cs) ds =
     ap (λ (l : List Bytes). answered u c ++ l) (answered-then (turn u c .session) cs ds)
     ∙ sym (append-assoc (answered u c) (all-answered (turn u c .session) cs) (all-answered (final u (c ∷ cs)) ds))
 
+-- BEHIND AN ASKING, and after 10 seconds
+pub asked-once : (t : ℕ) (s : Session) (cs : List Turn) → Asked t s → AllHigh (Within t) s cs → AskedOnce t s cs
+asked-once t s cs A H =
+    let q = run-quiet t (s .E) s cs (record { same-E = refl; asked = record { is-open = A .is-open; for-E = A .for-E; at = A .at } }) H in
+    let W = q .1 in
+    record {
+      none-answered = q .0;
+      E-stays = W .same-E;
+      still-asked = record { is-open = W .asked .is-open; for-E = W .asked .for-E ∙ sym (W .same-E); at = W .asked .at };
+      one-more = λ f′ t′ buf′ store′ T p.
+          asking-reply (final s cs) f′ t′ buf′ store′ T (subst (λ (n : ℕ). asks t′ n (final s cs .gap) ≡ true) (sym (W .same-E)) (asks-again t t′ (s .E) (final s cs .gap) (W .asked) p));
+    }
+
 -- ONE REQUEST
 module _ (s : Session) (f : Bytes) (t : ℕ) (buf store : Bytes) (cs : List Turn) (T : TooHigh s f t buf store) (a : asks t (s .E) (s .gap) ≡ true)
     (H : AllHigh (Within t) (step s f t buf store .session) cs) where
   abbrev behind : Session
   behind = step s f t buf store .session
 
-  first-waits : Waits t (s .E) behind
-  first-waits = record { same-E = rule-4 s f t buf store T .E-stays; asked = subst (AskedAt t (s .E)) (sym (its-gap s f t buf store T true a)) (record { is-open = refl; for-E = refl; at = refl }) }
+  first-asked : Asked t behind
+  first-asked =
+      let g = its-gap s f t buf store T true a in
+      record { is-open = ap (λ (x : Gap). x .is-open) g; for-E = ap (λ (x : Gap). x .for) g ∙ sym (rule-4 s f t buf store T .E-stays); at = ap (λ (x : Gap). x .asked) g }
 
-  quiet : (all-answered behind cs ≡ []) × Waits t (s .E) (final behind cs)
-  quiet = run-quiet t (s .E) behind cs first-waits H
-
-  -- after 10 seconds
-  last-reply : (f′ : Bytes) (t′ : ℕ) (buf′ store′ : Bytes) → TooHigh (final behind cs) f′ t′ buf′ store′ → Passed t t′
-      → step (final behind cs) f′ t′ buf′ store′ .reply ≡ the-request (final behind cs) f′ t′ buf′ store′ ∷ []
-  last-reply f′ t′ buf′ store′ T′ p =
-      let W = quiet .1 in
-      asking-reply (final behind cs) f′ t′ buf′ store′ T′ (subst (λ (n : ℕ). asks t′ n (final behind cs .gap) ≡ true) (sym (W .same-E)) (asks-again t t′ (s .E) (final behind cs .gap) (W .asked) p))
+  once : AskedOnce t behind cs
+  once = asked-once t behind cs first-asked H
 
   pub one-request : OneRequest s f t buf store cs
   one-request = record {
-    one = ap₂ (λ (k l : List Bytes). k ++ l) (asking-reply s f t buf store T a) (quiet .0);
-    E-stays = quiet .1 .same-E;
+    one = ap₂ (λ (k l : List Bytes). k ++ l) (asking-reply s f t buf store T a) (once .none-answered);
+    E-stays = once .E-stays ∙ rule-4 s f t buf store T .E-stays;
     one-more = λ f′ t′ buf′ store′ T′ p.
         ap₂ (λ (k l : List Bytes). k ++ l) (asking-reply s f t buf store T a)
-        (answered-then behind cs (Ours (Step f′ t′ buf′ store′) ∷ []) ∙ ap₂ (λ (k l : List Bytes). k ++ (l ++ [])) (quiet .0) (last-reply f′ t′ buf′ store′ T′ p));
+        (answered-then behind cs (Ours (Step f′ t′ buf′ store′) ∷ []) ∙ ap₂ (λ (k l : List Bytes). k ++ (l ++ [])) (once .none-answered) (once .one-more f′ t′ buf′ store′ T′ p));
   }

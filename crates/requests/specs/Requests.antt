@@ -15,7 +15,20 @@ use Rattle.moves.specs.Moves.{OurPeer, bare, ResendRequest, letter, #, readable
 use Rattle.moves.specs.declared.record.Status.the-variants.{Waiting, Active}
 use Rattle.session.specs.Calls.{Outcome, step, Step, Tick, OurLogout, OurTestRequest, Reconnect}
 use Rattle.session.specs.Delivery.{Unrefused, Reset}
+use Rattle.session.specs.declared.Refusal.{Refusal}
+use Rattle.session.specs.declared.Answer.the-variants.{Refused}
 use Rattle.replaying.specs.Run.{Turn, Ours, OurReport, OurReplay, turn, run, final}
+
+-- a gap that was asked for at the time t: it is open for E
+pub record Asked (t : ℕ) (s : Session) : Type 0 where
+  pub is-open : s .gap .is-open ≡ 1
+  pub for-E : s .gap .for ≡ s .E
+  pub at : s .gap .asked ≡ t
+
+-- E and the gap stay
+pub record Rests (s : Session) (o : Outcome) : Type 0 where
+  pub same-E : o .session .E ≡ s .E
+  pub same-gap : o .session .gap ≡ s .gap
 
 -- A session s, a frame f, a time t, a reply buffer and a store.
 module _ (s : Session) (f : Bytes) (t : ℕ) (buf store : Bytes) where
@@ -48,13 +61,36 @@ module _ (s : Session) (f : Bytes) (t : ℕ) (buf store : Bytes) where
   LogonsGap = s .status ≡ Waiting → result .session .status ≡ Active
       → result .session .gap ≡ (if s .E <? N s body && not (_holds_ s body 141 (fix "Y")) then asked-for t (s .E) (N s body) no-gap else no-gap)
 
-  -- "E above the highest seen closes it, as do .. any reset": every other move of an Active session leaves it, unless E is past it
+  -- it asks: behind it the gap is open for E, asked for at the time of the step
+  abbrev pub LogonAsks : Type 0
+  LogonAsks = s .status ≡ Waiting → result .session .status ≡ Active → s .E < N s body → _holds_ s body 141 (fix "Y") ≡ false → Asked t (result .session)
+
+  -- "as do .. any reset": one that is taken
+  abbrev pub ResetCloses : Type 0
+  ResetCloses = Reset s f t buf store → clean s body ≡ true → s .E ≤ # s body 36 → result .session .gap ≡ no-gap
+
+  -- "E above the highest seen closes it": every other move of an Active session leaves it, unless E is past it,
   abbrev pub LeavesGap : Type 0
   LeavesGap = Unrefused s f t buf store → (TooHigh → ⊥) → (Reset s f t buf store → clean s body ≡ true → s .E ≤ # s body 36 → ⊥)
       → result .session .gap ≡ unless-past (result .session .E) (s .gap)
 
+  -- and a refusal leaves it
+  abbrev pub RefusalRests : Type 0
+  RefusalRests = (k : Refusal) → result .answer ≡ Refused k → Rests s result
+
 -- RUNS of a session's calls, reports and replay calls among them
--- what the steps of a run send; the messages of ticks, reports and replays are not answers to a frame
+-- calls that are given no frame leave E and the gap
+abbrev pub Frameless : Turn → Type 0
+Frameless (Ours (Step f t buf store)) = ⊥
+Frameless (Ours (Tick t buf)) = Unit {0}
+Frameless (Ours (OurLogout t buf)) = Unit {0}
+Frameless (Ours (OurTestRequest id t buf)) = Unit {0}
+Frameless (Ours Reconnect) = Unit {0}
+Frameless (OurReport v t buf store) = Unit {0}
+Frameless (OurReplay t buf store) = Unit {0}
+
+-- the answers to the frames of a run: what its steps send. (What the other calls send is theirs: a Heartbeat, a Logout, a Test Request, a report, a replay's
+-- message.)
 abbrev pub answered : Session → Turn → List Bytes
 answered s (Ours (Step f t buf store)) = step s f t buf store .reply
 answered s (Ours (Tick t buf)) = []
@@ -89,6 +125,16 @@ Within first t = (first ≤ t) × (t < first + re-ask)
 abbrev pub Passed : ℕ → ℕ → Type 0
 Passed first t = (t < first) ⊎ (first + re-ask ≤ t)
 
+-- ASKED ONCE: behind the asking, by whatever frame, frames that are too high within 10 seconds of it are not answered; E and the asking stay
+module _ (t : ℕ) (s : Session) (cs : List Turn) where
+  pub record AskedOnce : Type 0 where
+    pub none-answered : all-answered s cs ≡ []
+    pub E-stays : final s cs .E ≡ s .E
+    pub still-asked : Asked t (final s cs)
+    -- and after 10 seconds one more goes out
+    pub one-more : (f′ : Bytes) (t′ : ℕ) (buf′ store′ : Bytes) → TooHigh (final s cs) f′ t′ buf′ store′ → Passed t t′
+        → step (final s cs) f′ t′ buf′ store′ .reply ≡ the-request (final s cs) f′ t′ buf′ store′ ∷ []
+
 -- ONE REQUEST: a frame that asks (as the first frame of a gap does), and frames behind it that are too high as well
 module _ (s : Session) (f : Bytes) (t : ℕ) (buf store : Bytes) (cs : List Turn) where
   abbrev pub first-frame : Turn
@@ -99,7 +145,7 @@ module _ (s : Session) (f : Bytes) (t : ℕ) (buf store : Bytes) (cs : List Turn
   later = final s (first-frame ∷ cs)
 
   pub record OneRequest : Type 0 where
-    -- within 10 seconds of the first nothing goes out but its request; E stays
+    -- of all these frames only the first is answered, by its request; E stays
     pub one : all-answered s (first-frame ∷ cs) ≡ the-request s f t buf store ∷ []
     pub E-stays : later .E ≡ s .E
     -- and after 10 seconds one more
