@@ -29,7 +29,7 @@ passed asked t = t <? asked || re-ask ≤? (t - asked)
 unfoldable pub asks : ℕ → ℕ → Gap → Bool
 asks t E g = not (opened g) || not (g .for =? E) || passed (g .asked) t
 
--- RAISING: "the highest number seen", by every frame N that is too high, whether it asks
+-- RAISING: "the highest number seen", by every frame N that is too high, whether it asks or not
 abbrev pub highest-with : ℕ → Gap → ℕ
 highest-with N g = max (g .highest) N
 
