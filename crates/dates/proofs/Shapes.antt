@@ -56,6 +56,21 @@ like-letters (x ∷ s) (y ∷ v) h =
     go false true = refl
     go false false = refl
 
+-- bytes of a shape are as long as it is
+pub like-length : (s v : Bytes) → like s v ≡ true → length v ≡ length s
+like-length [] [] h = refl
+like-length [] (y ∷ v) h = absurd (false≢true h)
+like-length (x ∷ s) [] h = absurd (false≢true h)
+like-length (x ∷ s) (y ∷ v) h = ap suc (like-length s v (both (cond (leb 65 x) (digit y) (eqb y x)) (like s v) h .1))
+
+-- letters in the middle of a shape
+pub like-middle : (a b c v : Bytes) → all (leb 65) b ≡ true → like (a ++ (b ++ c)) v ≡ true → all digit (take (length b) (drop (length a) v)) ≡ true
+like-middle a b c v l h =
+    let w = drop (length a) v in
+    let from = both (like a (take (length a) v)) (like (b ++ c) w) (sym (like-append a (b ++ c) v) ∙ h) .1 in
+    let here = both (like b (take (length b) w)) (like c (drop (length b) w)) (sym (like-append b c w) ∙ from) .0 in
+    both (eqb (length (take (length b) w)) (length b)) (all digit (take (length b) w)) (sym (like-letters b (take (length b) w) l) ∙ here) .1
+
 -- a shape whose beginning is known
 pub like-rest : (s t v : Bytes) → like s (take (length s) v) ≡ true → like (s ++ t) v ≡ like t (drop (length s) v)
 like-rest s t v h = like-append s t v ∙ ap (λ (b : Bool). b && like t (drop (length s) v)) h

@@ -10,7 +10,7 @@ use lib.ListN.{length, take, drop, getD, length-drop}
 use lib.Seq.{take-all, take-take, getD-take}
 use borrow.Author.Tests.{not-true, not-false}
 use Rattle.bytes.specs.Bytes.{Bytes, fix, value, digit}
-use Rattle.dates.specs.Date.{like, isTime, goodDay, goodClock, number-at, dayFound, timeFound}
+use Rattle.dates.specs.Date.{like, isTime, goodDay, goodClock, number-at, found, dayFound, timeFound}
 use Rattle.dates.specs.code.Scan.{Digits, TwoAt, calendarOf, hoursOf}
 use Rattle.dates.proofs.Shapes.{bytes-are, like-append, like-long, like-rest, like-front, like-digit}
 
@@ -78,20 +78,34 @@ time-judged v b d r p n q e c = rw (sym p ∙ not-false b n) (go (goodDay v) (λ
     go true k = c
     go false k = absurd (k refl)
 
--- all three shapes begin alike
+-- a time of which nothing is found has its form, and is a time of calendar and clock
+pub time-right : (v : Bytes) → timeFound v ≡ 0 → (isTime v ≡ true) × ((goodDay v && goodClock v) ≡ true)
+unfolding timeFound
+time-right v e = go (isTime v) (goodDay v && goodClock v) e
+  where
+    go : (form value : Bool) → found form value ≡ 0 → (form ≡ true) × (value ≡ true)
+    go true true k = (refl, refl)
+    go true false k = absurd (omega (arith, k))
+    go false value k = absurd (omega (arith, k))
+
+-- WHAT ALL THREE SHAPES HAVE a time has
+pub by-shape : (v : Bytes) {P : Type 0} → isTime v ≡ true → (like (fix "YYYYMMDD-HH:MM:SS") v ≡ true → P) → (like (fix "YYYYMMDD-HH:MM:SS.sss") v ≡ true → P)
+    → (like (fix "YYYYMMDD-HH:MM:SS.ssssss") v ≡ true → P) → P
+by-shape v {P} = go (like (fix "YYYYMMDD-HH:MM:SS") v) (like (fix "YYYYMMDD-HH:MM:SS.sss") v) (like (fix "YYYYMMDD-HH:MM:SS.ssssss") v)
+  where
+    go : (a b c : Bool) → (a || (b || (c || false))) ≡ true → (a ≡ true → P) → (b ≡ true → P) → (c ≡ true → P) → P
+    go true b c e f g h = f refl
+    go false true c e f g h = g refl
+    go false false true e f g h = h refl
+    go false false false e f g h = absurd (false≢true e)
+
+-- they begin alike
 pub time-front : (v : Bytes) (b : Bool) → b ≡ isTime v → not b ≡ false → like (fix "YYYYMMDD-HH:MM:SS") (take 17 v) ≡ true
 time-front v b p n =
-    go _ _ _ _
+    by-shape v (sym p ∙ not-false b n)
     (like-front (fix "YYYYMMDD-HH:MM:SS") [] v)
     (like-front (fix "YYYYMMDD-HH:MM:SS") (fix ".sss") v)
     (like-front (fix "YYYYMMDD-HH:MM:SS") (fix ".ssssss") v)
-    (sym p ∙ not-false b n)
-  where
-    go : (a b c d : Bool) → (a ≡ true → d ≡ true) → (b ≡ true → d ≡ true) → (c ≡ true → d ≡ true) → (a || (b || (c || false))) ≡ true → d ≡ true
-    go true b c d f g h e = f refl
-    go false true c d f g h e = g refl
-    go false false true d f g h e = h refl
-    go false false false d f g h e = absurd (false≢true e)
 
 pub time-wrong : (v : Bytes) (b : Bool) → b ≡ like (fix "YYYYMMDD-HH:MM:S") (take 16 v) → not b ≡ true → 6 ≡ timeFound v
 unfolding timeFound

@@ -1,18 +1,18 @@
 -- What a value that is not rejected is like: its bytes, its form and value, and how long it can be.
-use Prim.Native.Nat.{ℕ, suc, _^_, _≤_, _<_, max}
+use Prim.Native.Nat.{ℕ, _^_, _≤_, _<_, max}
 use native.Mathlib.Omega.{arith}
-use Prim.Native.Char.{code}
 use mathlib.Core.Path.{_≡_, refl, ap}
 use mathlib.Core.List.{List, [], _∷_}
-use mathlib.Core.Bool.{Bool, true, false, cond, not, _||_, false≢true}
-use lib.Dec.{eqb, leb}
+use mathlib.Core.Bool.{Bool, true, false, not, _||_, false≢true}
+use lib.Dec.{eqb}
 use lib.ListN.{length}
 use borrow.Author.Tests.{not-false}
-use Rattle.bytes.specs.Bytes.{Bytes, fix, any, has, same, within, digit, value, with-zeros, decimal}
-use Rattle.bytes.proofs.Tests.{both, neither}
+use Rattle.bytes.specs.Bytes.{Bytes, fix, any, has, same, within, value, with-zeros, decimal}
+use Rattle.bytes.proofs.Tests.{neither}
 use Rattle.bytes.proofs.Numerals.{within-is, written-true, written-means}
 use Rattle.bytes.proofs.Decimals.{decimal-read, decimal-worth, no-longer}
 use Rattle.dates.specs.Date.{like, shapes}
+use Rattle.dates.proofs.Shapes.{like-length}
 use Rattle.kinds.specs.Kind.{Kind, text, number_to_, Y/N, time, day, among, formed, allowed, isNumber}
 use Rattle.kinds.specs.Kind as Kinds
 use Rattle.kinds.proofs.Values.{same-true}
@@ -44,12 +44,6 @@ unfolding rejected
 not-rejected m t v A = rw (A .own, A .filled, A .no-bar, A .form, A .right)
 
 -- HOW LONG A VALUE OF A KIND CAN BE
-like-length : (s v : Bytes) → like s v ≡ true → length v ≡ length s
-like-length [] [] h = refl
-like-length [] (x ∷ v) h = absurd (false≢true h)
-like-length (c ∷ s) [] h = absurd (false≢true h)
-like-length (c ∷ s) (x ∷ v) h = ap suc (like-length s v (both (cond (leb (code "A") c) (digit x) (eqb x c)) (like s v) h .1))
-
 -- one of a list that v is like: v is no longer than the longest
 any-length : (f : Bytes → Bool) (n : ℕ) (l : List Bytes) → ((w : Bytes) → f w ≡ true → n ≡ length w) → any f l ≡ true → n ≤ longest l
 any-length f n [] g h = absurd (false≢true h)

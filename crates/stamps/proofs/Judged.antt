@@ -1,18 +1,16 @@
 -- What the code tests: 24 bytes that are a time of the dictionary, with no second 60, from the year 1970 on by their digits, and no others are stamps.
 -- Assumes nothing.
-use Prim.Native.Nat.{ℕ, zero, suc, _+_, _-_, _*_, _≤_, _<_}
+use Prim.Native.Nat.{ℕ, _+_, _-_, _*_, _≤_, _<_}
 use native.Mathlib.Omega.{arith}
 use mathlib.Core.Path.{_≡_, refl, sym, ap₂, subst}
-use mathlib.Core.List.{[], _∷_}
-use mathlib.Core.Bool.{Bool, true, false, cond, _&&_, _||_, false≢true}
-use lib.Dec.{eqb, leb}
+use mathlib.Core.Bool.{Bool, true, false}
+use lib.Dec.{leb}
 use lib.ListN.{length, getD}
 use borrow.Author.Tests.{leb-true, leb-false}
-use Rattle.bytes.specs.Bytes.{Bytes, Digit, fix, digit}
-use Rattle.bytes.proofs.Tests.{both}
-use Rattle.bytes.proofs.Numerals.{digit-is}
-use Rattle.dates.specs.Date.{like, isTime, found, timeFound, goodDay, goodClock, number-at}
-use Rattle.dates.proofs.Shapes.{like-long, bytes-are}
+use Rattle.bytes.specs.Bytes.{Bytes, Digit, fix}
+use Rattle.dates.specs.Date.{like, isTime, found, timeFound, number-at}
+use Rattle.dates.proofs.Shapes.{like-length, like-digit, bytes-are}
+use Rattle.dates.proofs.Stamps.{time-right, by-shape}
 use Rattle.kinds.specs.Kind.{time, formed, allowed}
 use Rattle.kinds.specs.Judged.{judged}
 use Rattle.calendar.specs.Time.{utc, limit, microseconds}
@@ -53,43 +51,29 @@ not-long v n = no-stamp v (λ T. n (T .long))
 pub not-time : (v : Bytes) → (timeFound v ≡ 0 → ⊥) → false ≡ isStamp v
 not-time v n = no-stamp v (λ T. n (T .right))
 
--- WHERE A SHAPE HAS A LETTER stands a digit
-digit-in : (s v : Bytes) → like s v ≡ true → (i : ℕ) → leb 65 (getD s i 0) ≡ true → Digit (getD v i 0)
-digit-in [] v h i k = absurd (false≢true k)
-digit-in (c ∷ s) [] h i k = absurd (false≢true h)
-digit-in (c ∷ s) (x ∷ v) h zero k = digit-is x (rw k at (both (cond (leb 65 c) (digit x) (eqb x c)) (like s v) h .0))
-digit-in (c ∷ s) (x ∷ v) h (suc i) k = digit-in s v (both (cond (leb 65 c) (digit x) (eqb x c)) (like s v) h .1) i k
-
--- what is found of 24 bytes is 0: they have the longest shape, and calendar and clock have them
-both-found : (form value : Bool) → found form value ≡ 0 → (form ≡ true) × (value ≡ true)
-both-found true true e = (refl, refl)
-both-found true false e = absurd (omega (arith, e))
-both-found false value e = absurd (omega (arith, e))
-
+-- OF 24 BYTES that are a time: they have the longest shape, and calendar and clock have them
 abbrev longest : Bytes
 longest = fix "YYYYMMDD-HH:MM:SS.ssssss"
 
 last-shape : (v : Bytes) → length v ≡ 24 → isTime v ≡ true → like longest v ≡ true
 last-shape v n h =
-    go (like longest v)
-    (rw (like-long (fix "YYYYMMDD-HH:MM:SS") v (λ e. omega arith), like-long (fix "YYYYMMDD-HH:MM:SS.sss") v (λ e. omega arith)) at h)
-  where
-    go : (b : Bool) → (b || false) ≡ true → b ≡ true
-    go true e = refl
-    go false e = e
+    by-shape v h
+    (λ s. absurd (omega (arith, n, like-length (fix "YYYYMMDD-HH:MM:SS") v s)))
+    (λ s. absurd (omega (arith, n, like-length (fix "YYYYMMDD-HH:MM:SS.sss") v s)))
+    (λ s. s)
 
 -- THE DIGITS that are tested, of 24 bytes that are a time
 module _ (v : Bytes) (n : length v ≡ 24) (j : timeFound v ≡ 0) where
   shape : like longest v ≡ true
   unfolding timeFound
-  shape = last-shape v n (both-found (isTime v) (goodDay v && goodClock v) j .0)
+  shape = last-shape v n (time-right v j .0)
 
   value : allowed time v ≡ true
   unfolding timeFound allowed
-  value = both-found (isTime v) (goodDay v && goodClock v) j .1
+  value = time-right v j .1
 
   digit-here : (i : ℕ) → leb 65 (getD longest i 0) ≡ true → Digit (getD v i 0)
-  digit-here i k = digit-in longest v shape i k
+  digit-here i k = like-digit longest v shape i k
 
   year-is : number-at 0 4 v ≡ (((getD v 0 0 - 48) * 10 + (getD v 1 0 - 48)) * 10 + (getD v 2 0 - 48)) * 10 + (getD v 3 0 - 48)
   year-is = rw (bytes-are 0 4 v (omega arith)) (omega arith)
