@@ -60,10 +60,10 @@ date-small d h e =
     (C .year-to, C .month-to, omega (arith, C .day-to, days-most (dateOf d .year) (dateOf d .month) (C .month-to)))
 
 -- what lies that many days behind 1 January 1970 is that date
-month-day : (y m d : ℕ) → 1 ≤ m → d ≤ days y m → 1 ≤ d → d - 1 < days y (1 + (m - 1))
+pub month-day : (y m d : ℕ) → 1 ≤ m → d ≤ days y m → 1 ≤ d → d - 1 < days y (1 + (m - 1))
 month-day y m d h k l = let e : 1 + (m - 1) ≡ m = omega arith in rw e (omega arith)
 
-year-day : (y m d : ℕ) → 1 ≤ m → m ≤ 12 → 1 ≤ d → d ≤ days y m → total (days y) 1 (m - 1) + (d - 1) < yearDays y
+pub year-day : (y m d : ℕ) → 1 ≤ m → m ≤ 12 → 1 ≤ d → d ≤ days y m → total (days y) 1 (m - 1) + (d - 1) < yearDays y
 unfolding yearDays
 year-day y m d h k l n = total-below (days y) 1 (m - 1) 12 (yearDays y) (d - 1) refl (omega arith) (month-day y m d h n l)
 

@@ -5,4 +5,9 @@ pub mod Dates
 pub mod Texts
 pub mod Times
 pub mod Named
+pub mod Timed
 pub mod Examples
+pub mod Order
+pub mod Decimals
+pub mod ByClock
+pub mod Promise

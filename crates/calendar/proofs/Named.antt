@@ -66,15 +66,15 @@ none-left [] h = refl
 none-left (x ∷ l) h = absurd (false≢true h)
 
 -- the bytes of a time by the numbers in it
-abbrev written : ℕ → ℕ → ℕ → ℕ → ℕ → ℕ → ℕ → Bytes
+abbrev pub written : ℕ → ℕ → ℕ → ℕ → ℕ → ℕ → ℕ → Bytes
 written y m d h i s u =
     padded 4 y ++ (padded 2 m ++ (padded 2 d ++ (fix "-" ++ (padded 2 h ++ (fix ":" ++ (padded 2 i ++ (fix ":" ++ (padded 2 s ++ (fix "." ++ (padded 6 u ++ []))))))))))
 
-record Shaped (v : Bytes) : Type 0 where
-  is : v ≡ written (number-at 0 4 v) (number-at 4 2 v) (number-at 6 2 v) (number-at 9 2 v) (number-at 12 2 v) (number-at 15 2 v) (number-at 18 6 v)
-  small : number-at 18 6 v < 1000000
+pub record Shaped (v : Bytes) : Type 0 where
+  pub is : v ≡ written (number-at 0 4 v) (number-at 4 2 v) (number-at 6 2 v) (number-at 9 2 v) (number-at 12 2 v) (number-at 15 2 v) (number-at 18 6 v)
+  pub small : number-at 18 6 v < 1000000
 
-shaped : (v : Bytes) → like (fix "YYYYMMDD-HH:MM:SS.ssssss") v ≡ true → Shaped v
+pub shaped : (v : Bytes) → like (fix "YYYYMMDD-HH:MM:SS.ssssss") v ≡ true → Shaped v
 shaped v h =
     let Y = run v 0 (fix "YYYY") (fix "MMDD-HH:MM:SS.ssssss") refl h in
     let M = run v 4 (fix "MM") (fix "DD-HH:MM:SS.ssssss") refl (Y .follows .rest) in
@@ -104,12 +104,12 @@ shaped v h =
     }
 
 -- THE CALENDAR AND THE CLOCK that the dictionary asks for
-abbrev dateIn : Bytes → Date
+abbrev pub dateIn : Bytes → Date
 dateIn v = record { year = number-at 0 4 v; month = number-at 4 2 v; day = number-at 6 2 v }
 
-record Clock (v : Bytes) : Type 0 where
-  hours : number-at 9 2 v ≤ 23
-  minutes : number-at 12 2 v ≤ 59
+pub record Clock (v : Bytes) : Type 0 where
+  pub hours : number-at 9 2 v ≤ 23
+  pub minutes : number-at 12 2 v ≤ 59
 
 calendar-in : (v : Bytes) → goodDay v ≡ true → 1970 ≤ number-at 0 4 v → Calendar (dateIn v)
 unfolding goodDay
@@ -162,11 +162,11 @@ pub record Taken (v : Bytes) : Type 0 where
   pub second : number-at 15 2 v ≤ 59
 
 module _ (v : Bytes) (T : Taken v) where
-  date-good : Calendar (dateIn v)
+  pub date-good : Calendar (dateIn v)
   unfolding allowed
   date-good = calendar-in v (both (goodDay v) (goodClock v) (T .value) .0) (T .year)
 
-  clock-good : Clock v
+  pub clock-good : Clock v
   unfolding allowed
   clock-good = clock-in v (both (goodDay v) (goodClock v) (T .value) .1)
 

@@ -1,2 +1,4 @@
 pub mod Time
+pub mod Later
+pub mod Promise
 pub mod code

@@ -1,8 +1,13 @@
-// Times in UTC: from microseconds since 1970 to the bytes `YYYYMMDD-HH:MM:SS.ssssss`.
+// Times in UTC: from microseconds since 1970 to the bytes `YYYYMMDD-HH:MM:SS.ssssss`; and, of times that come, which of two is the later.
 mod days;
+mod moments;
 
 use days::Date;
 use days::date_of;
+pub use moments::Moment;
+pub use moments::TimeRead;
+pub use moments::is_later;
+pub use moments::read_time;
 ghost use mathlib.Core.Path.{_≡_};
 ghost use mathlib.Core.List.{[], _∷_};
 ghost use Prim.Native.Nat.{_<_, _≤_};
