@@ -17,7 +17,7 @@ use Rattle.message.specs.Message.{absent, bytes}
 use Rattle.gap.specs.Gap.{no-gap, asks, seen}
 use Rattle.moves.specs.Words.{first, _when_, _otherwise_, speaks}
 use Rattle.moves.specs.Session.{Session}
-use Rattle.moves.specs.Seen.{isIt, repeated, isClean}
+use Rattle.moves.specs.Seen.{isIt, repeated, momentIn, _later-than_, isClean}
 use Rattle.moves.specs.Moves.{Deeds, Heartbeat, Write, Fill-to, Reset-to, Anew, Deliver, Gap-becomes, #, N, type, readable, reject, rejection, logout, asking, counted, unserved, served, logon, reset, no-reset, waiting, stranger, rule-1, rule-2, bare-reset, rule-3, served-first, asks-or-not, too-high, rule-4, too-low, rule-5, filled, in-turn, rule-6, active}
 use Rattle.moves.specs.Moves.{OurPeer, bare, reject-type}
 use Rattle.moves.proofs.Words.{then-by, said-when, said-first, said-otherwise, Said, not-said, all-silent}
@@ -121,14 +121,28 @@ module _ (P : Deeds → Type 0) (s : Session) (body : Bytes) where
       go false c u p q r = alone
 
   -- RULE 5
-  pub each-low : P (logout s body 101) → P (reject s body 1 122) → P [] → P (too-low s body)
+  pub each-low : P (logout s body 101) → ((reason tag : ℕ) → reason ≤ 10 → tag ≤ 122 → P (reject s body reason tag)) → P [] → P (too-low s body)
   unfolding too-low
-  each-low new without ignored = go (isIt (fix "Y") (firstField 43 body)) (speaks (firstField 122 body))
+  each-low new rejected ignored =
+      go
+      (isIt (fix "Y") (firstField 43 body))
+      (speaks (firstField 122 body))
+      (speaks (firstField 52 body))
+      (speaks (momentIn (firstField 52 body)))
+      (speaks (momentIn (firstField 122 body)))
+      (momentIn (firstField 122 body) later-than momentIn (firstField 52 body))
     where
-      go : (a b : Bool) → P (first ((logout s body 101 when not a) ∷ (reject s body 1 122 when not b) ∷ []) otherwise [])
-      go true true = ignored
-      go true false = without
-      go false b = new
+      go : (a b c d e f : Bool)
+          → P (first
+          (logout s body 101 when not a ∷ reject s body 1 122 when not b ∷ reject s body 1 52 when not c ∷ reject s body 6 52 when not d ∷ reject s body 6 122 when not e ∷ reject s body 10 122 when f ∷ [])
+          otherwise [])
+      go false b c d e f = new
+      go true false c d e f = rejected 1 122 (omega arith) (omega arith)
+      go true true false d e f = rejected 1 52 (omega arith) (omega arith)
+      go true true true false e f = rejected 6 52 (omega arith) (omega arith)
+      go true true true true false f = rejected 6 122 (omega arith) (omega arith)
+      go true true true true true true = rejected 10 122 (omega arith) (omega arith)
+      go true true true true true false = ignored
 
   -- RULE 6
   pub each-gap : (# s body 36 ≤ N s body → P (counted s body (reject s body 5 36))) → (N s body < # s body 36 → P (Fill-to (# s body 36) ∷ [])) → P (filled s body)

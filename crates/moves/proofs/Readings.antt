@@ -3,8 +3,8 @@
 use Prim.Native.Nat.{ℕ, _-_, _≤_, _<_}
 use native.Mathlib.Omega.{arith}
 use mathlib.Core.Path.{_≡_, refl, sym, ap, _∙_}
-use mathlib.Core.Bool.{Bool, true, false, cond, false≢true}
-use mathlib.Core.Option.{Option, some}
+use mathlib.Core.Bool.{Bool, true, false, cond, not, false≢true}
+use mathlib.Core.Option.{Option, none, some}
 use lib.ListN.{take, drop}
 use borrow.Author.Tests.{lt-leb, le-leb}
 use Rattle.bytes.specs.Bytes.{Bytes, same, within, value}
@@ -16,6 +16,10 @@ use Rattle.kinds.specs.Kind.{isNumber}
 use Rattle.kinds.specs.Judged.{numberOf}
 use Rattle.kinds.specs.declared.Number.{Number}
 use Rattle.kinds.specs.declared.Number.the-variants.{Is, Bad}
+use Rattle.calendar.specs.Later.{isReadable, momentOf, readTime}
+use Rattle.calendar.specs.declared.moments.Moment.{Moment}
+use Rattle.calendar.specs.declared.moments.TimeRead.{TimeRead}
+use Rattle.calendar.specs.declared.moments.TimeRead.the-variants as Time
 use Rattle.table.specs.Dictionary.{typeOf}
 use Rattle.dictionary.specs.Verdict.{typeBy, msgType}
 use Rattle.table.specs.Dictionary.{named, typeIs}
@@ -23,20 +27,15 @@ use Rattle.table.specs.declared.Named.{Named}
 use Rattle.dictionary.specs.declared.Verdict.{Verdict}
 use Rattle.dictionary.specs.declared.Verdict.the-variants.{Clean, Finding, NoBody}
 use Rattle.dictionary.proofs.Types.{type-told}
-use Rattle.moves.specs.Words.{speaks, _otherwise_}
-use Rattle.moves.specs.Seen.{isIt, numberIn, isClean}
+use Rattle.moves.specs.Words.{speaks, _when_, _otherwise_}
+use Rattle.moves.specs.Seen.{isIt, numberIn, momentIn, isClean}
 use Rattle.moves.specs.code.Plan.{typeByte}
-use Rattle.moves.specs.code.Reads.{NumberIn}
+use Rattle.moves.specs.code.Reads.{NumberIn, timeBy, timeIn, isMissing, momentBy}
+use Rattle.moves.specs.declared.times.TimeIn.the-variants as In
 
 -- ITS VALUE is that of the words
 pub value-at : {t : ℕ} {body : Bytes} {r p : Place} → within 1 99_999 t ≡ true → First t body r → r ≡ p → valueAt body p ≡ firstField t body
 value-at {body = body} w F e = ap (valueAt body) (sym e) ∙ F .value w
-
-pub not-there : {t : ℕ} {body : Bytes} {r : Place} → within 1 99_999 t ≡ true → First t body r → r ≡ Absent → false ≡ speaks (firstField t body)
-not-there w F e = ap speaks (value-at w F e)
-
-pub is-there : {t : ℕ} {body : Bytes} {r : Place} {start end : ℕ} → within 1 99_999 t ≡ true → First t body r → r ≡ At start end → true ≡ speaks (firstField t body)
-is-there w F e = ap speaks (value-at w F e)
 
 pub holds-none : {t : ℕ} {body : Bytes} {r : Place} (v : Bytes) → within 1 99_999 t ≡ true → First t body r → r ≡ Absent → false ≡ isIt v (firstField t body)
 holds-none v w F e = ap (isIt v) (value-at w F e)
@@ -115,10 +114,40 @@ pub type-there : {body : Bytes} {r : Place} {start end x : ℕ} (m : Named) → 
     → x ≡ typeByte (typeIs m) → x ≡ typeByte (msgType body)
 type-there {body} {start = start} {end = end} m F e q k = k ∙ ap typeByte (type-told (take (end - start) (drop start body)) q) ∙ ap (λ (o : Option Bytes). typeByte (typeBy o)) (value-at refl F e)
 
+-- ITS TIME
+pub time-missing : {t : ℕ} {body : Bytes} {r : Place} → within 1 99_999 t ≡ true → First t body r → r ≡ Absent → In.Missing ≡ timeIn (firstField t body)
+time-missing w F e = ap timeIn (value-at w F e)
+
+module _ {t : ℕ} {body : Bytes} {r : Place} {start end : ℕ} {x : TimeRead} (w : within 1 99_999 t ≡ true) (F : First t body r) (e : r ≡ At start end)
+    (q : x ≡ readTime (take (end - start) (drop start body))) where
+  pub time-bad : x ≡ Time.Bad → In.Bad ≡ timeIn (firstField t body)
+  time-bad k = ap timeBy (sym k ∙ q) ∙ ap timeIn (value-at w F e)
+
+  pub time-is : {a : Moment} → x ≡ Time.Is a → In.Is a ≡ timeIn (firstField t body)
+  time-is k = ap timeBy (sym k ∙ q) ∙ ap timeIn (value-at w F e)
+
+-- whether it is missing, and its moment
+pub there-is : (o : Option Bytes) → speaks o ≡ not (isMissing (timeIn o))
+there-is none = refl
+there-is (some v) = go (readTime v)
+  where
+    go : (x : TimeRead) → true ≡ not (isMissing (timeBy x))
+    go (Time.Is a) = refl
+    go Time.Bad = refl
+
+pub moment-is : (o : Option Bytes) → momentIn o ≡ momentBy (timeIn o)
+unfolding readTime
+moment-is none = refl
+moment-is (some v) = go (isReadable v)
+  where
+    go : (b : Bool) → momentOf v when b ≡ momentBy (timeBy (cond b (Time.Is (momentOf v)) Time.Bad))
+    go true = refl
+    go false = refl
+
 -- THE VERDICT
 pub is-clean : (v : Verdict) → isClean v ≡ true → v ≡ Clean
 is-clean Clean e = refl
 is-clean (Finding r t) e = absurd (false≢true e)
 is-clean NoBody e = absurd (false≢true e)
 
-pub ruleset readings = (not-there, is-there, holds-none, holds-same, number-none, number-bad, number-low, number-high, number-is, type-none, type-there)
+pub ruleset readings = (holds-none, holds-same, number-none, number-bad, number-low, number-high, number-is, type-none, type-there, time-missing, time-bad, time-is)

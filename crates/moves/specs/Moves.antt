@@ -7,6 +7,7 @@ use mathlib.Core.Option.{Option, some}
 use mathlib.Core.Bool.{Bool, not, _&&_, _||_}
 use Rattle.bytes.specs.Bytes.{Bytes, fix}
 use Rattle.fields.specs.Field.{firstField}
+use Rattle.calendar.specs.declared.moments.Moment.{Moment}
 use Rattle.table.specs.declared.MsgType.{MsgType}
 use Rattle.table.specs.declared.MsgType.the-variants as MsgType
 use Rattle.dictionary.specs.Verdict.{verdict, msgType}
@@ -15,7 +16,7 @@ use Rattle.replies.specs.Reply as Reply
 use Rattle.gap.specs.Gap.{Gap, no-gap, asks, asked-for, seen}
 use Rattle.moves.specs.Words.{_=?_, _<?_, _≤?_, if_then_else_, _when_, first, _otherwise_, speaks}
 use Rattle.moves.specs.Session.{Session, Replay}
-use Rattle.moves.specs.Seen.{isIt, repeated, numberIn, codeOf, reasonOf, tagOf, isClean}
+use Rattle.moves.specs.Seen.{isIt, repeated, numberIn, momentIn, _later-than_, codeOf, reasonOf, tagOf, isClean}
 use Rattle.moves.specs.declared.record.Status.{Status}
 use Rattle.moves.specs.declared.record.Status.the-variants.{Active, Closed}
 
@@ -72,6 +73,10 @@ module _ (s : Session) (body : Bytes) where
   -- its number (read only behind a clean verdict, so that it is one)
   unfoldable pub # : ℕ → ℕ
   # t = numberIn 0 999_999_999 (the t) otherwise 0
+
+  -- the moment of its time
+  abbrev pub moment : ℕ → Option Moment
+  moment t = momentIn (the t)
 
   -- "N is the first field 34; it is unreadable if absent or not of its kind."
   unfoldable pub readable : Option ℕ
@@ -205,9 +210,18 @@ module _ (s : Session) (body : Bytes) where
   unfoldable pub rule-4 : ℕ → Option Deeds
   rule-4 t = too-high t when E <? N
 
-  -- "5. N < E: 43 not Y, Logout. 43=Y without 122, Reject 1, tag 122. Otherwise ignored."
+  -- "5. N < E: 43 not Y, Logout. 43=Y without 122, Reject 1, tag 122. Otherwise ignored." Document 02: "a frame with 43=Y and a 122 later than its 52 is
+  -- now Reject 10, tag 122. .. A missing 52 is Reject 1, tag 52; a 52 or 122 that breaks its form or the calendar is Reject 6 with that tag, 52 first. All
+  -- this follows the check for 122; E stays."
   unfoldable pub too-low : Deeds
-  too-low = first (logout 101 when not (43 holds fix "Y") ∷ reject 1 122 when not (speaks (the 122)) ∷ []) otherwise []
+  too-low = first
+      (logout 101 when not (43 holds fix "Y") ∷
+      reject 1 122 when not (speaks (the 122)) ∷
+      reject 1 52 when not (speaks (the 52)) ∷
+      reject 6 52 when not (speaks (moment 52)) ∷
+      reject 6 122 when not (speaks (moment 122)) ∷
+      reject 10 122 when moment 122 later-than moment 52 ∷
+      []) otherwise []
 
   unfoldable pub rule-5 : Option Deeds
   rule-5 = too-low when N <? E

@@ -16,21 +16,9 @@ ghost use Rattle.fields.specs.Field.{firstField};
 ghost use Rattle.fields.specs.First.{First};
 ghost use Rattle.dictionary.specs.Verdict.{msgType};
 ghost use Rattle.table.specs.Dictionary.{typeIs};
-ghost use Rattle.moves.specs.Words.{speaks};
 ghost use Rattle.moves.specs.Seen.{isIt, isClean};
 ghost use Rattle.moves.specs.code.Reads.{NumberIn};
 ghost use Rattle.moves.specs.code.Plan.{typeByte};
-
-// Whether a field is there.
-pub fn is_there(body: &[u8], tag: u32) -> bool
-    requires { ⌜ within 1 99_999 tag ≡ true ⌝ }
-    ensures { λ r. ⌜ r ≡ speaks (firstField tag (now (body .entry))) ⌝ }
-{
-    match first_field(body, tag) {
-        Place::At { start: _, end: _ } => true,
-        Place::Absent => false,
-    }
-}
 
 // Whether the first field of a tag, which lies at a place, has this value.
 pub fn holds_at(body: &[u8], tag: u32, place: Place, v: &[u8]) -> bool

@@ -98,7 +98,7 @@ module _ (t : ℕ) (s : Session) (body : Bytes) (B : Before (s .E) (s .gap)) whe
     two = λ r h tag l. stranger-leaves tag;
     three = λ r p b. each-reset Leaves s body (λ c. B) (λ c l. B) (λ c l. none-before _);
     four = λ r p b l. each-high Leaves s body t (record { served-asks = λ c y u a o. omega arith; served-seen = λ c y u a. B; only-asks = λ a o. omega arith; only-seen = λ a. B });
-    five = λ r p b l. each-low Leaves s body B B B;
+    five = λ r p b l. each-low Leaves s body B (λ reason tag i j. B) B;
     six = λ r p b e. turn-leaves e;
   })
 

@@ -51,14 +51,14 @@ module _ (t : ℕ) (s : Session) (body : Bytes) where
     two = λ r h tag l. stranger-keeps tag;
     three = λ r p b. each-reset Keeps s body (λ c. refl) (λ c l. refl) (λ c l. absurd (not-taken r p b c l));
     four = λ r p b h. absurd (not-high r p b h);
-    five = λ r p b l. each-low Keeps s body refl refl refl;
+    five = λ r p b l. each-low Keeps s body refl (λ reason tag i j. refl) refl;
     six = λ r p b e. turn-keeps;
   })
 
 pub leaves : (s : Session) (f : Bytes) (t : ℕ) (buf store : Bytes) → LeavesGap s f t buf store
 leaves s f t buf store U not-high not-taken =
     let o = settling (making t s (active s (bodyIn f) t) buf) in
-    let k = active-keeps t s (bodyIn f) (λ r p b h. not-high (record { unrefused = U; numbered = r; peer = p; not-bare = b; above = h }))
+    let k = active-keeps t s (bodyIn f) (λ r p b h. not-high (record { by-number = record { unrefused = U; numbered = r; peer = p; not-bare = b }; above = h }))
     (λ r p b c l. not-taken (record { unrefused = U; numbered = r; peer = p; is-bare = b }) c l) in
     ap (λ (x : Outcome). x .session .gap) (active-step s f t buf store U)
     ∙ ap (unless-past (o .session .E)) k

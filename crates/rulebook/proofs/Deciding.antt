@@ -2,15 +2,17 @@
 -- Assumes nothing.
 use Prim.Native.Nat.{ℕ, _+_, _-_, _≤_, _<_, min}
 use native.Mathlib.Omega.{arith}
-use mathlib.Core.Path.{_≡_, refl, ap, _∙_}
+use mathlib.Core.Path.{_≡_, refl, sym, ap, _∙_}
 use mathlib.Core.Bool.{Bool, true, false, cond, not, _&&_}
 use mathlib.Core.List.{[], _∷_}
-use mathlib.Core.Option.{none, some}
+use mathlib.Core.Option.{Option, none, some}
 use lib.Dec.{eqb, ltb}
 use lib.ListN.{take}
 use borrow.Author.Tests.{lt-ltb, le-ltb, lt-leb, le-leb, eq-eqb, ne-eqb, not-true, not-false}
 use Rattle.bytes.specs.Bytes.{Bytes, fix}
 use Rattle.fields.specs.Field.{firstField}
+use Rattle.calendar.specs.Later.{later}
+use Rattle.calendar.specs.declared.moments.Moment.{Moment}
 use Rattle.dictionary.specs.declared.Verdict.{Verdict}
 use Rattle.dictionary.specs.declared.Verdict.the-variants.{Clean, Finding, NoBody}
 use Rattle.dictionary.specs.Verdict.{verdict, msgType}
@@ -18,16 +20,18 @@ use Rattle.moves.specs.Words.{speaks, first, _when_, _otherwise_}
 use Rattle.gap.specs.Gap.{asks, seen}
 use Rattle.gap.specs.Held.{heldGap}
 use Rattle.moves.specs.Session.{Session, Replay}
-use Rattle.moves.specs.Seen.{isIt, isClean}
+use Rattle.moves.specs.Seen.{isIt, momentIn, isClean}
 use Rattle.moves.specs.Moves.{Start, Gap-becomes, #, N, readable, asking, counted, unserved, served, bare-reset, served-first, asks-or-not, too-high, too-low, filled, reject}
-use Rattle.moves.specs.code.Plan.{planned, summed, says, counts, expects, closes, raised, rejectedBy, typeByte, isBareReset, strangeTag, unservedTag, lastAsked, missedIf, missedBy, misses, resets, serves, Ready}
+use Rattle.moves.specs.code.Plan.{planned, summed, says, counts, expects, closes, raised, rejectedBy, typeByte, isBareReset, strangeTag, unservedTag, isServable, lastAsked, missedIf, missedBy, misses, resets, serves, Ready}
 use Rattle.moves.specs.Held.{sessionOf}
 use Rattle.moves.specs.declared.record.Record.{Record}
-use Rattle.moves.specs.code.Reads.{NumberIn}
+use Rattle.moves.specs.code.Reads.{NumberIn, timeIn, isMissing, momentBy}
 use Rattle.moves.specs.declared.gaps.Missed.{Missed}
 use Rattle.moves.specs.declared.plan.Plan.{Plan}
 use Rattle.moves.specs.declared.plan.Letter.{Letter}
 use Rattle.moves.specs.declared.plan.Letter.the-variants.{Nothing, Reject, Logout}
+use Rattle.moves.specs.declared.times.TimeIn.{TimeIn}
+use Rattle.moves.proofs.Readings.{there-is, moment-is}
 use Rattle.moves.proofs.Types.{agree-2, agree-4, is-type, not-type}
 
 -- a number that was read is the one that the moves read
@@ -110,6 +114,22 @@ module _ (s : Session) (body : Bytes) where
     unfolding lastAsked
     asked-past h l = let k : min m (s .next - 1) ≡ s .next - 1 = omega arith in rw (← (hash s Q), ne-eqb m 0 h, k)
 
+  -- what can be served
+  module _ {x : ℕ} (e : x ≡ typeByte (msgType body)) where
+    pub servable-other : (x ≡ 50 → ⊥) → false ≡ isServable s body
+    servable-other h = rw (not-type agree-2 body e h)
+
+    module _ (h : x ≡ 50) {v : Verdict} {b : Bool} (f : v ≡ verdict body) (k : b ≡ isClean v) where
+      pub servable-unclean : not b ≡ true → false ≡ isServable s body
+      servable-unclean q = rw (is-type agree-2 body e h, ← f, ← k, not-true b q)
+
+      pub servable-if : not b ≡ false → {u : ℕ} → u ≡ unservedTag s body → eqb u 0 ≡ isServable s body
+      servable-if q {u} w = rw (is-type agree-2 body e h, ← f, ← k, not-false b q, unserved-is, ← w) (go (eqb u 0))
+        where
+          go : (c : Bool) → c ≡ not (speaks (cond c none (some (reject s body 5 u))))
+          go true = refl
+          go false = refl
+
   -- RULE 4
   -- what a frame that is too high does behind what is served first
   high-alone : (t : ℕ) → planned body s (misses s (missedBy s (N s body) t .letter) (missedBy s (N s body) t .gap)) ≡ summed s (asks-or-not s body t)
@@ -129,29 +149,20 @@ module _ (s : Session) (body : Bytes) where
       go true = refl
       go false = refl
 
-  module _ (t : ℕ) {n x : ℕ} {m : Missed} (i : n ≡ N s body) (y : m ≡ missedBy s n t) (e : x ≡ typeByte (msgType body)) where
+  module _ (t : ℕ) {n : ℕ} {m : Missed} (i : n ≡ N s body) (y : m ≡ missedBy s n t) where
     alone : {p : Plan} → p ≡ misses s (m .letter) (m .gap) → planned body s p ≡ summed s (asks-or-not s body t)
     alone pw = ap (planned body s) (pw ∙ ap (λ (z : Missed). misses s (z .letter) (z .gap)) (y ∙ ap (λ (k : ℕ). missedBy s k t) i)) ∙ high-alone t
 
-    pub high-other : (x ≡ 50 → ⊥) → {p : Plan} → p ≡ misses s (m .letter) (m .gap) → planned body s p ≡ summed s (too-high s body t)
+    pub high-only : {b : Bool} → b ≡ isServable s body → b ≡ false → {p : Plan} → p ≡ misses s (m .letter) (m .gap) → planned body s p ≡ summed s (too-high s body t)
     unfolding too-high served-first
-    high-other h pw = alone pw ∙ rw (not-type agree-2 body e h)
+    high-only k q pw = alone pw ∙ rw (sym k ∙ q)
 
-    module _ (h : x ≡ 50) {v : Verdict} {b : Bool} (f : v ≡ verdict body) (k : b ≡ isClean v) where
-      pub high-unclean : not b ≡ true → {p : Plan} → p ≡ misses s (m .letter) (m .gap) → planned body s p ≡ summed s (too-high s body t)
-      unfolding too-high served-first
-      high-unclean q pw = alone pw ∙ rw (is-type agree-2 body e h, ← f, ← k, not-true b q)
-
-      module _ (q : not b ≡ false) {u : ℕ} (w : u ≡ unservedTag s body) where
-        pub high-unserved : (u ≡ 0 → ⊥) → {p : Plan} → p ≡ misses s (m .letter) (m .gap) → planned body s p ≡ summed s (too-high s body t)
-        unfolding too-high served-first
-        high-unserved z pw = alone pw ∙ rw (is-type agree-2 body e h, ← f, ← k, not-false b q, unserved-is, ← w, ne-eqb u 0 z)
-
-        pub high-served : u ≡ 0 → {n₇ l : ℕ} → NumberIn 0 7 body n₇ → l ≡ lastAsked s body → {p : Plan} → p ≡ serves s (m .letter) (s .E) n₇ l (m .gap) → planned body s p ≡ summed s (too-high s body t)
-        unfolding too-high served-first served lastAsked
-        high-served z {n₇ = n₇} {l = l} R o pw =
-            ap (planned body s) (pw ∙ ap (λ (d : Missed). serves s (d .letter) (s .E) n₇ l (d .gap)) (y ∙ ap (λ (j : ℕ). missedBy s j t) i)) ∙ high-behind t (record { at = n₇; to = l })
-            ∙ rw (is-type agree-2 body e h, ← f, ← k, not-false b q, unserved-is, ← w, eq-eqb u 0 z, ← (hash s R), o)
+    pub high-served : {b : Bool} → b ≡ isServable s body → b ≡ true → {n₇ l : ℕ} → NumberIn 0 7 body n₇ → l ≡ lastAsked s body → {p : Plan} → p ≡ serves s (m .letter) (s .E) n₇ l (m .gap)
+        → planned body s p ≡ summed s (too-high s body t)
+    unfolding too-high served-first served lastAsked
+    high-served k q {n₇ = n₇} {l = l} R o pw =
+        ap (planned body s) (pw ∙ ap (λ (d : Missed). serves s (d .letter) (s .E) n₇ l (d .gap)) (y ∙ ap (λ (j : ℕ). missedBy s j t) i)) ∙ high-behind t (record { at = n₇; to = l })
+        ∙ rw (sym k ∙ q, ← (hash s R), o)
 
   -- A RESEND REQUEST IN TURN
   pub turn-unserved : {u : ℕ} → u ≡ unservedTag s body → (u ≡ 0 → ⊥) → {p : Plan} → p ≡ counts s (Reject 5 u) → planned body s p ≡ summed s (counted s body (unserved s body otherwise served s body))
@@ -167,13 +178,45 @@ module _ (s : Session) (body : Bytes) where
   unfolding too-low reject readable
   low-first {b = b} e h pw = rw (pw, ← e, not-true b h)
 
-  pub low-without : {b c : Bool} → b ≡ isIt (fix "Y") (firstField 43 body) → not b ≡ false → c ≡ speaks (firstField 122 body) → not c ≡ true → {p : Plan} → p ≡ says s (Reject 1 122) Nothing → planned body s p ≡ summed s (too-low s body)
-  unfolding too-low reject readable
-  low-without {b = b} {c = c} e h f k pw = rw (pw, ← e, not-false b h, ← f, not-true c k)
+  -- what was read of a time: whether it is there, and its moment
+  there : (v : Option Bytes) (o : TimeIn) (x b : Bool) → o ≡ timeIn v → x ≡ isMissing o → x ≡ b → speaks v ≡ not b
+  there v o x b e m k = there-is v ∙ ap (λ (t : TimeIn). not (isMissing t)) (sym e) ∙ ap not (sym m ∙ k)
 
-  pub low-ignored : {b c : Bool} → b ≡ isIt (fix "Y") (firstField 43 body) → not b ≡ false → c ≡ speaks (firstField 122 body) → not c ≡ false → {p : Plan} → p ≡ says s Nothing Nothing → planned body s p ≡ summed s (too-low s body)
-  unfolding too-low reject readable
-  low-ignored {b = b} {c = c} e h f k pw = rw (pw, ← e, not-false b h, ← f, not-false c k)
+  moment-of : (v : Option Bytes) (o : TimeIn) (a : Option Moment) → o ≡ timeIn v → momentBy o ≡ a → momentIn v ≡ a
+  moment-of v o a e k = moment-is v ∙ ap momentBy (sym e) ∙ k
+
+  -- with 43=Y: the first field 122, then the first field 52
+  module _ {b x : Bool} {original : TimeIn} (e : b ≡ isIt (fix "Y") (firstField 43 body)) (h : not b ≡ false) (o : original ≡ timeIn (firstField 122 body)) (m : x ≡ isMissing original) where
+    flagged : isIt (fix "Y") (firstField 43 body) ≡ true
+    flagged = sym e ∙ not-false b h
+
+    pub low-without : x ≡ true → {p : Plan} → p ≡ says s (Reject 1 122) Nothing → planned body s p ≡ summed s (too-low s body)
+    unfolding too-low reject readable
+    low-without k pw = rw (pw, flagged, there _ _ _ _ o m k)
+
+    module _ {y : Bool} {sending : TimeIn} (k : x ≡ false) (q : sending ≡ timeIn (firstField 52 body)) (n : y ≡ isMissing sending) where
+      pub low-unsent : y ≡ true → {p : Plan} → p ≡ says s (Reject 1 52) Nothing → planned body s p ≡ summed s (too-low s body)
+      unfolding too-low reject readable
+      low-unsent l pw = rw (pw, flagged, there _ _ _ _ o m k, there _ _ _ _ q n l)
+
+      -- both are there: what their times are
+      module _ (l : y ≡ false) where
+        pub low-bad-sending : momentBy sending ≡ none → {p : Plan} → p ≡ says s (Reject 6 52) Nothing → planned body s p ≡ summed s (too-low s body)
+        unfolding too-low reject readable
+        low-bad-sending z pw = rw (pw, flagged, there _ _ _ _ o m k, there _ _ _ _ q n l, moment-of _ _ _ q z)
+
+        pub low-bad-original : {a : Moment} → momentBy sending ≡ some a → momentBy original ≡ none → {p : Plan} → p ≡ says s (Reject 6 122) Nothing → planned body s p ≡ summed s (too-low s body)
+        unfolding too-low reject readable
+        low-bad-original z w pw = rw (pw, flagged, there _ _ _ _ o m k, there _ _ _ _ q n l, moment-of _ _ _ q z, moment-of _ _ _ o w)
+
+        module _ {a f : Moment} {c : Bool} (z : momentBy sending ≡ some a) (w : momentBy original ≡ some f) (j : c ≡ later f a) where
+          pub low-later : c ≡ true → {p : Plan} → p ≡ says s (Reject 10 122) Nothing → planned body s p ≡ summed s (too-low s body)
+          unfolding too-low reject readable
+          low-later i pw = rw (pw, flagged, there _ _ _ _ o m k, there _ _ _ _ q n l, moment-of _ _ _ q z, moment-of _ _ _ o w, ← j, i)
+
+          pub low-ignored : c ≡ false → {p : Plan} → p ≡ says s Nothing Nothing → planned body s p ≡ summed s (too-low s body)
+          unfolding too-low reject readable
+          low-ignored i pw = rw (pw, flagged, there _ _ _ _ o m k, there _ _ _ _ q n l, moment-of _ _ _ q z, moment-of _ _ _ o w, ← j, i)
 
   -- A GAP FILL IN TURN
   module _ {n m : ℕ} (e : n ≡ N s body) (R : NumberIn 0 36 body m) where
@@ -204,4 +247,4 @@ module _ (r : Record) (body : Bytes) (R : Ready r) {b : Bool} (e : b ≡ isIt (t
     pub strange-none : not d ≡ false → 0 ≡ strangeTag (sessionOf r) body
     strange-none k = rw (le-leb (r .peerLen) 11 (R .peer), ← e, not-false b h, le-leb (r .oursLen) 11 (R .ours), ← f, not-false d k)
 
-pub ruleset deciding = (rejected-clean, rejected-none, rejected-is, reset-verdict, reset-below, reset-taken, begin-high, end-none, end-low, end-high, asked-all, asked-end, asked-past, high-other, high-unclean, high-unserved, high-served, turn-unserved, turn-served, low-first, low-without, low-ignored, fill-low, fill-on, strange-peer, strange-ours, strange-none, stranger-next, stranger-other)
+pub ruleset deciding = (rejected-clean, rejected-none, rejected-is, reset-verdict, reset-below, reset-taken, begin-high, end-none, end-low, end-high, asked-all, asked-end, asked-past, servable-other, servable-unclean, servable-if, high-only, high-served, turn-unserved, turn-served, fill-low, fill-on, strange-peer, strange-ours, strange-none, stranger-next, stranger-other)

@@ -1,9 +1,11 @@
 // The moves: what a session does with the body of a good frame, decided rule by rule.
+mod low;
 mod serving;
 
+use crate::low::rule_5;
+use crate::serving::is_servable;
 use crate::serving::last_asked;
 use crate::serving::serve;
-use crate::serving::unserved_tag;
 use dictionary::Verdict;
 use dictionary::verdict_on;
 use fields::Place;
@@ -22,7 +24,6 @@ use moves::expecting;
 use moves::holds;
 use moves::holds_at;
 use moves::is_clean;
-use moves::is_there;
 use moves::missing;
 use moves::number_at;
 use moves::number_in;
@@ -33,7 +34,7 @@ ghost use mathlib.Core.Path.{_≡_};
 ghost use lib.Dec.{eqb};
 ghost use Rattle.fields.specs.First.{First};
 ghost use Rattle.dictionary.specs.Verdict.{msgType};
-ghost use Rattle.moves.specs.Moves.{N, acceptable, waiting, active, bare-reset, too-high, too-low, filled, in-turn};
+ghost use Rattle.moves.specs.Moves.{N, acceptable, waiting, active, bare-reset, too-high, filled, in-turn};
 ghost use Rattle.moves.specs.Held.{sessionOf};
 ghost use Rattle.moves.specs.code.Plan.{planned, summed, counts, closes, raised, rejectedBy, strangeTag, isBareReset, typeByte, Ready};
 
@@ -129,39 +130,12 @@ fn rule_4(r: Record, n: u64, t: u8, body: &[u8], time: u64) -> Plan
 {
     let m = asks_or_not(r, n, time);
     let ask = m.letter;
-    if t != b'2' {
-        return missing(r, ask, m.gap);
+    if is_servable(r, t, body) {
+        let begin = number_in(body, 7, 0);
+        let last = last_asked(r, body);
+        return moves::serving(r, ask, r.expected, begin, last, m.gap);
     }
-    let v = verdict_on(body);
-    if !is_clean(v) {
-        return missing(r, ask, m.gap);
-    }
-    if unserved_tag(r, body) != 0 {
-        return missing(r, ask, m.gap);
-    }
-    let begin = number_in(body, 7, 0);
-    let last = last_asked(r, body);
-    moves::serving(r, ask, r.expected, begin, last, m.gap)
-}
-
-// Rule 5: N < E.
-fn rule_5(r: Record, body: &[u8]) -> Plan
-    ensures { λ p. ⌜ planned (now (body .entry)) (sessionOf r) p ≡ summed (sessionOf r) (too-low (sessionOf r) (now (body .entry))) ⌝ }
-{
-    if !holds(body, 43, b"Y") {
-        return closing(r, Letter::Logout { why: 101 }, Letter::Nothing, r.expected);
-    }
-    if !is_there(body, 122) {
-        return saying(
-            r,
-            Letter::Reject {
-                reason: 1,
-                tag: 122,
-            },
-            Letter::Nothing,
-        );
-    }
-    saying(r, Letter::Nothing, Letter::Nothing)
+    missing(r, ask, m.gap)
 }
 
 // A Reject of the message that came, and E + 1.

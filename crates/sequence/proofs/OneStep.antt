@@ -233,7 +233,7 @@ module _ (s : Session) (body : Bytes) where
         only-asks = λ a. out-of-turn (λ e. omega arith) (asking s body t (s .gap)) refl;
         only-seen = λ a. out-of-turn (λ e. omega arith) (Gap-becomes (seen (N s body) (s .gap)) ∷ []) refl;
       });
-      five = λ r p b l. each-low Moved s body (out-of-turn (λ e. omega arith) (logout s body 101) refl) (out-of-turn (λ e. omega arith) (reject s body 1 122) refl) (out-of-turn (λ e. omega arith) [] refl);
+      five = λ r p b l. each-low Moved s body (out-of-turn (λ e. omega arith) (logout s body 101) refl) (λ reason tag i j. out-of-turn (λ e. omega arith) (reject s body reason tag) refl) (out-of-turn (λ e. omega arith) [] refl);
       six = λ r p b e. turn-why st r p e b;
     })
 

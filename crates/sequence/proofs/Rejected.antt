@@ -122,7 +122,7 @@ module _ (s : Session) (body : Bytes) where
       two = λ r h tag l. absurd (h p);
       three = λ r q k. never b k;
       four = λ r q k l e. never (tame t s (too-high s body t) buf (high-tame t)) e;
-      five = λ r q k l. each-low (λ (ds : Deeds). rejects (making t s ds buf) ≡ true → N s body < afterAll t s ds .E) s body (λ e. omega arith) (λ e. omega arith) (λ e. omega arith);
+      five = λ r q k l. each-low (λ (ds : Deeds). rejects (making t s ds buf) ≡ true → N s body < afterAll t s ds .E) s body (λ e. omega arith) (λ reason tag i j e. omega arith) (λ e. omega arith);
       six = λ r q k n e. turn-passes n;
     })
 

@@ -19,6 +19,7 @@ use Rattle.message.specs.Unfit.{rejected, required, compID}
 use Rattle.message.specs.Whole.{bodyIn, good}
 use Rattle.replies.specs.Reply as Reply
 use Rattle.calendar.specs.Time.{yearDays, inYear, dateOf, utc}
+use Rattle.calendar.specs.Later.{momentOf, later}
 use Rattle.gap.specs.Gap.{passed, asks, unless-past, bounded}
 use Rattle.moves.specs.Session.{inRange}
 use Rattle.moves.specs.Moves.{#, readable, reject, reject-type, acceptable, logon, reset, no-reset, waiting, unserved, served, rule-1, rule-2, bare-reset, rule-3, served-first, asks-or-not, too-high, rule-4, too-low, rule-5, filled, in-turn, rule-6, active}
@@ -69,7 +70,7 @@ abbrev idle : List Turn
 idle = Ours (Tick half-past-nine empty) ∷ []
 
 computed : Day × Wrong
-unfolding writes decimal isStore fixt partOf firstField isBody kindOf isNumber formed goodDay goodClock allowed №453 №580 №552 header code35 fields typeOf administrative groupsOf member rowsOf inDictionary incomplete closing rule1 left rule2 skipped rule3 rule4 rule5 rule6 rule7 rule8 rule9 rule10 rules4to10 said taken after verdict framed own order written Reply.heartbeat Reply.logon Reply.resendRequest Reply.reject Reply.gapFill Reply.logout bodyIn good yearDays inYear dateOf utc compID inRange # readable reject reject-type acceptable logon reset no-reset waiting unserved served rule-1 rule-2 bare-reset rule-3 served-first asks-or-not too-high rule-4 passed asks unless-past bounded too-low rule-5 filled in-turn rule-6 active spent refusals turned-away step due tick reconnect Sequence.taken resetBy filledBy countedBy shareOf amountText takes sent rejected required isDecimal decimalOf Reporting.message Reporting.refusals Reporting.report Replaying.refusals Replaying.replay zeros
+unfolding writes decimal isStore fixt partOf firstField isBody kindOf isNumber formed goodDay goodClock allowed №453 №580 №552 header code35 fields typeOf administrative groupsOf member rowsOf inDictionary incomplete closing rule1 left rule2 skipped rule3 rule4 rule5 rule6 rule7 rule8 rule9 rule10 rules4to10 said taken after verdict framed own order written Reply.heartbeat Reply.logon Reply.resendRequest Reply.reject Reply.gapFill Reply.logout bodyIn good yearDays inYear dateOf utc compID inRange # readable reject reject-type acceptable logon reset no-reset waiting unserved served rule-1 rule-2 bare-reset rule-3 served-first asks-or-not too-high rule-4 passed asks unless-past bounded momentOf later too-low rule-5 filled in-turn rule-6 active spent refusals turned-away step due tick reconnect Sequence.taken resetBy filledBy countedBy shareOf amountText takes sent rejected required isDecimal decimalOf Reporting.message Reporting.refusals Reporting.report Replaying.refusals Replaying.replay zeros
 computed = (
   record {
     no-reset = (refl, (refl, (refl, (refl, (refl, (refl, (refl, (refl, (refl, (refl, (refl, (refl, (refl, (refl, (refl, tt)))))))))))))));

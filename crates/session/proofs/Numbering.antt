@@ -107,7 +107,7 @@ module _ (s : Session) (body : Bytes) where
     two = λ r h tag l. stranger-plain tag;
     three = λ r p b. each-reset AllPlain s body (λ c. (tt, tt)) (λ c l. (tt, tt)) (λ c l. (tt, (tt, tt)));
     four = λ r p b h. each-high AllPlain s body t (record { served-asks = λ c y u a. (tt, (tt, (tt, tt))); served-seen = λ c y u a. (tt, (tt, tt)); only-asks = λ a. (tt, (tt, tt)); only-seen = λ a. (tt, tt) });
-    five = λ r p b l. each-low AllPlain s body (tt, (tt, tt)) (tt, tt) tt;
+    five = λ r p b l. each-low AllPlain s body (tt, (tt, tt)) (λ reason tag i j. (tt, tt)) tt;
     six = λ r p b e. turn-plain;
   })
 

@@ -98,7 +98,7 @@ module _ (s : Session) (f : Bytes) (t : ℕ) (buf store : Bytes) where
         only-asks = λ a. kept refl (λ e. e);
         only-seen = λ a. kept refl (λ e. e);
       });
-      five = λ r p b l. each-low Goes s body (dropped refl refl) (kept refl (λ e. e)) (kept refl (λ e. e));
+      five = λ r p b l. each-low Goes s body (dropped refl refl) (λ reason tag i j. kept refl (λ e. e)) (kept refl (λ e. e));
       six = λ r p b e. turn-moves r p e;
     })
 

@@ -16,7 +16,7 @@ use Rattle.replies.specs.Reply.{optional}
 use Rattle.gap.specs.Gap.{Gap, no-gap, asks, asked-for, seen, unless-past, bounded}
 use Rattle.gap.specs.Held.{gapOf, heldGap}
 use Rattle.gap.specs.declared.Gap as Code
-use Rattle.moves.specs.Words.{first, _otherwise_}
+use Rattle.moves.specs.Words.{first, _otherwise_, speaks}
 use Rattle.moves.specs.Session.{Session, Replay, no-replay}
 use Rattle.moves.specs.Seen.{isIt, repeated, numberIn, codeOf, reasonOf, tagOf}
 use Rattle.moves.specs.Moves as Words
@@ -158,6 +158,10 @@ module _ (s : Session) (body : Bytes) where
   -- the tag for which a Resend Request is rejected, or 0
   unfoldable pub unservedTag : ℕ
   unservedTag = cond (ltb (L s body) (b s body)) 7 (cond (ltb 0 (e s body) && ltb (e s body) (b s body)) 16 0)
+
+  -- "An incoming Resend Request, if clean and not rejected below"
+  abbrev pub isServable : Bool
+  isServable = Words.type s body "2" && Words.clean s body && not (speaks (Words.unserved s body))
 
   -- the last number that a Resend Request asks for
   unfoldable pub lastAsked : ℕ

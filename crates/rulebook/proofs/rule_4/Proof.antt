@@ -1,6 +1,6 @@
-use borrow.Author.Needs.{needs}
-use native.Mathlib.Omega.{arith}
+-- `rule_4`: served first, or it only asks or not.
 use Rattle.rulebook.proofs.Deciding.{deciding}
+use borrow.Author.Needs.{needs}
 use Rattle.rulebook.proofs.rule_4.Statement.{statement}
 use Rattle.rulebook.proofs.rule_4.Tie as tie
 
@@ -10,15 +10,9 @@ rule-4-spec =
     (tie.spec
     (λ c κs. search needs)
     (λ c κs. search needs)
-    (λ c. search deciding)
     (λ c κs. search needs)
     (λ c κs. search needs)
     (λ c κs. search needs)
     (λ c. search deciding)
-    (λ c κs. search needs)
-    (λ c κs. search needs)
-    (λ c. search deciding)
-    (λ c κs. search needs)
-    (λ c κs. search needs)
     (λ c κs. search needs)
     (λ c. search deciding))
