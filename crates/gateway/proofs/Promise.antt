@@ -33,6 +33,7 @@ use Rattle.store.proofs.Promise as Store
 use Rattle.replaying.proofs.Promise as Replaying
 use Rattle.sequence.proofs.Promise as Sequence
 use Rattle.requests.proofs.Promise as Requests
+use Rattle.duplicates.proofs.Promise as Duplicates
 use Rattle.report.proofs.Promise as ReportMessage
 use Rattle.reporting.proofs.Promise as Reporting
 use Rattle.readback.proofs.Promise as Back
@@ -141,4 +142,5 @@ promise =
       replays = Replaying.promise;
       sequence = Sequence.promise;
       requests = Requests.promise;
+      duplicates = Duplicates.promise;
     }

@@ -21,9 +21,9 @@ use Rattle.readback.specs.Back.{readBack, wordsBy}
 use Rattle.readback.specs.Back as ReadBack
 use Rattle.border.specs.Numbers.{refusalOf, inWords, anyOf}
 
--- fixgw_version: 2.2.0
+-- fixgw_version: 2.3.0
 abbrev pub version : ℕ
-version = 20_200
+version = 20_300
 
 -- fixgw_read: the bytes skipped and the frame's length, or the bytes to drop
 abbrev pub readNumber : Answer → ℕ

@@ -46,6 +46,7 @@ use Rattle.replaying.specs.Call.{its-table, replay}
 use Rattle.replaying.specs.Promise as Replaying
 use Rattle.sequence.specs.Promise as Sequence
 use Rattle.requests.specs.Promise as Requests
+use Rattle.duplicates.specs.Promise as Duplicates
 use Rattle.moves.specs.declared.record.Record.{Record}
 use Rattle.gateway.specs.Border.{ReadOut, PutOut, DropOut, BodyOut, FieldOut, FirstOut, VerdictOut, ReportValuesOut}
 use Rattle.border.specs.Numbers.{refusalOf}
@@ -247,3 +248,5 @@ pub record Promise : Type 0 where
   pub sequence : Sequence.Promise
   -- "One request for each gap", in any run of all calls, and what the record says of a gap behind each
   pub requests : Requests.Promise
+  -- "Original time later than the resend": what a frame that is too low comes to, by its two times
+  pub duplicates : Duplicates.Promise

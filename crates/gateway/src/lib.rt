@@ -31,5 +31,5 @@ ghost use Rattle.gateway.specs.Border.{version};
 pub extern "C" fn fixgw_version() -> u32
     ensures { λ r. ⌜ r ≡ version ⌝ }
 {
-    20_200
+    20_300
 }

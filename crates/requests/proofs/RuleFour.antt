@@ -24,16 +24,16 @@ module _ (s : Session) (f : Bytes) (t : ℕ) (buf store : Bytes) (T : TooHigh s 
   -- of the six rules only the fourth speaks
   high-is : active s body t ≡ too-high s body t
   high-is = each-rule (λ (ds : Deeds). ds ≡ too-high s body t) s body t (record {
-    one = λ r. absurd (false≢true (sym r ∙ T .numbered));
-    two = λ r h tag l. absurd (h (T .peer));
-    three = λ r p b. absurd (false≢true (sym (T .not-bare) ∙ b));
+    one = λ r. absurd (false≢true (sym r ∙ T .by-number .numbered));
+    two = λ r h tag l. absurd (h (T .by-number .peer));
+    three = λ r p b. absurd (false≢true (sym (T .by-number .not-bare) ∙ b));
     four = λ r p b h. refl;
     five = λ r p b l. let h = T .above in absurd (omega (arith, h, l));
     six = λ r p b e. let h = T .above in absurd (omega (arith, h, e));
   })
 
   high-step : step s f t buf store ≡ settling (making t s (too-high s body t) buf)
-  high-step = active-step s f t buf store (T .unrefused) ∙ ap (λ (ds : Deeds). settling (making t s ds buf)) high-is
+  high-step = active-step s f t buf store (T .by-number .unrefused) ∙ ap (λ (ds : Deeds). settling (making t s ds buf)) high-is
 
   -- what an outcome must be like
   record Answers (o : Outcome) : Type 0 where

@@ -9,15 +9,15 @@ use Rattle.bytes.specs.Bytes.{Bytes, fix}
 use Rattle.message.specs.Whole.{bodyIn}
 use Rattle.calendar.specs.Time.{utc}
 use Rattle.gap.specs.Gap.{no-gap, opened, re-ask, asks, asked-for, seen, unless-past}
-use Rattle.moves.specs.Words.{_<?_, if_then_else_, speaks}
+use Rattle.moves.specs.Words.{_<?_, if_then_else_}
 use Rattle.moves.specs.Session.{Session}
-use Rattle.moves.specs.Moves.{OurPeer, bare, ResendRequest, letter, #, readable, N, clean, _holds_}
+use Rattle.moves.specs.Moves.{ResendRequest, letter, #, N, clean, _holds_}
 use Rattle.moves.specs.declared.record.Status.the-variants.{Waiting, Active}
 use Rattle.session.specs.Calls.{Outcome, step, Step, Tick, OurLogout, OurTestRequest, Reconnect}
-use Rattle.session.specs.Delivery.{Unrefused, Reset}
+use Rattle.session.specs.Delivery.{Unrefused, ByNumber, Reset}
 use Rattle.session.specs.declared.Refusal.{Refusal}
 use Rattle.session.specs.declared.Answer.the-variants.{Refused}
-use Rattle.replaying.specs.Run.{Turn, Ours, OurReport, OurReplay, turn, run, final}
+use Rattle.replaying.specs.Run.{Turn, Ours, OurReport, OurReplay, turn, final}
 
 -- a gap that was asked for at the time t: it is open for E
 pub record Asked (t : ℕ) (s : Session) : Type 0 where
@@ -40,10 +40,7 @@ module _ (s : Session) (f : Bytes) (t : ℕ) (buf store : Bytes) where
 
   -- A FRAME THAT IS TOO HIGH: the step comes to rule 4
   pub record TooHigh : Type 0 where
-    pub unrefused : Unrefused s f t buf store
-    pub numbered : speaks (readable s body) ≡ true
-    pub peer : OurPeer s body
-    pub not-bare : bare s body ≡ false
+    pub by-number : ByNumber s f t buf store
     pub above : s .E < N s body
 
   -- "Resend Request 7=E, 16=0", with the next number out

@@ -59,10 +59,14 @@ module _ (s : Session) (f : Bytes) (t : ℕ) (buf store : Bytes) where
     -- and it always is
     pub delivers : Unrefused → Deliverable s body → result ≡ handed-on
 
+  -- THE REJECT of the message with a reason and a tag, as our next number
+  abbrev pub reject-with : ℕ → ℕ → Bytes
+  reject-with reason tag = letter (s .ours) (s .peers) (s .next) (utc t) (Reject (N s body) tag (repeated (codeOf (msgType body))) reason)
+
   -- THE SLIPS
   -- "a verdict gives Reject, E + 1": one message, with the verdict's reason and tag
   abbrev pub the-reject : Bytes
-  the-reject = letter (s .ours) (s .peers) (s .next) (utc t) (Reject (N s body) (tagOf (verdict body)) (repeated (codeOf (msgType body))) (reasonOf (verdict body)))
+  the-reject = reject-with (reasonOf (verdict body)) (tagOf (verdict body))
 
   -- "in rule 6 an AE from a member, whatever its verdict, is Reject 11, tag 35, no 372" (document 02)
   abbrev pub the-type-reject : Bytes
@@ -77,6 +81,13 @@ module _ (s : Session) (f : Bytes) (t : ℕ) (buf store : Bytes) where
 
   abbrev pub type-rejected : Outcome
   type-rejected = rejected-by the-type-reject
+
+  -- a frame that comes to the rules that go by its number, 4 to 6: no refusal stands before them, and none of rules 1 to 3
+  pub record ByNumber : Type 0 where
+    pub unrefused : Unrefused
+    pub numbered : speaks (readable s body) ≡ true
+    pub peer : OurPeer s body
+    pub not-bare : bare s body ≡ false
 
   -- "Type 4 without 123=Y" that comes to rule 3: no refusal, rule 1 or rule 2 stands before it
   pub record Reset : Type 0 where

@@ -1,0 +1,3 @@
+pub mod RuleFive
+pub mod Worked
+pub mod Promise

@@ -1,0 +1,3 @@
+pub mod Duplicates
+pub mod Day
+pub mod Promise
