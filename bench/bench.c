@@ -140,6 +140,7 @@ static const struct row rows[] = {
     BY("step, Heartbeat with a finding: Reject out", active_step, unclean, 2000),
     BY("step, Heartbeat too high: Resend Request out", active_step, too_high, 2000),
     BY("step, Heartbeat too high in a gap: nothing out", gap_step, too_high, 2000),
+    BY("step, Heartbeat too low, a duplicate: nothing out", active_step, duplicate, 2000),
     ON("tick, Heartbeat out", TICK, heartbeat, 2000),
     BY("logout, Logout out", logout, logout_out, 2000),
     BY("test request, Test Request out", test_request, test_request_out, 2000),
@@ -461,6 +462,8 @@ static const char *const bodies[] = {
     "35=0|49=MM|34=2|52=20240102-09:30:00|", "35=AD|49=MM|56=G|34=2|52=20240102-09:30:00|",
     "35=0|34=2|56=GW|49=MM|43=N|52=20240102-09:30:00|", "35=0|34=2|49=MM|34=9|49=X|56=GW|52=20240102-09:30:00|",
     HEADER("0") "43=Y|", HEADER("0") "43=Y|122=20240102-09:29:00|", HEADER("0") "43=Y|122=|", HEADER("0") "43=|122=|",
+    HEADER("0") "43=Y|122=20240102-09:30:00.001|", HEADER("AE") "43=Y|122=20240102-09:31:00|", HEADER("F") "43=Y|122=x|",
+    "35=0|49=MM|56=GW|34=2|43=Y|122=20240102-09:29:00|", "35=1|49=MM|56=GW|34=2|52=20240102-09:30|43=Y|122=x|",
 };
 
 static const struct fixgw_session records[] = {

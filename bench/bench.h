@@ -114,7 +114,7 @@ void check_fields(void);
 
 /* ---- Replies (bench_replies.c) ----------------------------------------------------------------------------------- */
 
-extern struct bytes logon, reset_logon, logout, unclean, too_high, logout_out, test_request_out;
+extern struct bytes logon, reset_logon, logout, unclean, too_high, duplicate, logout_out, test_request_out;
 
 void make_replies(void);
 run active_step_ours, active_step_plain, waiting_step_ours, waiting_step_plain, gap_step_ours, gap_step_plain;

@@ -4,7 +4,7 @@
 #define SENT(type) "35=" type "|49=GW|56=MM|34=2|52=20240102-09:30:00.000000|"
 #define TEST_ID "ARE YOU THERE"
 
-struct bytes logon, reset_logon, logout, unclean, too_high, logout_out, test_request_out;
+struct bytes logon, reset_logon, logout, unclean, too_high, duplicate, logout_out, test_request_out;
 
 static const struct fixgw_session waiting = RECORD(2, 2, FIXGW_WAITING, 2, 2, 30, 0);
 static const struct fixgw_session in_gap = IN_GAP(FIXGW_ACTIVE, 2, 2, 8, CALL_TIME);
@@ -19,6 +19,7 @@ void make_replies(void)
     make_frame(&logout, HEADER("5"));
     make_frame(&unclean, HEADER("0") "112=|");
     make_frame(&too_high, NUMBERED("0", "9"));
+    make_frame(&duplicate, NUMBERED("0", "1") "43=Y|122=20240102-09:29:00.000000|");
     make_frame(&logout_out, SENT("5") "1409=101|");
     make_frame(&test_request_out, SENT("1") "112=" TEST_ID "|");
 }
@@ -163,6 +164,37 @@ static void check_reply(const struct fixgw_session *session, const struct bytes 
     insist(first_type(our_reply, len) == type, "the reply of a step");
 }
 
+/* What 52 and 122 of a duplicate may hold, the field's name with it or no field. */
+static const char *const sendings[] = {
+    "", "52=|", "52=x|", "52=20240102-09:30:00|", "52=20240102-09:30:00.000|", "52=20240102-09:30:00.000000|",
+    "52=20240102-09:30:00.120|", "52=20240102-09:30:00.120000|", "52=20240102-09:30:60|", "52=20240102-09:30:60.999999|",
+    "52=20240102-09:31:00|", "52=20240102-10:00:00|", "52=20240103-00:00:00|", "52=20240201-00:00:00|",
+    "52=20250101-00:00:00|", "52=20230229-09:30:00|", "52=20240102-24:00:00|", "52=20240102-09:30:00.1|",
+};
+static const char *const originals[] = {
+    "", "122=|", "122=x|", "122=20240102-09:30:00|", "122=20240102-09:30:00.000|", "122=20240102-09:30:00.000001|",
+    "122=20240102-09:30:00.120|", "122=20240102-09:30:00.119999|", "122=20240102-09:30:00.120001|",
+    "122=20240102-09:30:59.999999|", "122=20240102-09:30:60|", "122=20240102-09:31:00|", "122=20240102-10:00:00.001|",
+    "122=20240103-00:00:00|", "122=20240201-00:00:00|", "122=20250101-00:00:00|", "122=20230229-09:30:00|",
+    "122=20240102-24:00:00|", "122=20240102-09:30:00.1|", "122=20240102-09:30:00|122=20990101-00:00:00|",
+};
+
+/* Each with each, 122 behind 52 and before it, in a message of a type that is known and in one that is not. */
+static void check_duplicates(void)
+{
+    static const char *const fronts[] = { "35=AD|49=MM|56=GW|34=1|43=Y|", "35=ZZ|49=MM|56=GW|34=1|43=Y|" };
+    static struct bytes frame;
+    char body[200];
+    for (size_t i = 0; i < sizeof sendings / sizeof sendings[0]; i++)
+        for (size_t j = 0; j < sizeof originals / sizeof originals[0]; j++)
+            for (size_t way = 0; way < 4; way++) {
+                const char *first = way & 1 ? originals[j] : sendings[i], *second = way & 1 ? sendings[i] : originals[j];
+                snprintf(body, sizeof body, "%s%s%s", fronts[way / 2], first, second);
+                make_frame(&frame, body);
+                check_step(body, &active, &frame, frame.len, CALL_TIME, FIXGW_LEAST_REPLY_ROOM);
+            }
+}
+
 void check_replies(void)
 {
     check_reply(&waiting, &logon, 'A');
@@ -171,6 +203,8 @@ void check_replies(void)
     check_reply(&active, &unclean, '3');
     check_reply(&active, &too_high, '2');
     check_reply(&in_gap, &too_high, 0);
+    check_reply(&active, &duplicate, 0);
+    check_duplicates();
     logout_ours(NULL, 0);
     insist(memcmp(our_reply, logout_out.at, logout_out.len) == 0, "the venue's Logout");
     test_request_ours(NULL, 0);

@@ -5,7 +5,7 @@
 #include "plain_inside.h"
 
 /* 373 of a Reject, and 1409 of a Logout. */
-enum { REQUIRED_MISSING = 1, BAD_VALUE = 5, BAD_COMP_ID = 9, BAD_TYPE = 11, OTHER = 99 };
+enum { REQUIRED_MISSING = 1, BAD_VALUE = 5, BAD_FORM = 6, BAD_COMP_ID = 9, BAD_SENDING_TIME = 10, BAD_TYPE = 11, OTHER = 99 };
 enum { LOGOUT_COMPLETE = 4, ENDED_BY_GATEWAY = 101 };
 
 /* The value of a field; nowhere if the field is absent. */

@@ -1,6 +1,7 @@
 /* A plain C11 session of documents 01 and 02, its step, over the reader and verdict of plain.c: the moves change the record
    and write their replies straight away. It shares nothing with the library. */
 #include "plain_replies.h"
+#include "plain_values.h"
 
 /* ---- What a move reads ------------------------------------------------------------------------------------------- */
 
@@ -36,7 +37,7 @@ static int is_yes(struct value value)
 }
 
 /* A number of 1 to 12 digits up to 999,999,999; 0 for anything else. */
-static uint64_t number(struct value value)
+static uint64_t number_in(struct value value)
 {
     uint64_t total = 0;
     if (value.size == 0 || value.size > NUMBER_DIGITS)
@@ -48,6 +49,28 @@ static uint64_t number(struct value value)
         total = 10 * total + digit;
     }
     return total > GREATEST_NUMBER ? 0 : total;
+}
+
+enum { UP_TO_SECONDS = 17 };                /* YYYYMMDD-HH:MM:SS */
+
+static int is_time(struct value value)
+{
+    return check_time(value.at, value.size) == 0;
+}
+
+static uint32_t micros(struct value time)
+{
+    const uint8_t *decimals = time.at + UP_TO_SECONDS + 1;
+    if (time.size == UP_TO_SECONDS)
+        return 0;
+    return time.size == UP_TO_SECONDS + 4 ? 1000 * number(decimals, 3) : number(decimals, 6);
+}
+
+/* Of two times: up to the seconds the parts stand in the order of their weight, each at its width. */
+static int is_later(struct value time, struct value than)
+{
+    int order = memcmp(time.at, than.at, UP_TO_SECONDS);
+    return order ? order > 0 : micros(time) > micros(than);
 }
 
 /* Where the pass over the header keeps the field at p, if it does. */
@@ -77,7 +100,7 @@ static void read_header(struct call *call)
             missing--;
         }
     }
-    call->n = number(call->number);
+    call->n = number_in(call->number);
 }
 
 static uint8_t type_at(const uint8_t *type)
@@ -141,7 +164,7 @@ static void accept_logon(struct call *call, int reset)
 {
     call->session->status = ACTIVE;
     close_gap(call->session);
-    call->session->heartbeat = number(FIRST(call, "108"));
+    call->session->heartbeat = number_in(FIRST(call, "108"));
     send_logon(call, reset);
 }
 
@@ -209,7 +232,7 @@ static void bare_reset(struct call *call)
         reject_found(call, found);
         return;
     }
-    uint64_t next = number(FIRST(call, "36"));
+    uint64_t next = number_in(FIRST(call, "36"));
     if (next < call->session->expected) {
         send_reject(call, BAD_VALUE, 36);
         return;
@@ -221,7 +244,7 @@ static void bare_reset(struct call *call)
 /* Starts the replay of a clean Resend Request: the tag for which it is rejected, or 0. */
 static uint32_t serve(struct call *call)
 {
-    uint64_t last = call->session->next_out - 1, begin = number(FIRST(call, "7")), end = number(FIRST(call, "16"));
+    uint64_t last = call->session->next_out - 1, begin = number_in(FIRST(call, "7")), end = number_in(FIRST(call, "16"));
     if (begin > last)
         return 7;
     if (0 < end && end < begin)
@@ -240,17 +263,33 @@ static void too_high(struct call *call)
         ask(call);
 }
 
+/* What is wrong with the times of a duplicate. */
+static void judge_times(struct call *call)
+{
+    struct value original = FIRST(call, "122"), sending = FIRST(call, "52");
+    if (!original.at)
+        send_reject(call, REQUIRED_MISSING, 122);
+    else if (!sending.at)
+        send_reject(call, REQUIRED_MISSING, 52);
+    else if (!is_time(sending))
+        send_reject(call, BAD_FORM, 52);
+    else if (!is_time(original))
+        send_reject(call, BAD_FORM, 122);
+    else if (is_later(original, sending))
+        send_reject(call, BAD_SENDING_TIME, 122);
+}
+
 static void too_low(struct call *call)
 {
-    if (!is_yes(FIRST(call, "43")))
+    if (is_yes(FIRST(call, "43")))
+        judge_times(call);
+    else
         send_logout(call, ENDED_BY_GATEWAY);
-    else if (!FIRST(call, "122").at)
-        send_reject(call, REQUIRED_MISSING, 122);
 }
 
 static void fill_gap(struct call *call)
 {
-    uint64_t next = number(FIRST(call, "36"));
+    uint64_t next = number_in(FIRST(call, "36"));
     if (next > call->n)
         call->session->expected = next;
     else

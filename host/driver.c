@@ -250,7 +250,7 @@ static bool answer_landed(struct words *in)
 {
     if (!all_taken(in))
         return false;
-    say("landed 1 4 10 2 3 5");
+    say("landed 1 4 10 2 3 5 6");
     return true;
 }
 

@@ -113,6 +113,7 @@ const char *reason_name(uint64_t reason)
     case FIXGW_REASON_VALUE_INCORRECT: return "value is incorrect";
     case FIXGW_REASON_DATA_FORMAT: return "incorrect data format";
     case FIXGW_REASON_COMP_ID: return "CompID problem";
+    case FIXGW_REASON_SENDING_TIME_ACCURACY: return "SendingTime accuracy problem";
     case FIXGW_REASON_INVALID_MSG_TYPE: return "invalid MsgType";
     case FIXGW_REASON_TAG_TWICE: return "tag appears more than once";
     case FIXGW_REASON_TAG_ORDER: return "tag out of required order";

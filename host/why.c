@@ -66,11 +66,16 @@ static void say_highest(struct words *words, const struct step *step)
     say_number(words, step->after.words[FIXGW_WORD_GAP_HIGHEST]);
 }
 
+/* A number of the message at the front of the reply. */
+static uint64_t in_reply(const struct step *step, uint32_t tag)
+{
+    return number_in(first_field(&step->reply[0], tag));
+}
+
 /* The Reject at the front of the reply, with its reason and its tag. */
 static void say_reject(struct words *words, const struct step *step)
 {
-    uint64_t reason = number_in(first_field(&step->reply[0], FIXGW_TAG_SESSION_REJECT_REASON));
-    uint64_t tag = number_in(first_field(&step->reply[0], FIXGW_TAG_REF_TAG_ID));
+    uint64_t reason = in_reply(step, FIXGW_TAG_SESSION_REJECT_REASON), tag = in_reply(step, FIXGW_TAG_REF_TAG_ID);
     say(words, "Reject ");
     say_number(words, reason);
     say(words, " (");
@@ -177,14 +182,26 @@ static void explain_high(struct words *words, const struct step *step)
     say_highest(words, step);
 }
 
+/* What is wrong with the times of a duplicate, by the reason and the tag of its Reject. */
+static const char *why_not_ignored(const struct step *step)
+{
+    bool is_original = in_reply(step, FIXGW_TAG_REF_TAG_ID) == FIXGW_TAG_ORIG_SENDING_TIME;
+    switch (in_reply(step, FIXGW_TAG_SESSION_REJECT_REASON)) {
+    case FIXGW_REASON_REQUIRED_TAG_MISSING: return is_original ? "no 122: " : "no 52: ";
+    case FIXGW_REASON_DATA_FORMAT: return is_original ? "122 not a time: " : "52 not a time: ";
+    default: return "122 later than 52: ";
+    }
+}
+
 static void explain_low(struct words *words, const struct step *step)
 {
     if (replies_with(step, 0, FIXGW_TYPE_LOGOUT))
         say(words, "rule 5, N < E and 43 is not Y: Logout");
     else if (step->replies == 0)
-        say(words, "rule 5, N < E, 43=Y with 122: a duplicate, ignored");
+        say(words, "rule 5, N < E, 43=Y, 122 not later than 52: a duplicate, ignored");
     else {
-        say(words, "rule 5, N < E, 43=Y, no 122: ");
+        say(words, "rule 5, N < E, 43=Y, ");
+        say(words, why_not_ignored(step));
         say_reject(words, step);
     }
 }

@@ -4,7 +4,7 @@
 #define FIXGW_H
 
 /* The version of this header, as major * 10000 + minor * 100 + patch. fixgw_version() answers that of the library. */
-#define FIXGW_VERSION 20200
+#define FIXGW_VERSION 20300
 
 /* Only these two headers are needed. A compiler that has none, but names its types, is served as well. */
 #ifdef __has_include
@@ -71,6 +71,7 @@ enum fixgw_reason {
     FIXGW_REASON_VALUE_INCORRECT = 5,
     FIXGW_REASON_DATA_FORMAT = 6,
     FIXGW_REASON_COMP_ID = 9,
+    FIXGW_REASON_SENDING_TIME_ACCURACY = 10,
     FIXGW_REASON_INVALID_MSG_TYPE = 11,
     FIXGW_REASON_TAG_TWICE = 13,
     FIXGW_REASON_TAG_ORDER = 14,
