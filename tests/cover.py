@@ -1,6 +1,7 @@
 """Sorts answers into classes, to see that a comparison reaches every refusal, every reason and every rule's replies."""
 from collections import Counter
 
+import cover_duplicates
 import model
 
 TYPE_NAMES = {b"0": "Heartbeat", b"1": "Test Request", b"2": "Resend Request", b"3": "Reject", b"4": "Sequence Reset",
@@ -207,7 +208,8 @@ def classes_of(line, answer):
     if word == "report":
         return classes_of_report(words, answer)
     gaps = classes_of_gap(line, words, answer) if word == "step" and 5 in model.LANDED else ()
-    return [class_of(line, word, words, answer), *gaps]
+    duplicates = cover_duplicates.classes_of_duplicate(line, words, answer) if word == "step" and 6 in model.LANDED else ()
+    return [class_of(line, word, words, answer), *gaps, *duplicates]
 
 
 def class_of(line, word, words, answer):
@@ -312,6 +314,7 @@ OF_GAPS = (
 )
 WANTED += OF_REPORTS if 1 in model.LANDED else ()
 WANTED += OF_GAPS if 5 in model.LANDED else ()
+WANTED += cover_duplicates.WANTED if 6 in model.LANDED else ()
 WANTED += OF_REPLAYS if 4 in model.LANDED else OF_GAP_FILLS
 
 

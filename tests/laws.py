@@ -1,9 +1,10 @@
 """What must hold of a session's calls one behind the other, whatever they are: numbers out used once, replays that cover their
-range, the last 64 reports in the store, refusals that change nothing, numbers in that rise, one request for each gap. It looks
-at requests and answers alone, by splitting them, and does not use the model."""
+range, the last 64 reports in the store, refusals that change nothing, numbers in that rise, one request for each gap,
+duplicates whose original time is not later than the resend. It looks at requests and answers alone, by splitting them, and does
+not use the model."""
 from collections import Counter, namedtuple
 
-from messages import PLACES, first, messages, number, readable, replayed, stamp
+from messages import PLACES, first, messages, number, readable, replayed, said_of_times, stamp
 
 Record = namedtuple("Record", "ours peer status expected next_out heartbeat last at to open gap_for high asked")
 Call = namedtuple("Call", "word time frame before store")       # what was asked: the record and the store as they were lent
@@ -60,13 +61,23 @@ def is_bare_reset(frame):
     return first(frame, 35) == b"4" and first(frame, 123) != b"Y"
 
 
-def too_high(call):
-    """The number of a frame that comes to rule 4: it is above E, the CompIDs are right, and it is no bare reset. Else None."""
-    n = readable(call.frame, 34)
-    if call.word != "step" or call.before.status != ACTIVE or n is None or n <= call.before.expected:
+def counted(call):
+    """The number of a frame that comes to rules 4 to 6: the CompIDs are right, and it is no bare reset. Else None."""
+    if call.word != "step" or call.before.status != ACTIVE:
         return None
     sender, target = ((first(call.frame, tag) or b"").hex() for tag in (49, 56))
-    return n if (sender, target) == (call.before.peer, call.before.ours) and not is_bare_reset(call.frame) else None
+    is_for_us = (sender, target) == (call.before.peer, call.before.ours)
+    return readable(call.frame, 34) if is_for_us and not is_bare_reset(call.frame) else None
+
+
+def too_high(call):
+    n = counted(call)
+    return n if n and n > call.before.expected else None
+
+
+def is_duplicate(call):
+    n = counted(call)
+    return bool(n) and n < call.before.expected and first(call.frame, 43) == b"Y"
 
 
 def requests_in(answer):
@@ -109,6 +120,8 @@ class Laws:
         self.numbers_in(call, answer)
         self.replays(call, answer)
         self.gaps(call, answer)
+        if is_duplicate(call):
+            self.duplicate(call, answer)
         return self.stores(call, answer)
 
     def see_refusal(self, call, answer):
@@ -261,6 +274,16 @@ class Laws:
         if call.time < time:
             return "the clock went back"
         return "ten seconds have passed" if call.time - time >= TEN_SECONDS else None
+
+    def duplicate(self, call, answer):
+        """02: In the low-number rule, a frame with 43=Y and a 122 later than its 52 is now Reject 10, tag 122 .. equal times pass
+        .. E stays."""
+        said = [(first(message, 373), first(message, 371)) for message in messages(answer.reply)] or [None]
+        right = said_of_times(first(call.frame, 52), first(call.frame, 122))
+        must(said == [right], f"of a duplicate's times is said {right}")
+        stays = answer.after.expected == call.before.expected and answer.after.status == ACTIVE
+        must(stays and not answer.delivered, "behind a duplicate E stays, and the session goes on")
+        self.counts["duplicates ignored" if said == [None] else f"duplicates, Reject {said[0][0].decode()}"] += 1
 
     def stores(self, call, answer):
         """02: Keep the last 64 reports .. in a store. An accepted logon with 141=Y zeroes the store"""

@@ -15,12 +15,20 @@ LOGONS = {"in_turn": 61, "reset": 12, "high": 7, "low": 4, "reset_high": 4, "no_
 # late one comes once more behind some others.
 FAULTS = {"lost": 0.01, "doubled": 0.003, "damaged": 0.017, "overtaken": 0.01, "torn": 0.05, "cut": 0.21}
 ANSWERS_LATE = 0.25     # how often it sends something else before what it owes
+REPAIRED = 0.15         # how often its clock was put back before it sends something again
+SENT = 1_704_187_800_000_000                                        # from when on it sent what it sends again
+APART = (0, 0, 1, 1000, 1_000_000, 60_000_000, 86_400_000_000)      # microseconds from the first sending to the next
 KINDS = {"heartbeat": b"0", "test_request": b"1", "reject": b"3", "request": b"AD", "cancel": b"F", "report": b"AE",
          "logon_again": b"A", "logout": b"5"}
 
 
 def text(number):
     return b"%d" % number
+
+
+def shown(r, time):
+    """A time with no, three or six decimals, the others cut off."""
+    return stamp(time)[:r.choice((17, 21, 24))]
 
 
 class Member:
@@ -63,10 +71,17 @@ class Member:
 
     def resent(self, begin):
         """All that it sent from this number on: few of them one by one, else as a gap fill."""
-        marks = {43: b"Y", 122: stamp(0)}
         if self.next - begin in range(1, 4):
-            return [framed(joined(self.made(self.r.choice((b"F", b"AD")), marks, at=n))) for n in range(begin, self.next)]
-        return [framed(joined(self.made(b"4", {**marks, 123: b"Y", 36: text(max(self.next, begin))}, at=begin)))]
+            return [framed(joined(self.made(self.r.choice((b"F", b"AD")), self.again(), at=n))) for n in range(begin, self.next)]
+        return [framed(joined(self.made(b"4", {**self.again(), 123: b"Y", 36: text(max(self.next, begin))}, at=begin)))]
+
+    def again(self):
+        """43, 52 and 122 of what it sends once more. 02: One member's clock repair sent duplicates whose 122 lies after their
+        52."""
+        r = self.r
+        first_sent = SENT + r.randrange(10**9)
+        sent = first_sent + r.choice(APART) * (-1 if chance(r, REPAIRED) else 1)
+        return {43: b"Y", 52: shown(r, sent), 122: shown(r, first_sent)}
 
     # ---- What it sends while logged on -------------------------------------------------------------------------------
 
@@ -107,8 +122,11 @@ class Member:
         return faulty(self.r, self.made(self.r.choice((b"0", b"1", b"2", b"AD", b"F", b"F"))), most=1)
 
     def duplicate(self):
-        marks = {43: b"Y", 122: self.r.choice((stamp(0), stamp(0), None))}
-        return self.made(self.r.choice((b"0", b"F", b"AD", b"AE")), marks, at=max(1, self.next - self.r.randint(1, 3)))
+        """Now and then without a 122 or a 52, or with one that is no time."""
+        marks, kind = self.again(), self.r.choice((b"0", b"F", b"AD", b"AE"))
+        if chance(self.r, 0.3):
+            marks[self.r.choice((52, 122, 122))] = self.r.choice((None, None, b"", b"20230229-00:00:00"))
+        return self.made(kind, marks, at=max(1, self.next - self.r.randint(1, 3)))
 
     def too_high(self):
         return self.made(self.r.choice((b"0", b"F", b"AE", b"4")), at=self.next + self.r.choice((1, 2, 500)))

@@ -1,5 +1,7 @@
-"""Messages taken apart at the byte 1 and put together again, stores as words, and the message that a replay must send: all
-of it from the document's words and without the model, for the tests that state what they expect."""
+"""Messages taken apart at the byte 1 and put together again, stores as words, the message that a replay must send, and what is
+said of a duplicate's times: all of it from the document's words and without the model, for the tests that state what they
+expect."""
+import re
 from datetime import datetime, timedelta
 
 BAR = b"\x01"
@@ -53,6 +55,31 @@ def message(pairs):
 def stamp(time):
     """A time in microseconds since 1970 as our messages carry it."""
     return (datetime(1970, 1, 1) + timedelta(microseconds=time)).strftime("%Y%m%d-%H:%M:%S.%f").encode()
+
+
+def all_decimals(value):
+    """A time with six decimals, of which those that it has not are zeros: text that sorts as times do, second 60 too."""
+    return (value if b"." in value else value + b".").ljust(24, b"0")
+
+
+def is_time(value):
+    """Its shape, its day by the machine's own calendar, and its time of day; second 60 stands in any minute."""
+    if not re.fullmatch(rb"\d{8}-([01]\d|2[0-3]):[0-5]\d:([0-5]\d|60)(\.\d{3}(\d{3})?)?", value):
+        return False
+    try:
+        datetime.strptime(value[:8].decode(), "%Y%m%d")
+    except ValueError:
+        return False
+    return True
+
+
+def said_of_times(sent, original):
+    """What is said of the 52 and 122 of a duplicate: reason and tag, None where it is ignored."""
+    if original is None or sent is None:
+        return b"1", b"122" if original is None else b"52"
+    if not (is_time(sent) and is_time(original)):
+        return b"6", b"122" if is_time(sent) else b"52"
+    return (b"10", b"122") if all_decimals(original) > all_decimals(sent) else None
 
 
 def report(own, number, time, ours=OURS, peer=PEER):

@@ -9,12 +9,12 @@ import sys
 sys.dont_write_bytecode = True
 
 import model
-from worked import (basics, calls, decimals, desk, frames, gaps, kinds, lines, replays, report_lines, reporting, reports,
-                    reports_in, rules, sequence, store_lines, stores, sums, verdicts, waiting, writer, zeros)
+from worked import (basics, calls, decimals, desk, duplicates, frames, gaps, kinds, lines, replays, report_lines, reporting,
+                    reports, reports_in, rules, sequence, store_lines, stores, sums, verdicts, waiting, writer, zeros)
 
 CASES = [desk, frames, verdicts, kinds, waiting, rules, calls, writer, lines]
 OF_REQUESTS = {1: [decimals, reports, reports_in, reporting, report_lines], 2: [sums], 3: [zeros],
-               4: [stores, replays, store_lines], 5: [gaps], 10: [sequence]}
+               4: [stores, replays, store_lines], 5: [gaps], 6: [duplicates], 10: [sequence]}
 
 
 def main():

@@ -9,7 +9,7 @@ random source and gives request lines. `requests(seed)` mixes them by weight, wi
   sides        Trade Capture Reports, and one fault in their groups; reports: report; reports_in: verdict, report-values
                and step with them
   stores       what a place of a store may hold, and stores; replays: replay, report and step with them
-  gaps         step on records with an open gap, and broken ones
+  gaps         step on records with an open gap, and broken ones; duplicates: step with 52 and 122 around each other
   mixture      all of them, each file with its own weights
 
 A request of document 02 brings its generators in a file of its own, with its weights, behind those that are there.

@@ -3,12 +3,12 @@ import random
 
 from model import LANDED, LEAST_REPLY_ROOM
 
-from . import frames, gaps, odd, records, replays, reports, reports_in, steps, verdicts, writes
+from . import duplicates, frames, gaps, odd, records, replays, reports, reports_in, steps, verdicts, writes
 from .basics import AT_REST, CALL_TIME, LENT, chance, framed, hexed
 
 # In this order: a seed's requests depend on it. Those of the requests of document 02 behind the others.
 PARTS = [frames, verdicts, records, steps, writes, odd] + ([reports, reports_in] if 1 in LANDED else []) \
-    + ([replays] if 4 in LANDED else []) + ([gaps] if 5 in LANDED else [])
+    + ([replays] if 4 in LANDED else []) + ([gaps] if 5 in LANDED else []) + ([duplicates] if 6 in LANDED else [])
 WEIGHTS = {generator: weight for part in PARTS for generator, weight in part.WEIGHTS.items()}
 
 

@@ -7,7 +7,8 @@ is document 01's wording; `|` is the byte 1. There is a file for each section of
   frame        the good frame, live positions, one reading, reading in pieces
   fields       the parts of a body, the first field of a tag
   dictionary   header, messages and groups, and which tags are of which kind
-  kinds        form and value of one field; times: the shape and the calendar of times, a reply's time; decimals
+  kinds        form and value of one field; times: the shape and the calendar of times, the later of two, a reply's time;
+               decimals
   walk         the verdict, ten steps at a field
   writer       the writer call
   record       the record and its ranges, new session, reconnect; gap: the gap in it
@@ -38,7 +39,7 @@ from .record import (ACTIVE, CLOSED, END_OF_TIME, LEAST_REPLY_ROOM, WAITING, Rec
                      numbers_used_up, reconnect)
 from .report import PARTY_TAGS, VALUE_TAGS, Values, values_in, written
 from .store import EMPTY_STORE, PLACE, PLACES, STORE, keep, kept, kept_in
-from .times import in_utc
+from .times import in_utc, is_time, moment
 from .walk import verdict
 from .words import RECORD_WORDS, bytes_of, record_of, report_values_of, store_of, store_word
 from .writer import ORDER, WRITER_TAGS, write

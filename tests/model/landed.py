@@ -2,4 +2,4 @@
 
 A part of the model that a request changes asks `5 in LANDED`; tests/changes holds the notes of docs/changes to it."""
 
-LANDED = [1, 4, 10, 2, 3, 5]
+LANDED = [1, 4, 10, 2, 3, 5, 6]

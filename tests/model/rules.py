@@ -2,6 +2,7 @@
 from .gap import asks, seen
 from .landed import LANDED
 from .serving import serve, unservable
+from .times import is_later, is_time
 
 
 def rule_1(move):
@@ -56,14 +57,35 @@ def rule_4(move):
 
 
 def rule_5(move):
-    """5. N < E: 43 not Y, Logout. 43=Y without 122, Reject 1, tag 122. Otherwise ignored."""
+    """5. N < E: 43 not Y, Logout. 43=Y without 122, Reject 1, tag 122. Otherwise ignored. 02: All this follows the check for
+    122; E stays."""
     if not move.n < move.record.expected:
         return False
     if move.first(43) != b"Y":
         move.log_out()
-    elif move.first(122) is None:
-        move.reject(1, 122)
+        return True
+    finding = wrong_times(move.first(52), move.first(122))
+    if finding:
+        move.reject(*finding)
     return True
+
+
+def wrong_times(sent, original):
+    """Reason and tag of what is wrong with the 52 and 122 of a duplicate, or None.
+
+    02: a frame with 43=Y and a 122 later than its 52 is now Reject 10, tag 122 .. equal times pass. A missing 52 is Reject 1,
+    tag 52; a 52 or 122 that breaks its form or the calendar is Reject 6 with that tag, 52 first."""
+    if original is None:
+        return 1, 122
+    if 6 not in LANDED:
+        return None
+    if sent is None:
+        return 1, 52
+    if not is_time(sent):
+        return 6, 52
+    if not is_time(original):
+        return 6, 122
+    return (10, 122) if is_later(original, sent) else None
 
 
 def rule_6(move):

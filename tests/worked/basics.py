@@ -83,6 +83,14 @@ def stepped(incoming, before=None, time=AT, room=ROOM):
     return outcome.refusal, outcome.delivered, bodies(outcome.reply), outcome.record
 
 
+def no_time_first_sent(named):
+    """What a duplicate number 4 is answered of which 122 is there and is no time: nothing before Q-6, then a Reject that names
+    the type so."""
+    if 6 in model.LANDED:
+        return None, False, [f"35=3|34=3|45=4|371=122|{named}373=6|"], after(wrote=1)
+    return None, False, [], record()
+
+
 def bodies(reply):
     """The messages of a reply as text, each checked to be whole and clean; the constant header parts taken out."""
     messages = []

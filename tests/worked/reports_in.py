@@ -1,7 +1,7 @@
 """Steps with a Trade Capture Report from a member (Q-1): rule 6 rejects it whatever its verdict, the others as any type."""
 from model import CLOSED, WAITING
 
-from .basics import AE_FRONT, FIELDS, HEADER, after, body, gap, raw, record, same, stepped
+from .basics import AE_FRONT, FIELDS, HEADER, after, body, gap, no_time_first_sent, raw, record, same, stepped
 
 BODIES = (AE_FRONT + "552=1|54=1|", AE_FRONT, AE_FRONT + "552=1|54=1|453=2|448=P|", "x|", "", "9999=x|", "571=|")
 
@@ -28,7 +28,8 @@ def test_too_low():
         same(stepped(body("AE", fields, n=4)), logout)
         same(stepped(body("AE", fields, n=4, header=HEADER + "43=Y|")),
              (None, False, ["35=3|34=3|45=4|371=122|372=AE|373=1|"], after(wrote=1)))
-        same(stepped(body("AE", fields, n=4, header=HEADER + "43=Y|122=x|")), (None, False, [], record()))
+        same(stepped(body("AE", fields, n=4, header=HEADER + "43=Y|122=20240102-09:30:00|")), (None, False, [], record()))
+        same(stepped(body("AE", fields, n=4, header=HEADER + "43=Y|122=x|")), no_time_first_sent("372=AE|"))
 
 
 def test_from_a_stranger():

@@ -1,7 +1,7 @@
 """Steps while Active: the six rules, rule 6 by type, serving."""
 from model import CLOSED, LANDED
 
-from .basics import AT, HEADER, after, body, gap, raw, record, same, stepped
+from .basics import AT, HEADER, after, body, gap, no_time_first_sent, raw, record, same, stepped
 
 
 def test_rule_1():
@@ -62,9 +62,12 @@ def test_rule_5():
         same(stepped(body("0", n=4, header=header)), logout)
     same(stepped(body("0", n=4, header=HEADER + "43=Y|")),
          (None, False, ["35=3|34=3|45=4|371=122|372=0|373=1|"], after(wrote=1)))
-    for original in "122=|", "122=x|", "122=20240102-09:30:00|":
-        same(stepped(body("5", "58=|", n=4, header=HEADER + "43=Y|" + original)), (None, False, [], record()))
-    same(stepped(raw("35=ZZ|49=MM|56=GW|34=4|43=Y|122=|")), (None, False, [], record()))
+    times = "52=20240102-09:30:00|122=20240102-09:30:00|"
+    same(stepped(body("5", "58=|" + times, n=4, header="49=MM|56=GW|34={n}|43=Y|")), (None, False, [], record()))
+    same(stepped(raw("35=ZZ|49=MM|56=GW|34=4|43=Y|" + times)), (None, False, [], record()))
+    for original in "122=|", "122=x|":
+        same(stepped(body("5", "58=|", n=4, header=HEADER + "43=Y|" + original)), no_time_first_sent("372=5|"))
+        same(stepped(raw("35=ZZ|49=MM|56=GW|34=4|52=20240102-09:30:00|43=Y|" + original)), no_time_first_sent(""))
 
 
 def test_rule_6_verdicts():

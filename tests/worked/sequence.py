@@ -54,6 +54,13 @@ def test_morning():
         made(7, 7, "4", 9, "36=4|", reply=REJECT)), True)
 
 
+def test_rejected_duplicates():
+    """It contributes nothing, and its number is passed; what was delivered in turn may be rejected when it comes again."""
+    same(holds(made(5, 5, "AD", 4, reply=REJECT), made(5, 6, "AD", 5, delivered=True)), True)
+    same(holds(made(5, 6, "AD", 5, delivered=True), made(6, 6, "AD", 5, reply=REJECT), made(6, 6, "AD", 5)), True)
+    breaks("E at the end", made(5, 6, "AD", 4, reply=REJECT))
+
+
 def test_shares():
     """The number; the numbers up to 36; nothing, where the number is not E, or the bytes are no frame."""
     same(sentences.share(made(5, 6, "0")), (5, 6))
