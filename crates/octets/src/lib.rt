@@ -1,4 +1,6 @@
 // Bytes, whatever they are part of: rows of them compared and looked for, decimal digits over the greatest number of them, and their sum.
+#![tactic(auto)]
+
 mod compare;
 mod find;
 mod numbers;

@@ -1,0 +1,15 @@
+-- `byte_from`: no byte passed is x.
+use Rattle.std.proofs.Common.{◌≡◌, ℕ, ◌-◌, ◌<◌, ◌≤◌, get_or}
+use Rattle.octets.proofs.find.byte_from.Given as goal
+
+abbrev pub invariant-loop-i : goal.invariant-loop-i
+invariant-loop-i l = (l.a ≤ l.i) × ((l.i ≤ l.e) × ((q : ℕ) → q < l.i → l.a ≤ q → get_or l.s q 0 ≡ l.x → ⊥))
+
+abbrev pub decreases-loop-i : goal.decreases-loop-i
+decreases-loop-i l = l.e - l.i
+
+abbrev pub invariant-loop-i-2 : goal.invariant-loop-i-2
+invariant-loop-i-2 l = (l.a ≤ l.i) × ((l.i ≤ l.e) × ((q : ℕ) → q < l.i → l.a ≤ q → get_or l.s q 0 ≡ l.x → ⊥))
+
+abbrev pub decreases-loop-i-2 : goal.decreases-loop-i-2
+decreases-loop-i-2 l = l.e - l.i
