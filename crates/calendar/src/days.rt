@@ -6,7 +6,7 @@ ghost use Rattle.calendar.specs.code.Walk.{InYear, Split, Evened};
 use dates::is_leap;
 
 // A day of the calendar.
-#[derive(Drop)]
+#[derive(Clone, Copy)]
 pub struct Date {
     pub year: u64,
     pub month: u64,
@@ -23,7 +23,7 @@ pub fn date_of(d: u64) -> Date
 }
 
 // A year, and how many days behind its first.
-#[derive(Drop)]
+#[derive(Clone, Copy)]
 struct Place {
     year: u64,
     day: u64,
@@ -45,7 +45,7 @@ fn year_of(d: u64) -> Place
 }
 
 // Spans of n days each, and the days left over.
-#[derive(Drop)]
+#[derive(Clone, Copy)]
 struct Spans {
     count: u64,
     rest: u64,

@@ -29,7 +29,7 @@ fn before_limit(t: u64) -> [u8; 24]
 }
 
 // Two digits.
-#[derive(Drop)]
+#[derive(Clone, Copy)]
 struct Pair(u8, u8);
 
 // A date, a second of the day and a microsecond of the second.

@@ -8,7 +8,7 @@ use octets::row;
 use dates::judge_time;
 
 // The parts of a time.
-#[derive(Drop)]
+#[derive(Clone, Copy)]
 pub struct Moment {
     pub year: u32,
     pub month: u32,
@@ -20,7 +20,7 @@ pub struct Moment {
 }
 
 // A time that keeps its form and the calendar, or other bytes.
-#[derive(Drop)]
+#[derive(Clone, Copy)]
 pub enum TimeRead {
     Is(Moment),
     Bad,

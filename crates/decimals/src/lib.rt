@@ -6,7 +6,7 @@ ghost use Rattle.decimals.specs.code.Scan.{Ran, More, Leads, Placed};
 // The least whole number that is out of range.
 const LIMIT: u64 = 1_000_000_000_000_000;
 
-#[derive(Drop)]
+#[derive(Clone, Copy)]
 pub enum Decimal {
     Is { whole: u64, places: usize },
     OutOfRange,
@@ -14,7 +14,7 @@ pub enum Decimal {
 }
 
 // Digits that stand in a row: where they end, and the number that they write.
-#[derive(Drop)]
+#[derive(Clone, Copy)]
 pub struct Run {
     pub end: usize,
     pub value: u64,

@@ -10,7 +10,7 @@ use table::Entry;
 
 // What the walk holds beside its marks: a tag outside the header was met; the open group by its count tag (0: none), its count, and the instances
 // begun.
-#[derive(Drop)]
+#[derive(Clone, Copy)]
 pub struct State {
     pub over: bool,
     pub group: u32,

@@ -1,14 +1,14 @@
 // The dictionary: the walk along the fields of a body by its table, and the verdict.
 
 // What a rule says of a field.
-#[derive(Drop)]
+#[derive(Clone, Copy)]
 pub enum Says {
     Nothing,
     Reason { reason: u32, tag: u32 },
 }
 
 // The verdict on a body: clean, the first finding, or refusal 10.
-#[derive(Drop)]
+#[derive(Clone, Copy)]
 pub enum Verdict {
     Clean,
     Finding { reason: u32, tag: u32 },

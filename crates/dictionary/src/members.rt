@@ -14,7 +14,7 @@ use fields::Item;
 use table::{Entry, Line, MsgType, entry_of, kind_of, table};
 
 // A member of a group, with its entry and that one's place, or another part or none.
-#[derive(Drop)]
+#[derive(Clone, Copy)]
 pub enum Head {
     Member {
         e: Entry,

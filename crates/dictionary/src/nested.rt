@@ -17,7 +17,7 @@ use fields::{Item, item_at};
 use table::{Entry, MsgType, entry_of, place_in, table};
 
 // What a walk came to: a finding, or the part that ended its group or instance.
-#[derive(Drop)]
+#[derive(Clone, Copy)]
 pub enum Reached {
     Found { reason: u32, tag: u32 },
     To { at: usize, item: Item },

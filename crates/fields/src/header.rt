@@ -8,13 +8,13 @@ use crate::{Heads, Place};
 use octets::wide;
 
 // Where a value stands; start 0 where its field was not met.
-#[derive(Drop)]
+#[derive(Clone, Copy)]
 struct Spot {
     start: usize,
     end: usize,
 }
 
-#[derive(Drop)]
+#[derive(Clone, Copy)]
 struct Spots {
     number: Spot,
     sender: Spot,

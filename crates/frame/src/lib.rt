@@ -9,7 +9,7 @@ use octets::{next_start, number};
 use parts::{Step, look};
 
 // One reading's answer: a frame with the bytes skipped before it, or refusal 1 with the bytes to drop.
-#[derive(Drop)]
+#[derive(Clone, Copy)]
 pub enum Reading {
     Frame { skip: usize, len: usize },
     NoFrame { drop: usize },

@@ -8,7 +8,7 @@ ghost use Rattle.frame.specs.code.Walk.{MarkSeen, SizeSeen, BodySeen, Stepped, T
 use octets::{checksum, holds, matched, number, stands, wide, word};
 
 // What looking at a part finds.
-#[derive(Drop)]
+#[derive(Clone, Copy)]
 pub enum Step {
     // The part is as it should be: the place behind it, and of the body length what it is worth.
     On(usize, usize),

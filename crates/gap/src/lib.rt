@@ -7,7 +7,7 @@ ghost use Rattle.gap.specs.Held.{gap_of, held_gap};
 const RE_ASK: u64 = 10_000_000;
 
 // A gap that is open, or none: then all four are 0.
-#[derive(Drop)]
+#[derive(Clone, Copy)]
 pub struct Gap {
     // 1 if one is open.
     pub isOpen: u64,

@@ -9,7 +9,7 @@ use dates::{judge_day, judge_time};
 use decimals::{Decimal, read_decimal};
 
 // A kind as the dictionary's table holds it; specs/Judged.antt says which words each case stands for.
-#[derive(Drop)]
+#[derive(Clone, Copy)]
 pub enum Kind {
     Text { most: usize },
     Number { least: u32, most: u32 },
@@ -21,7 +21,7 @@ pub enum Kind {
 }
 
 // The lists of values that the documents have.
-#[derive(Drop)]
+#[derive(Clone, Copy)]
 pub enum Choice {
     Zero,
     Eight,
@@ -35,7 +35,7 @@ pub enum Choice {
 }
 
 // A number of 1 to 12 digits, or other bytes.
-#[derive(Drop)]
+#[derive(Clone, Copy)]
 pub enum Number {
     Is(u64),
     Bad,

@@ -8,7 +8,7 @@ use crate::record::Record;
 use gap::{Gap, asked_for, asks, no_gap, seen, unless_past};
 
 // What a frame above the expected number makes of a session: a Resend Request or nothing, and the gap behind it.
-#[derive(Drop)]
+#[derive(Clone, Copy)]
 pub struct Missed {
     pub letter: Letter,
     pub gap: Gap,

@@ -7,7 +7,7 @@ use crate::record::{Record, Status};
 use gap::Gap;
 
 // A message of ours, in numbers.
-#[derive(Drop)]
+#[derive(Clone, Copy)]
 pub enum Letter {
     Nothing,
     // A Heartbeat with the 112 of a Test Request.
@@ -26,7 +26,7 @@ pub enum Letter {
 }
 
 // A move: at most two messages, one behind the other, and what becomes of the record.
-#[derive(Drop)]
+#[derive(Clone, Copy)]
 pub struct Plan {
     pub delivered: bool,
     pub first: Letter,

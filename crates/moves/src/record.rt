@@ -10,7 +10,7 @@ use octets::has;
 use gap::{Gap, is_bounded, is_numbered};
 
 // Waiting for a logon, active, or closed.
-#[derive(Drop)]
+#[derive(Clone, Copy)]
 pub enum Status {
     Waiting,
     Active,
@@ -18,7 +18,7 @@ pub enum Status {
 }
 
 // The record of a session. Each CompID is the first bytes of an array, as many as its length says.
-#[derive(Drop)]
+#[derive(Clone, Copy)]
 pub struct Record {
     pub ours: [u8; 11],
     pub oursLen: usize,

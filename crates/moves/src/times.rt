@@ -8,7 +8,7 @@ use calendar::{Moment, TimeRead, read_time};
 use fields::{Place, first_field};
 
 // No such field; one that breaks its form or the calendar; or its moment.
-#[derive(Drop)]
+#[derive(Clone, Copy)]
 pub enum TimeIn {
     Missing,
     Bad,

@@ -3,7 +3,7 @@ ghost use Rattle.std.specs.Prelude.{◌≡◌, ◌+◌, ◌≤◌, length};
 ghost use Rattle.octets.specs.code.Leaf.{digit_limit, Number, Digits};
 
 // Decimal digits that stand in a row: how many, and what they are worth.
-#[derive(Drop)]
+#[derive(Clone, Copy)]
 pub struct Num {
     pub value: usize,
     pub count: usize,

@@ -6,7 +6,7 @@ ghost use Rattle.octets.specs.code.Leaf.{Summed, SummedBy};
 use crate::compare::wide;
 
 // The sum of the bytes before a place, modulo 2 ^ 64.
-#[derive(Drop)]
+#[derive(Clone, Copy)]
 struct Sum {
     total: u64,
     at: usize,

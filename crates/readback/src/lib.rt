@@ -12,7 +12,7 @@ use kinds::same;
 use noting::note_all;
 
 // What a body is to one who wants a report's values: they lie in the words, or there is a finding, or it is no body, refusal 10.
-#[derive(Drop)]
+#[derive(Clone, Copy)]
 pub enum ReadBack {
     Values,
     Finding { reason: u32, tag: u32 },

@@ -7,7 +7,7 @@ use crate::place::{pair_of, slot_of};
 use fields::{Item, item_at};
 
 // How many 448, 447 and 452 are noted, each up to eight.
-#[derive(Drop)]
+#[derive(Clone, Copy)]
 pub struct Counts {
     pub ids: usize,
     pub sources: usize,

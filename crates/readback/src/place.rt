@@ -5,7 +5,7 @@ ghost use Rattle.readback.specs.code.Pass.{slot_of, pair_of, pair_in};
 use decimals::{Decimal, read_decimal};
 
 // The two words behind `given`.
-#[derive(Drop)]
+#[derive(Clone, Copy)]
 pub struct Pair {
     pub first: u64,
     pub second: u64,

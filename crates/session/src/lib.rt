@@ -32,7 +32,7 @@ use played::{beating, play, say};
 use rulebook::{active, waiting};
 
 // Why a call changed nothing, or closed the session.
-#[derive(Drop)]
+#[derive(Clone, Copy)]
 pub enum Refusal {
     SessionClosed,
     NotLogon,
@@ -71,7 +71,7 @@ pub fn refusal_number(k: Refusal) -> u32
 }
 
 // What a call answers.
-#[derive(Drop)]
+#[derive(Clone, Copy)]
 pub enum Answer {
     Done,
     // The frame is to be given to the application.
@@ -82,7 +82,7 @@ pub enum Answer {
 }
 
 // What a call leaves: its answer, the record, and how many bytes of the buffer are the reply.
-#[derive(Drop)]
+#[derive(Clone, Copy)]
 pub struct Answered {
     pub answer: Answer,
     pub after: Record,
@@ -90,7 +90,7 @@ pub struct Answered {
 }
 
 // Whether a refusal stands before the moves.
-#[derive(Drop)]
+#[derive(Clone, Copy)]
 pub enum Gate {
     Open,
     Shut(Refusal),

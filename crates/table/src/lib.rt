@@ -1,7 +1,7 @@
 // The dictionary as data: the message types, and the constant table and rows that are held to the document's lists.
 
 // The ten message types.
-#[derive(Drop)]
+#[derive(Clone, Copy)]
 pub enum MsgType {
     Heartbeat,
     TestRequest,
@@ -16,7 +16,7 @@ pub enum MsgType {
 }
 
 // One of the ten message types, or another.
-#[derive(Drop)]
+#[derive(Clone, Copy)]
 pub enum Named {
     Of(MsgType),
     Other,

@@ -8,7 +8,7 @@ use super::judging::{
 };
 
 // A tag's line of the dictionary: the number of its kind; the messages that have it outside groups; and the group that has it as a member.
-#[derive(Drop)]
+#[derive(Clone, Copy)]
 pub struct Entry {
     pub tag: u32,
     pub kind: u32,
@@ -17,7 +17,7 @@ pub struct Entry {
 }
 
 // A member's group by its count tag (0: none), whether it is the group's first, and the messages that have the group.
-#[derive(Drop)]
+#[derive(Clone, Copy)]
 pub struct Member {
     pub group: u32,
     pub first: bool,
@@ -68,7 +68,7 @@ const OF_580: u32 = 256 * IN_AD + 2 * 262144;
 const OF_552: u32 = 256 * IN_AE + 3 * 262144;
 
 // A line of the table: tag, word.
-#[derive(Drop)]
+#[derive(Clone, Copy)]
 pub struct Line(pub u32, pub u32);
 
 // The count tag of a group by its number in a word (0: none).

@@ -17,7 +17,7 @@ use types::{Admin, Put};
 // The values of one message. Each of the 21 tags has its place (specs/Tags.antt); a value that is not given is absent. A number stands in `numbers`;
 // bytes stand in the text beside this, from `starts` to `ends`.
 #[repr(C)]
-#[derive(Drop)]
+#[derive(Clone, Copy)]
 pub struct Values {
     pub given: [bool; 21],
     pub numbers: [u64; 21],
@@ -26,7 +26,7 @@ pub struct Values {
 }
 
 // What the writer call answers.
-#[derive(Drop)]
+#[derive(Clone, Copy)]
 pub enum Written {
     // The message stands at the front of the buffer.
     Message { len: usize },

@@ -3,32 +3,32 @@ use kinds::Kind;
 use table::MsgType;
 
 // One of the seven administrative messages, or another type.
-#[derive(Drop)]
+#[derive(Clone, Copy)]
 pub enum Admin {
     Is(MsgType),
     Other,
 }
 
 // The place behind what was put, or that a value is unfit.
-#[derive(Drop)]
+#[derive(Clone, Copy)]
 pub enum Put {
     At(usize),
     Unfit,
 }
 
 // For each tag, by its place: whether the message has it, and whether it must.
-#[derive(Drop)]
+#[derive(Clone, Copy)]
 pub struct Marks {
     pub own: u32,
     pub needed: u32,
 }
 
 // A tag and the kind of its values.
-#[derive(Drop)]
+#[derive(Clone, Copy)]
 pub struct Slot(pub u64, pub Kind);
 
 // One value of a call, with what the message says of its tag.
-#[derive(Drop)]
+#[derive(Clone, Copy)]
 pub struct Entry {
     pub tag: u64,
     pub kind: Kind,
