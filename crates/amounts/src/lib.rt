@@ -1,4 +1,6 @@
 // An amount put into a buffer: its digits, and a point before the last of them where there are places.
+#![tactic(auto)]
+
 ghost use Rattle.std.specs.Prelude.{◌≡◌, ◌+◌, ◌-◌, ◌≤◌, ◌<◌, length};
 ghost use Rattle.octets.specs.Bytes.{decimal, padded};
 ghost use Rattle.message.specs.Wrote.{Wrote};

@@ -100,13 +100,13 @@ like_more s v at k h g =
     ∙ ap (λ (y : ℕ). like (take k s) (take k (drop at v)) && stands_for (get_or s k 0) y) (get_or-drop at v k 0))
 
 -- the flag behind one byte: put down where it doesn't fit, kept where it does
-pub flag_down : (f b g : Bool) → not b ≡ true → g ≡ false → g ≡ (f && b)
-flag_down f true g n e = absurd (false≢true n)
+pub flag_down : (f b g : Bool) → b ≡ false → g ≡ false → g ≡ (f && b)
+flag_down f true g n e = absurd (false≢true (sym n))
 flag_down f false g n e = e ∙ sym (and-false f)
 
-pub flag-kept : (f b g : Bool) → not b ≡ false → g ≡ f → g ≡ (f && b)
+pub flag-kept : (f b g : Bool) → b ≡ true → g ≡ f → g ≡ (f && b)
 flag-kept f true g n e = e ∙ sym (and-true f)
-flag-kept f false g n e = absurd (false≢true (sym n))
+flag-kept f false g n e = absurd (false≢true n)
 
 pub flag_next : (s v : Bytes) (at k : ℕ) (f b g : Bool) → k < length s → at + length s ≤ length v
     → f ≡ like (take k s) (take k (drop at v)) → b ≡ stands_for (get_or s k 0) (get_or v (at + k) 0) → g ≡ (f && b)

@@ -1,7 +1,6 @@
 -- Days and times by their shapes: what the bytes that were compared say, and the numbers that calendar and clock are asked with.
 use Rattle.std.proofs.Common.{◌≡◌, ℕ, ◌+◌, ◌*◌, ◌%◌, ◌^◌, ◌<◌, ◌≤◌, Bool, true, false, cond, not, ◌&&◌, ◌||◌, leb, [], ◌∷◌, length, get_or, take, drop, sym, refl, ap, ◌∙◌, add-one, arith, length-drop, take_all, get_or-take, take-take}
 use mathlib.Core.Bool.{and-true, or-false, false≢true}
-use borrow.Author.Tests.{not-true, not-false}
 use Rattle.octets.specs.Bytes.{Bytes, fix, value, digit}
 use Rattle.dates.specs.Date.{like, is_time, good_day, good_clock, number_at, found, day_found, time_found}
 use Rattle.dates.specs.code.Scan.{Digits, TwoAt, calendar_of, hours_of}
@@ -29,13 +28,13 @@ day_means v a b m d h p q r s = rw (p ∙ ap value (bytes_are 0 2 v (omega arith
     year : number_at 0 4 v ≡ value (get_or v 0 0 ∷ get_or v 1 0 ∷ []) * 100 + value (get_or v 2 0 ∷ get_or v 3 0 ∷ [])
     year = rw (bytes_are 0 4 v (omega arith)) (omega arith)
 
-pub day_unformed : (v : Bytes) (b : Bool) → length v ≡ 8 → b ≡ like (fix "YYYYMMDD") (take 8 v) → not b ≡ true → 6 ≡ day_found v
+pub day_unformed : (v : Bytes) (b : Bool) → length v ≡ 8 → b ≡ like (fix "YYYYMMDD") (take 8 v) → b ≡ false → 6 ≡ day_found v
 unfolding day_found
-day_unformed v b h p n = rw (ap (like (fix "YYYYMMDD")) (sym (take_all 8 v (omega arith))) ∙ sym p ∙ not-true b n)
+day_unformed v b h p n = rw (ap (like (fix "YYYYMMDD")) (sym (take_all 8 v (omega arith))) ∙ sym p ∙ n)
 
-pub day_judged : (v : Bytes) (b : Bool) (r : ℕ) → length v ≡ 8 → b ≡ like (fix "YYYYMMDD") (take 8 v) → not b ≡ false → r ≡ cond (good_day v) 0 5 → r ≡ day_found v
+pub day_judged : (v : Bytes) (b : Bool) (r : ℕ) → length v ≡ 8 → b ≡ like (fix "YYYYMMDD") (take 8 v) → b ≡ true → r ≡ cond (good_day v) 0 5 → r ≡ day_found v
 unfolding day_found
-day_judged v b r h p n e = rw (ap (like (fix "YYYYMMDD")) (sym (take_all 8 v (omega arith))) ∙ sym p ∙ not-false b n) e
+day_judged v b r h p n e = rw (ap (like (fix "YYYYMMDD")) (sym (take_all 8 v (omega arith))) ∙ sym p ∙ n) e
 
 pub day_long : (v : Bytes) → (length v ≡ 8 → ⊥) → 6 ≡ day_found v
 unfolding day_found
@@ -51,21 +50,21 @@ unfolding time_found
 time-short v h =
     rw (like-long (fix "YYYYMMDD-HH:MM:SS") v (λ e. omega arith), like-long (fix "YYYYMMDD-HH:MM:SS.sss") v (λ e. omega arith), like-long (fix "YYYYMMDD-HH:MM:SS.ssssss") v (λ e. omega arith))
 
-pub time_unformed : (v : Bytes) (b : Bool) → b ≡ is_time v → not b ≡ true → 6 ≡ time_found v
+pub time_unformed : (v : Bytes) (b : Bool) → b ≡ is_time v → b ≡ false → 6 ≡ time_found v
 unfolding time_found
-time_unformed v b p n = rw (sym p ∙ not-true b n)
+time_unformed v b p n = rw (sym p ∙ n)
 
-pub time_no_day : (v : Bytes) (b : Bool) (d : ℕ) → b ≡ is_time v → not b ≡ false → d ≡ cond (good_day v) 0 5 → d ≡ 5 → 5 ≡ time_found v
+pub time_no_day : (v : Bytes) (b : Bool) (d : ℕ) → b ≡ is_time v → b ≡ true → d ≡ cond (good_day v) 0 5 → d ≡ 5 → 5 ≡ time_found v
 unfolding time_found
-time_no_day v b d p n q e = rw (sym p ∙ not-false b n) (go (good_day v) (sym q ∙ e))
+time_no_day v b d p n q e = rw (sym p ∙ n) (go (good_day v) (sym q ∙ e))
   where
     go : (g : Bool) → ◌≡◌ {A = ℕ} (cond g 0 5) 5 → ◌≡◌ {A = ℕ} 5 (cond (g && good_clock v) 0 5)
     go true k = omega arith
     go false k = refl
 
-pub time-judged : (v : Bytes) (b : Bool) (d r : ℕ) → b ≡ is_time v → not b ≡ false → d ≡ cond (good_day v) 0 5 → (d ≡ 5 → ⊥) → r ≡ cond (good_clock v) 0 5 → r ≡ time_found v
+pub time-judged : (v : Bytes) (b : Bool) (d r : ℕ) → b ≡ is_time v → b ≡ true → d ≡ cond (good_day v) 0 5 → (d ≡ 5 → ⊥) → r ≡ cond (good_clock v) 0 5 → r ≡ time_found v
 unfolding time_found
-time-judged v b d r p n q e c = rw (sym p ∙ not-false b n) (go (good_day v) (λ k. e (q ∙ k)))
+time-judged v b d r p n q e c = rw (sym p ∙ n) (go (good_day v) (λ k. e (q ∙ k)))
   where
     go : (g : Bool) → (◌≡◌ {A = ℕ} (cond g 0 5) 5 → ⊥) → r ≡ cond (g && good_clock v) 0 5
     go true k = c
@@ -93,26 +92,26 @@ by_shape v {P} = go (like (fix "YYYYMMDD-HH:MM:SS") v) (like (fix "YYYYMMDD-HH:M
     go false false false e f g h = absurd (false≢true e)
 
 -- they begin alike
-pub time-front : (v : Bytes) (b : Bool) → b ≡ is_time v → not b ≡ false → like (fix "YYYYMMDD-HH:MM:SS") (take 17 v) ≡ true
+pub time-front : (v : Bytes) (b : Bool) → b ≡ is_time v → b ≡ true → like (fix "YYYYMMDD-HH:MM:SS") (take 17 v) ≡ true
 time-front v b p n =
-    by_shape v (sym p ∙ not-false b n)
+    by_shape v (sym p ∙ n)
     (like-front (fix "YYYYMMDD-HH:MM:SS") [] v)
     (like-front (fix "YYYYMMDD-HH:MM:SS") (fix ".sss") v)
     (like-front (fix "YYYYMMDD-HH:MM:SS") (fix ".ssssss") v)
 
-pub time_wrong : (v : Bytes) (b : Bool) → b ≡ like (fix "YYYYMMDD-HH:MM:S") (take 16 v) → not b ≡ true → 6 ≡ time_found v
+pub time_wrong : (v : Bytes) (b : Bool) → b ≡ like (fix "YYYYMMDD-HH:MM:S") (take 16 v) → b ≡ false → 6 ≡ time_found v
 unfolding time_found
 time_wrong v b p n =
     rw (
       like-append (fix "YYYYMMDD-HH:MM:S") (fix "S") v,
       like-append (fix "YYYYMMDD-HH:MM:S") (fix "S.sss") v,
       like-append (fix "YYYYMMDD-HH:MM:S") (fix "S.ssssss") v,
-      sym p ∙ not-true b n,
+      sym p ∙ n,
     )
 
 -- the day in front of a time
-pub time_day : (v : Bytes) (b : Bool) → b ≡ like (fix "YYYYMMDD-HH:MM:S") (take 16 v) → not b ≡ false → like (fix "YYYYMMDD") (take 8 v) ≡ true
-time_day v b p n = rw (take-take 8 16 v (omega arith)) at (like-front (fix "YYYYMMDD") (fix "-HH:MM:S") (take 16 v) (sym p ∙ not-false b n))
+pub time_day : (v : Bytes) (b : Bool) → b ≡ like (fix "YYYYMMDD-HH:MM:S") (take 16 v) → b ≡ true → like (fix "YYYYMMDD") (take 8 v) ≡ true
+time_day v b p n = rw (take-take 8 16 v (omega arith)) at (like-front (fix "YYYYMMDD") (fix "-HH:MM:S") (take 16 v) (sym p ∙ n))
 
 -- WHAT STANDS BEHIND THE FIRST SIXTEEN BYTES, by the length
 module _ (v : Bytes) (h : like (fix "YYYYMMDD-HH:MM:S") (take 16 v) ≡ true) where

@@ -1,4 +1,6 @@
 // Days and times: the shape of their bytes (6), and the calendar (5).
+#![tactic(auto)]
+
 ghost use Rattle.std.specs.Prelude.{◌≡◌, ◌+◌, ◌≤◌, true, length, take, drop, if◌then◌else◌};
 ghost use Rattle.octets.specs.Bytes.{fix};
 ghost use Rattle.dates.specs.Date.{like, days, leap, is_time, good_day, day_found, time_found};

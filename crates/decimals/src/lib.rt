@@ -1,4 +1,6 @@
 // A decimal as a whole number and a number of places: 12.50 is 1250 with 2 places.
+#![tactic(auto)]
+
 ghost use Rattle.std.specs.Prelude.{◌≡◌, ◌≤◌, ◌<◌, length};
 ghost use Rattle.decimals.specs.Decimal.{decimal_of, ranged_of};
 ghost use Rattle.decimals.specs.code.Scan.{Ran, More, Leads, Placed};

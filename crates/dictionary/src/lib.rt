@@ -1,6 +1,8 @@
 // The dictionary: the walk along the fields of a body by its table, and the verdict.
 
 // What a rule says of a field.
+#![tactic(auto)]
+
 #[derive(Clone, Copy)]
 pub enum Says {
     Nothing,

@@ -6,7 +6,6 @@ use mathlib.Core.Path.{◌≡◌, refl, sym, ap, ◌∙◌}
 use mathlib.Core.Bool.{Bool, true, false, cond, not, ◌&&◌, ◌||◌, false≢true}
 use lib.Dec.{eqb, leb, ltb}
 use borrow.Author.Tests.{eqb-true, eqb-false, ltb-false, leb-false, le-ltb}
-use Rattle.octets.specs.Bytes.{within}
 use Rattle.octets.proofs.Numerals.{within_is, is_within}
 use Rattle.octets.proofs.Tests.{both, both_true}
 use Rattle.gap.specs.Gap.{Gap, no_gap, re_ask, passed, asks, asked_for, seen, unless_past, numbered, bounded}

@@ -1,4 +1,6 @@
 // The gap between what a peer has sent and what has come: whether to ask for it, what a frame makes of it, when it is closed.
+#![tactic(auto)]
+
 ghost use Rattle.std.specs.Prelude.{◌≡◌, max};
 ghost use Rattle.gap.specs.Gap.{no_gap, passed, asks, asked_for, seen, unless_past, numbered, bounded};
 ghost use Rattle.gap.specs.Held.{gap_of, held_gap};

@@ -1,4 +1,6 @@
 // Which report a place of the store holds, by its number; and that number read alone, where it stands.
+#![tactic(auto)]
+
 ghost use Rattle.std.specs.Prelude.{◌≡◌, true, ◌+◌, ◌-◌, ◌%◌, ◌≤◌, length, take, replicate};
 ghost use Rattle.octets.specs.Bytes.{sum};
 ghost use Rattle.octets.specs.code.Leaf.{Standing};
@@ -8,8 +10,8 @@ ghost use Rattle.kept.specs.Kept.{held, number_of};
 ghost use Rattle.kept.specs.code.Peeked.{Peeked};
 ghost use Rattle.kept.specs.code.Walk.{Tells, Headed, Ended, Filled};
 
-use octets::{checksum, row, stands};
 use listed::is_listed;
+use octets::{checksum, row, stands};
 use stamps::is_stamp;
 
 // The number that a report in this place has, if it holds one: behind mark, length, 35, 49 and 56, whose CompIDs have so many bytes together.

@@ -1,12 +1,14 @@
 // The kinds of values: form and value of one field's bytes.
+#![tactic(auto)]
+
 ghost use Rattle.std.specs.Prelude.{◌≡◌, [], ◌∷◌};
 ghost use Rattle.octets.specs.Bytes.{same};
 ghost use Rattle.kinds.specs.Kind.{text, number◌to◌, Y/N, decimal, among};
 ghost use Rattle.kinds.specs.Judged.{choices, meaning, judged, number_of};
 
-use octets::digits;
 use dates::{judge_day, judge_time};
 use decimals::{Decimal, read_decimal};
+use octets::digits;
 
 // A kind as the dictionary's table holds it; specs/Judged.antt says which words each case stands for.
 #[derive(Clone, Copy)]

@@ -1,4 +1,6 @@
 // Whether bytes are a report's fields from 571 on, as our call writes them: each label in its turn, each value of its kind.
+#![tactic(auto)]
+
 mod steps;
 
 ghost use Rattle.std.specs.Prelude.{◌≤◌, length, drop};

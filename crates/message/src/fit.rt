@@ -3,8 +3,8 @@ ghost use Rattle.std.specs.Prelude.{◌≡◌, not};
 ghost use Rattle.kinds.specs.Judged.{meaning};
 ghost use Rattle.message.specs.code.Writable.{unwritten};
 
-use octets::has;
 use kinds::{Kind, judge};
+use octets::has;
 
 // Whether the dictionary takes a value of a kind, and it can be written.
 pub fn is_fit(kind: Kind, v: &[u8]) -> bool

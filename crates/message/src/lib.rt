@@ -1,4 +1,6 @@
 // The bytes of a message, put into a buffer from a place on: bytes, digits, fields, the frame around a body. Each function answers the place behind what it wrote.
+#![tactic(auto)]
+
 mod fit;
 
 ghost use Rattle.std.specs.Prelude.{◌≡◌, [], ◌∷◌, ◌++◌, ◌+◌, ◌≤◌, ◌<◌, cond, eqb, length, take};
@@ -7,8 +9,8 @@ ghost use Rattle.frame.specs.Frame.{fixt, front, trailer};
 ghost use Rattle.message.specs.Message.{absent, number, bytes, ◌is◌, field, framed};
 ghost use Rattle.message.specs.Wrote.{Wrote};
 
-use octets::checksum;
 pub use fit::is_fit;
+use octets::checksum;
 
 pub fn put_byte(buf: &mut [u8], at: usize, b: u8) -> usize
     requires { at < length buf.old }

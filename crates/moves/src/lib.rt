@@ -1,4 +1,6 @@
 // What a session's moves are made of: its record, what is seen of a frame's body, and the plan that a rule makes of it.
+#![tactic(auto)]
+
 mod gaps;
 mod plan;
 mod reads;

@@ -6,8 +6,8 @@ ghost use Rattle.message.specs.Unfit.{string_to, comp_id};
 ghost use Rattle.moves.specs.Held.{session_of, held, with};
 ghost use Rattle.moves.specs.code.Plan.{changed};
 
-use octets::has;
 use gap::{Gap, is_bounded, is_numbered};
+use octets::has;
 
 // Waiting for a logon, active, or closed.
 #[derive(Clone, Copy)]

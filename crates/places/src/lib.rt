@@ -1,4 +1,6 @@
 // The store as the host lends it: 64 places of 512 bytes, zeros behind what stands in one.
+#![tactic(auto)]
+
 ghost use Rattle.std.specs.Prelude.{◌≡◌, true, ◌≤◌, ◌<◌, length};
 ghost use Rattle.places.specs.Places.{is_store, put_at, zeroed};
 

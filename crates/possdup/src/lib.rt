@@ -1,5 +1,7 @@
 // A kept report, sent again. Its body stands in its place from byte 17 on: 35, 49, 56 and 34 are copied as they are; then come 43=Y and the new 52; and
 // the first 52 goes out as 122, so that from its value on all bytes are copied again.
+#![tactic(auto)]
+
 ghost use Rattle.std.specs.Prelude.{◌≡◌, true, ◌+◌, ◌≤◌, ◌<◌, length};
 ghost use Rattle.calendar.specs.Time.{limit};
 ghost use Rattle.message.specs.Unfit.{comp_id};
@@ -8,9 +10,9 @@ ghost use Rattle.kept.specs.Kept.{held, number_of};
 ghost use Rattle.possdup.specs.code.Again.{again_of};
 ghost use Rattle.possdup.specs.code.Resent.{resent};
 
-use octets::number;
 use calendar::utc;
 use message::{put_bytes, put_frame, width};
+use octets::number;
 
 // The body of a kept report that is sent again, at the front of a buffer. From `at` on stands the first 52, from `end` on the trailer.
 fn put_body(body: &mut [u8], place: &[u8], at: usize, end: usize, stamp: &[u8]) -> usize

@@ -1,4 +1,6 @@
 // Reading a report back: from a body the words of its values, the verdict's finding, or refusal 10.
+#![tactic(auto)]
+
 mod noting;
 mod place;
 

@@ -1,4 +1,6 @@
 // The replay call of a session: a kept report again, or a gap fill over the numbers up to the next one; and the place moves on.
+#![tactic(auto)]
+
 ghost use Rattle.std.specs.Prelude.{◌≡◌, true, ◌≤◌, ◌<◌, length};
 ghost use Rattle.calendar.specs.Time.{limit};
 ghost use Rattle.places.specs.Places.{is_store};

@@ -1,5 +1,7 @@
 // The replies of a session, each put behind a place of the reply buffer. `there`, `reset` and `typed` say whether an optional value is.
 // A reply whose values do not fit is not put: its place is answered.
+#![tactic(auto)]
+
 mod head;
 mod own;
 

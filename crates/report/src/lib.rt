@@ -1,4 +1,6 @@
 // The fields of a Trade Capture Report from 571 on, put into a body from the values that the host gives.
+#![tactic(auto)]
+
 mod parties;
 mod pieces;
 

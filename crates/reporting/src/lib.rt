@@ -1,4 +1,6 @@
 // The report call of a session: its refusals in their order, the report's body and the frame around it, and the record behind it.
+#![tactic(auto)]
+
 ghost use Rattle.std.specs.Prelude.{◌≡◌, true, ◌+◌, ◌≤◌, ◌<◌, length};
 ghost use Rattle.calendar.specs.Time.{limit};
 ghost use Rattle.message.specs.Message.{row};

@@ -1,4 +1,6 @@
 // The moves: what a session does with the body of a good frame, decided rule by rule.
+#![tactic(auto)]
+
 mod low;
 mod serving;
 

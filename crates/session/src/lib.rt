@@ -1,4 +1,6 @@
 // The session: what it does with a frame, at a tick, for a message of the venue's own, when it is new and when it reconnects.
+#![tactic(auto)]
+
 mod begin;
 mod gates;
 mod own;

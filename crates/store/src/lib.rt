@@ -1,4 +1,6 @@
 // The reports that a store keeps: where a new one goes, where the one of a number stands, and how far a run of other numbers goes.
+#![tactic(auto)]
+
 ghost use Rattle.std.specs.Prelude.{◌≡◌, true, ◌+◌, ◌≤◌, length, take};
 ghost use Rattle.octets.specs.Bytes.{has};
 ghost use Rattle.message.specs.Unfit.{comp_id};

@@ -1,4 +1,6 @@
 // The writer: one administrative message from its values.
+#![tactic(auto)]
+
 mod fill;
 mod slots;
 mod types;

@@ -1,0 +1,14 @@
+-- `leave`: the state is saved, the number is the answer's.
+use Rattle.border.proofs.record.leave.Goals as goal
+
+pub returns : goal.returns
+returns c = (c.number_of_lem.ensures, c.save.ensures)
+
+pub save-requires : goal.save-requires
+save-requires c = c.requires
+
+pub number_of-requires : goal.number_of-requires
+number_of-requires c = tt
+
+pub shape_of-words : goal.shape_of-words
+shape_of-words c = c.words-1.given

@@ -1,0 +1,15 @@
+-- Rule 1: the two checks at the end of a group, in their order.
+use Rattle.dictionary.proofs.Ending.{closing_none, closing_lacks, closing_counts, closing_miscounts}
+use Rattle.dictionary.proofs.groups.closing.Goals as goal
+
+pub returns-then-st-eq0 : goal.returns-then-st-eq0
+returns-then-st-eq0 c = record { is = closing_none c.if-st-eq0.true }
+
+pub returns-in_default : goal.returns-in_default
+returns-in_default c = record { is = let i = c in closing_lacks i.if-st-eq0.false i.incomplete-r.ensures c.enum_told-in_default-1.given.1 }
+
+pub returns-then-st : goal.returns-then-st
+returns-then-st c = record { is = let i = c in closing_counts i.if-st-eq0.false i.incomplete-r.ensures c.enum_told-1.given.1 c.if-st.true }
+
+pub returns : goal.returns
+returns c = record { is = let i = c in closing_miscounts i.if-st-eq0.false i.incomplete-r.ensures c.enum_told-1.given.1 c.if-st.false }

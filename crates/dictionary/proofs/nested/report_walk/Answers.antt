@@ -1,0 +1,120 @@
+-- The report's walk: before each part the code stands where the words stand (Above), and each way that a part can go is one turn of theirs.
+use native.Mathlib.Omega.{arith}
+use Prim.Native.Nat.{◌-◌}
+use mathlib.Core.Path.{ap, ◌∙◌}
+use Rattle.table.specs.declared.lines.Entry.{Entry}
+use Rattle.table.proofs.Places.{no_place, line_looked}
+use Rattle.dictionary.proofs.Walking.{field_lies}
+use Rattle.dictionary.proofs.TopWalk.{starts, unknown_stops, ended_stops, the_field, field_here, top_faults, behind_faults, behind_lies, behind_again}
+use Rattle.dictionary.proofs.nested.report_walk.Goals as goal
+
+pub loop-item-init : goal.loop-item-init
+loop-item-init c = starts c.item_at-item.ensures
+
+pub returns-in_default : goal.returns-in_default
+returns-in_default c =
+    let a = c in
+    ended_stops a.loop-item.invariant c.in_default.keys2 (c.report_ends.ensures.is _)
+
+pub place_in-p-requires : goal.place_in-p-requires
+place_in-p-requires c =
+    let a = c in
+    a.requires.1
+
+pub bounds-t-p : goal.bounds-t-p
+bounds-t-p c = c.IsPlace-in.ensures.small
+
+pub returns-then-e-tag : goal.returns-then-e-tag
+returns-then-e-tag c =
+    let p = c in
+    let a = p in
+    unknown_stops a.loop-item.invariant p.item-1.given.1 (no_place _ a.table-t.ensures p.IsPlace-in.ensures (λ t. c.if-e-tag.true (ap (λ (e : Entry). e.tag) c.entry_of-e.ensures ∙ t)))
+
+pub slice_bounds-of_own-count : goal.slice_bounds-of_own-count
+slice_bounds-of_own-count c =
+    let p = c in
+    let a = p in
+    omega (arith, field_lies a.loop-item.invariant.cut p.item-1.given.1)
+
+pub slice_bounds-of_own-start : goal.slice_bounds-of_own-start
+slice_bounds-of_own-start c =
+    let p = c in
+    let a = p in
+    omega (arith, field_lies a.loop-item.invariant.cut p.item-1.given.1)
+
+pub slice_bounds-of_own-end : goal.slice_bounds-of_own-end
+slice_bounds-of_own-end c =
+    let p = c in
+    let a = p in
+    omega (arith, field_lies a.loop-item.invariant.cut p.item-1.given.1)
+
+pub of_own-said-requires : goal.of_own-said-requires
+of_own-said-requires c =
+    let p = c in
+    let a = p in
+    line_looked _ a.table-t.ensures p.IsPlace-in.ensures.small c.entry_of-e.ensures
+
+pub returns-in_default-said : goal.returns-in_default-said
+returns-in_default-said c =
+    let p = c in
+    let a = p in
+    let F = the_field (line_looked _ a.table-t.ensures p.IsPlace-in.ensures.small c.entry_of-e.ensures) p.item-1.given.1 c.if-e-tag.false in
+    top_faults a.loop-item.invariant F c.of_own-said.ensures c.enum_told-in_default-said-1.given.1 c.finding.ensures
+
+pub bounds-seen-p : goal.bounds-seen-p
+bounds-seen-p c =
+    let p = c in
+    omega (arith, p.IsPlace-in.ensures.small)
+
+pub over_with-over-requires : goal.over_with-over-requires
+over_with-over-requires c =
+    let p = c in
+    let a = p in
+    (line_looked _ a.table-t.ensures p.IsPlace-in.ensures.small c.entry_of-e.ensures).right
+
+pub slice_bounds-behind-count : goal.slice_bounds-behind-count
+slice_bounds-behind-count c =
+    let p = c in
+    let a = p in
+    omega (arith, field_lies a.loop-item.invariant.cut p.item-1.given.1)
+
+pub slice_bounds-behind-start : goal.slice_bounds-behind-start
+slice_bounds-behind-start c =
+    let p = c in
+    let a = p in
+    omega (arith, field_lies a.loop-item.invariant.cut p.item-1.given.1)
+
+pub slice_bounds-behind-end : goal.slice_bounds-behind-end
+slice_bounds-behind-end c =
+    let p = c in
+    let a = p in
+    omega (arith, field_lies a.loop-item.invariant.cut p.item-1.given.1)
+
+pub behind-requires : goal.behind-requires
+behind-requires c =
+    let p = c in
+    let a = p in
+    ((line_looked _ a.table-t.ensures p.IsPlace-in.ensures.small c.entry_of-e.ensures).right, a.requires.0, omega (arith, field_lies a.loop-item.invariant.cut p.item-1.given.1))
+
+pub returns-in-Found : goal.returns-in-Found
+returns-in-Found c =
+    let p = c in
+    let a = p in
+    let F = the_field (line_looked _ a.table-t.ensures p.IsPlace-in.ensures.small c.entry_of-e.ensures) p.item-1.given.1 c.if-e-tag.false in
+    behind_faults a.loop-item.invariant F c.of_own-said.ensures c.enum_told-1.given.1 c.behind.ensures c.reason-1.given.1
+
+pub loop-item-smaller : goal.loop-item-smaller
+loop-item-smaller c =
+    let p = c in
+    let a = p in
+    let A = a.loop-item.invariant in
+    let F = the_field (line_looked _ a.table-t.ensures p.IsPlace-in.ensures.small c.entry_of-e.ensures) p.item-1.given.1 c.if-e-tag.false in
+    let g = behind_lies A F c.of_own-said.ensures c.enum_told-1.given.1 c.behind.ensures c.n-1.given.1 in
+    omega (arith, field_here A F, g.0)
+
+pub loop-item-preserved : goal.loop-item-preserved
+loop-item-preserved c =
+    let p = c in
+    let a = p in
+    let F = the_field (line_looked _ a.table-t.ensures p.IsPlace-in.ensures.small c.entry_of-e.ensures) p.item-1.given.1 c.if-e-tag.false in
+    behind_again a.loop-item.invariant F c.of_own-said.ensures c.enum_told-1.given.1 c.behind.ensures c.over_with-over.ensures c.n-1.given.1

@@ -1,0 +1,39 @@
+-- What is asked of a usual field, one after the other.
+use borrow.Author.Tests.{not-true, not-false}
+use mathlib.Core.Bool.{false≢true}
+use mathlib.Core.Path.{sym, ◌∙◌}
+use Rattle.dictionary.proofs.rules.is_usual.Goals as goal
+
+pub returns-then-not-st : goal.returns-then-not-st
+returns-then-not-st c h =
+    let a = c in
+    record {
+      some = a.if-empty.false;
+      away = a.if-st-ne0.false;
+      own = sym a.is_in.ensures ∙ not-false _ a.if-not-is_in.false;
+      new = a.if-again.false;
+      timely = λ o. absurd (false≢true (sym (not-true _ c.if-not-st.true) ∙ o));
+    }
+
+pub returns : goal.returns
+returns c h =
+    let a = c in
+    record {
+      some = a.if-empty.false;
+      away = a.if-st-ne0.false;
+      own = sym a.is_in.ensures ∙ not-false _ a.if-not-is_in.false;
+      new = a.if-again.false;
+      timely = λ o. sym c.bit.ensures ∙ not-true _ h;
+    }
+
+pub returns-then-empty : goal.returns-then-empty
+returns-then-empty c h = absurd (false≢true h)
+
+pub returns-then-st-ne0 : goal.returns-then-st-ne0
+returns-then-st-ne0 c h = absurd (false≢true h)
+
+pub returns-then-not-is_in : goal.returns-then-not-is_in
+returns-then-not-is_in c h = absurd (false≢true h)
+
+pub returns-then-again : goal.returns-then-again
+returns-then-again c h = absurd (false≢true h)

@@ -1,0 +1,26 @@
+-- `fixgw_first_field`: no body, or the case of the place, in words.
+use mathlib.Core.Path.{sym, ◌∙◌}
+use borrow.Author.Tests.{not-true, not-false}
+use Rattle.gateway.proofs.Readings.{first_none, first_is}
+use Rattle.gateway.proofs.body.fixgw_first_field.Goals as goal
+
+pub returns-then-not-is_body : goal.returns-then-not-is_body
+returns-then-not-is_body c = first_none _ _ (sym c.is_body.ensures ∙ not-true _ c.if-not-is_body.true)
+
+pub returns-in-At : goal.returns-in-At
+returns-in-At c = first_is _ _ (sym c.is_body.ensures ∙ not-false _ c.if-not-is_body.false) c.first_field.ensures c.start-1.given.1
+
+pub returns-in-Absent : goal.returns-in-Absent
+returns-in-Absent c = first_is _ _ (sym c.is_body.ensures ∙ not-false _ c.if-not-is_body.false) c.first_field.ensures c.enum_told-1.given.1
+
+pub is_body-requires : goal.is_body-requires
+is_body-requires c = tt
+
+pub first_field-requires : goal.first_field-requires
+first_field-requires c = tt
+
+pub enum_known-start : goal.enum_known-start
+enum_known-start c = c.in-Absent.keys1
+
+pub enum_told-1 : goal.enum_told-1
+enum_told-1 c = c.in-Absent.keys2

@@ -1,0 +1,38 @@
+-- `fixgw_logout`: no record in the words, or the venue's own Logout.
+use borrow.Author.Tests.{not-true, not-false}
+use mathlib.Core.Path.{refl, sym, ◌∙◌}
+use Rattle.border.proofs.Keeping.{no_record, record_length}
+use Rattle.gateway.proofs.Calls.{logout_unread, logout_left}
+use Rattle.gateway.proofs.record.fixgw_logout.Goals as goal
+
+pub returns-then-not-is_record : goal.returns-then-not-is_record
+returns-then-not-is_record c =
+    let a = c.args in
+    logout_unread a.ids.now a.words-1.now (no_record a.words-1.now a.ids.now (sym c.is_record.ensures ∙ not-true _ c.if-not-is_record.true)) a.time a.buf-1.now
+
+pub load-requires : goal.load-requires
+load-requires c = sym c.is_record.ensures ∙ not-false _ c.if-not-is_record.false
+
+pub leave-requires : goal.leave-requires
+leave-requires c = record_length c.args.words-1.now (sym c.is_record.ensures ∙ not-false _ c.if-not-is_record.false)
+
+pub returns : goal.returns
+returns c =
+    let a = c.args in
+    let left = c.leave.ensures in
+    logout_left a.ids.now a.words-1.now c.load.ensures left.0 left.1 a.time a.buf-1.now c.logout-left.ensures
+
+pub is_record-requires : goal.is_record-requires
+is_record-requires c = tt
+
+pub shape_of-words-then-not-is_record : goal.shape_of-words-then-not-is_record
+shape_of-words-then-not-is_record c = refl
+
+pub logout-left-requires : goal.logout-left-requires
+logout-left-requires c = tt
+
+pub shape_of-words : goal.shape_of-words
+shape_of-words c = c.words-1.given
+
+pub shape_of-buf : goal.shape_of-buf
+shape_of-buf c = c.buf-1.given

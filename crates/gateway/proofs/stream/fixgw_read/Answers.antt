@@ -1,0 +1,18 @@
+-- `fixgw_read`: the case of the reading, in words.
+use Rattle.gateway.proofs.Readings.{read-frame, read_none}
+use Rattle.gateway.proofs.stream.fixgw_read.Goals as goal
+
+pub returns-in-Frame : goal.returns-in-Frame
+returns-in-Frame c = read-frame c.skip-1.given.1 c.reading_of.ensures
+
+pub returns-in-NoFrame : goal.returns-in-NoFrame
+returns-in-NoFrame c = read_none c.drop-1.given.1 c.reading_of.ensures
+
+pub reading_of-requires : goal.reading_of-requires
+reading_of-requires c = tt
+
+pub enum_known-skip : goal.enum_known-skip
+enum_known-skip c = c.in-NoFrame.keys1
+
+pub enum_known-drop : goal.enum_known-drop
+enum_known-drop c = c.in-NoFrame.keys2

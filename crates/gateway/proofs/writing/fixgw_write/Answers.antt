@@ -1,0 +1,42 @@
+-- `fixgw_write`: the case of the writer's answer, in words.
+use Rattle.gateway.proofs.Calls.{write-left}
+use Rattle.gateway.proofs.writing.fixgw_write.Goals as goal
+
+pub returns-in-Message : goal.returns-in-Message
+returns-in-Message c =
+    let a = c.args in
+    write-left a.code.now a.values.now a.text.now a.buf-1.now c.values_of.ensures c.write.ensures c.len-1.given.1
+
+pub returns-in-Unfit : goal.returns-in-Unfit
+returns-in-Unfit c =
+    let a = c.args in
+    write-left a.code.now a.values.now a.text.now a.buf-1.now c.values_of.ensures c.write.ensures c.enum_told-1.given.1
+
+pub returns-in-Short : goal.returns-in-Short
+returns-in-Short c =
+    let a = c.args in
+    write-left a.code.now a.values.now a.text.now a.buf-1.now c.values_of.ensures c.write.ensures c.enum_told-in-Short-1.given.1
+
+pub values_of-requires : goal.values_of-requires
+values_of-requires c = tt
+
+pub write-requires : goal.write-requires
+write-requires c = tt
+
+pub enum_known-len : goal.enum_known-len
+enum_known-len c = c.in-Short.keys1
+
+pub enum_told-1 : goal.enum_told-1
+enum_told-1 c = c.in-Short.keys2
+
+pub enum_told-in-Short : goal.enum_told-in-Short
+enum_told-in-Short c = c.in-Short.keys3
+
+pub shape_of-buf-in-Message : goal.shape_of-buf-in-Message
+shape_of-buf-in-Message c = c.buf-1.given
+
+pub shape_of-buf-in-Unfit : goal.shape_of-buf-in-Unfit
+shape_of-buf-in-Unfit c = c.buf-1.given
+
+pub shape_of-buf-in-Short : goal.shape_of-buf-in-Short
+shape_of-buf-in-Short c = c.buf-1.given

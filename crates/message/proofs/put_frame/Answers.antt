@@ -1,0 +1,16 @@
+-- `put_frame`: the sum is taken over what stands before the trailer.
+use native.Mathlib.Omega.{arith}
+use Prim.Native.Nat.{◌%◌}
+use mathlib.Core.Path.{ap, ◌∙◌}
+use Rattle.octets.specs.Bytes.{Bytes, sum}
+use Rattle.frame.specs.Frame.{trailer}
+use Rattle.message.specs.Message.{framed}
+use Rattle.message.proofs.Writes.{chain, reword, part_of}
+use Rattle.message.proofs.put_frame.Goals as goal
+
+pub returns : goal.returns
+unfolding framed
+returns c =
+    let f = c.put_front-a.ensures in
+    let e = ap (λ (l : Bytes). trailer (sum l % 256)) (part_of f.0 (omega arith)) in
+    chain f.0 (reword (ap trailer c.checksum-sum.ensures ∙ e) c.put_trailer.ensures)

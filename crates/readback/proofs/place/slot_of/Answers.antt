@@ -1,0 +1,52 @@
+-- The place of a tag among the eleven.
+use borrow.Author.Tests.{ne_eqb}
+use Rattle.readback.specs.code.Pass.{slot_of}
+use Rattle.readback.proofs.place.slot_of.Goals as goal
+
+pub returns-in-571 : goal.returns-in-571
+unfolding slot_of
+returns-in-571 c = rw c.in_default.keys1
+
+pub returns-in-828 : goal.returns-in-828
+unfolding slot_of
+returns-in-828 c = rw c.in_default.keys2
+
+pub returns-in-60 : goal.returns-in-60
+unfolding slot_of
+returns-in-60 c = rw c.in_default.keys3
+
+pub returns-in-32 : goal.returns-in-32
+unfolding slot_of
+returns-in-32 c = rw c.in_default.keys4
+
+pub returns-in-31 : goal.returns-in-31
+unfolding slot_of
+returns-in-31 c = rw c.in_default.keys5
+
+pub returns-in-64 : goal.returns-in-64
+unfolding slot_of
+returns-in-64 c = rw c.in_default.keys6
+
+pub returns-in-574 : goal.returns-in-574
+unfolding slot_of
+returns-in-574 c = rw c.in_default.keys7
+
+pub returns-in-48 : goal.returns-in-48
+unfolding slot_of
+returns-in-48 c = rw c.in_default.keys8
+
+pub returns-in-22 : goal.returns-in-22
+unfolding slot_of
+returns-in-22 c = rw c.in_default.keys9
+
+pub returns-in-54 : goal.returns-in-54
+unfolding slot_of
+returns-in-54 c = rw c.in_default.keys10
+
+pub returns-in-1427 : goal.returns-in-1427
+unfolding slot_of
+returns-in-1427 c = rw c.in_default.keys11
+
+pub returns-in_default : goal.returns-in_default
+unfolding slot_of
+returns-in_default c = let t = c.args.tag in rw (ne_eqb t 571 c.in_default.rest.0.0.0.0.0.0.0.0.0.0.1, ne_eqb t 828 c.in_default.rest.0.0.0.0.0.0.0.0.0.1, ne_eqb t 60 c.in_default.rest.0.0.0.0.0.0.0.0.1, ne_eqb t 32 c.in_default.rest.0.0.0.0.0.0.0.1, ne_eqb t 31 c.in_default.rest.0.0.0.0.0.0.1, ne_eqb t 64 c.in_default.rest.0.0.0.0.0.1, ne_eqb t 574 c.in_default.rest.0.0.0.0.1, ne_eqb t 48 c.in_default.rest.0.0.0.1, ne_eqb t 22 c.in_default.rest.0.0.1, ne_eqb t 54 c.in_default.rest.0.1, ne_eqb t 1427 c.in_default.rest.1)

@@ -1,0 +1,11 @@
+-- `put_once`: one side.
+use native.Mathlib.Omega.{arith}
+use Rattle.report.proofs.Putting.{nowhere, field-number}
+use Rattle.report.proofs.Sides.{once_fit}
+use Rattle.report.proofs.put_once.Goals as goal
+
+pub returns-then-at-eq0 : goal.returns-then-at-eq0
+returns-then-at-eq0 c = (nowhere c.if-at-eq0.true, omega arith)
+
+pub returns : goal.returns
+returns c = (field-number 552 1 once_fit c.if-at-eq0.false c.put_number.ensures.0, omega arith)

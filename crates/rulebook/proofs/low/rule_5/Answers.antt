@@ -1,0 +1,59 @@
+-- `rule_5`: one law for each of the seven ways through it.
+use Rattle.rulebook.proofs.Deciding.{low_first, low_without, low_unsent, low_bad_sending, low_bad_original, low_later, low_ignored}
+use types.Run.{OneOf, miss}
+use denote.Enum.Declared.{tag_of}
+use mathlib.Core.Path.{◌≡◌, refl, ap}
+use mathlib.Core.List.{[], ◌∷◌}
+use mathlib.Core.Option.{none}
+use Rattle.moves.specs.contracts.times.TimeIn.{the_type}
+use Rattle.moves.specs.declared.times.TimeIn.{TimeIn}
+use Rattle.moves.specs.declared.times.TimeIn.TheVariants.{Missing, Bad, Is}
+use Rattle.moves.specs.code.Reads.{moment_by}
+use Rattle.rulebook.proofs.low.rule_5.Goals as goal
+
+-- a time that is not read names no moment
+unread : (x : TimeIn) → OneOf (0 ∷ 1 ∷ []) (tag_of the_type x) → moment_by x ≡ none
+unread Missing o = refl
+unread Bad o = refl
+unread (Is a) o = absurd (miss (0 ∷ 1 ∷ []) 2 tt o)
+
+pub returns-in_default : goal.returns-in_default
+returns-in_default c =
+    let b = c in
+    let s = b in
+    let o = s in
+    low_bad_sending _ _ o.holds.ensures o.if-not-holds.false o.time_in-original.ensures s.is_missing.ensures s.if-is_missing.false s.time_in-sending.ensures b.is_missing-2.ensures b.if-is_missing-2.false
+    (unread s.time_in-sending.result c.in_default.keys2) c.rejecting_duplicate-in_default.ensures
+
+pub returns-in_default-original : goal.returns-in_default-original
+returns-in_default-original c =
+    let b = c in
+    let s = b in
+    let o = s in
+    low_bad_original _ _ o.holds.ensures o.if-not-holds.false o.time_in-original.ensures s.is_missing.ensures s.if-is_missing.false s.time_in-sending.ensures b.is_missing-2.ensures b.if-is_missing-2.false
+    (ap moment_by c.sending-1.given.1) (unread o.time_in-original.result c.in_default-original.keys2) c.rejecting_duplicate-in_default-original.ensures
+
+pub returns-then-is_later : goal.returns-then-is_later
+returns-then-is_later c =
+    let b = c in
+    let s = b in
+    let o = s in
+    low_later _ _ o.holds.ensures o.if-not-holds.false o.time_in-original.ensures s.is_missing.ensures s.if-is_missing.false s.time_in-sending.ensures b.is_missing-2.ensures b.if-is_missing-2.false
+    (ap moment_by c.sending-1.given.1) (ap moment_by c.original-1.given.1) c.is_later.ensures c.if-is_later.true c.rejecting_duplicate-then-is_later.ensures
+
+pub returns : goal.returns
+returns c =
+    let b = c in
+    let s = b in
+    let o = s in
+    low_ignored _ _ o.holds.ensures o.if-not-holds.false o.time_in-original.ensures s.is_missing.ensures s.if-is_missing.false s.time_in-sending.ensures b.is_missing-2.ensures b.if-is_missing-2.false
+    (ap moment_by c.sending-1.given.1) (ap moment_by c.original-1.given.1) c.is_later.ensures c.if-is_later.false c.saying.ensures
+
+pub returns-then-not-holds : goal.returns-then-not-holds
+returns-then-not-holds c = search low_first
+
+pub returns-then-is_missing : goal.returns-then-is_missing
+returns-then-is_missing c = search low_without
+
+pub returns-then-is_missing-2 : goal.returns-then-is_missing-2
+returns-then-is_missing-2 c = search low_unsent

@@ -1,0 +1,45 @@
+-- `moving`: by the status, the move that the definition makes.
+use native.Mathlib.Omega.{arith}
+use mathlib.Core.Path.{refl, sym, ap, ◌∙◌}
+use mathlib.Core.Bool.{false≢true}
+use Rattle.moves.specs.Moves.{active}
+use Rattle.moves.specs.Session.{◌==◌}
+use Rattle.moves.specs.Held.{session_of}
+use Rattle.moves.specs.declared.record.Status.{Status}
+use Rattle.moves.specs.declared.record.Status.TheVariants.{Active, Closed}
+use Rattle.session.proofs.Stepping.{ample, let_in, wait_shut, act}
+use Rattle.session.proofs.Fitting.{active_fit}
+use Rattle.session.proofs.Playing.{settled_fits, settled_makes, made_by}
+use Rattle.session.proofs.Storing.{awake_stays, refusal_stays}
+use Rattle.session.proofs.moving.Goals as goal
+
+pub logging_on-requires : goal.logging_on-requires
+logging_on-requires c =
+    let u = c in
+    let st = c.enum_told-1.given.1 in
+    ((u.requires.0.0, u.requires.0.1, st, let_in (session_of u.args.r) u.args.body.now st c.logon_gate-gate.ensures c.enum_told-in-Open-1.given.1), u.requires.1)
+
+pub play-requires : goal.play-requires
+play-requires c =
+    let u = c in
+    let a = u.args in
+    let f = active_fit a.time (session_of a.r) a.body.now (ample a.r u.requires.0.0) (λ i. omega (arith, c.shared_slice_known-1.given i)) c.enum_told-in-Active-1.given.1 in
+    (u.requires.0.0, (omega (arith, u.requires.1.0), u.requires.1.1, settled_fits a.time (session_of a.r) a.body.now c.active.result (active (session_of a.r) a.body.now a.time) c.settled-p.ensures c.active.ensures f))
+
+pub returns-in-Shut : goal.returns-in-Shut
+returns-in-Shut c =
+    let a = c.args in
+    let e = wait_shut (session_of a.r) a.body.now a.time a.buf-1.now c.enum_told-1.given.1 c.logon_gate-gate.ensures c.gate-1.given.1 in
+    (made_by a.r (sym e) (record { answered = c.refused.ensures; buffer = refl }), refusal_stays (session_of a.r) a.body.now a.buf-1.now a.store-1.now e)
+
+pub returns-in-Active : goal.returns-in-Active
+returns-in-Active c =
+    let a = c.args in
+    let st = c.enum_told-in-Active-1.given.1 in
+    let w = settled_makes a.time (session_of a.r) a.body.now c.active.result (active (session_of a.r) a.body.now a.time) c.settled-p.ensures c.active.ensures a.buf-1.now in
+    (act a.r a.body.now a.time a.buf-1.now st w c.play.ensures, awake_stays (session_of a.r) a.body.now _ a.store-1.now Active refl st)
+
+pub returns-in-Closed : goal.returns-in-Closed
+returns-in-Closed c =
+    let u = c in
+    absurd (false≢true (sym u.requires.0.2 ∙ ap (λ (x : Status). x == Closed) c.enum_told-in-Closed-1.given.1))

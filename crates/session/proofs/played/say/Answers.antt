@@ -1,0 +1,10 @@
+-- `say`: the messages, put, and the time of sending with them.
+use Rattle.session.proofs.Playing.{wrote_played}
+use Rattle.session.proofs.played.say.Goals as goal
+
+pub returns : goal.returns
+returns c =
+    let u = c in
+    let a = u.args in
+    let w = c.stamped-len.ensures in
+    wrote_played a.r a.p a.time a.body.now a.buf-1.now c.answer_of-answer.ensures c.next_after.ensures.0 c.next_after-next.ensures.0 u.requires.0 u.requires.1.3 c.left-after.ensures u.requires.1.0 w.1 w.0

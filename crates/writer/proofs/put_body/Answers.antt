@@ -1,0 +1,25 @@
+-- `put_body`: 35, and the fields of the values behind it.
+use native.Mathlib.Omega.{arith}
+use mathlib.Core.Path.{ap}
+use lib.ListN.{length}
+use Rattle.writer.specs.Call.{value_in}
+use Rattle.message.proofs.Sizes.{one_byte}
+use Rattle.writer.proofs.Calls.{body_put}
+use Rattle.writer.proofs.put_body.Goals as goal
+
+pub put_text-at-requires : goal.put_text-at-requires
+put_text-at-requires c =
+    let s = c in
+    (omega arith, omega (arith, ap length s.requires.1, one_byte s.args.m s.requires.0))
+
+pub put_values-requires : goal.put_values-requires
+put_values-requires c =
+    let s = c in
+    (s.requires.0, omega (arith, ap length s.requires.1, one_byte s.args.m s.requires.0))
+
+pub returns : goal.returns
+returns c =
+    let s = c in
+    let p = c.put_values in
+    let t = c.put_text-at in
+    body_put s.args.m s.requires.0 (value_in s.args.values s.args.text.now) s.args.code.now s.args.body-1.now t.new.0 p.new.0 t.result s.requires.1 t.ensures.0 p.result p.ensures

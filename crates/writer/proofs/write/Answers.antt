@@ -1,0 +1,73 @@
+-- `write`: another type, an unfit value, or the frame around the body.
+use borrow.Author.Rules.{rules}
+use native.Mathlib.Omega.{arith}
+use mathlib.Core.Path.{sym, ap, ◌∙◌}
+use lib.ListN.{length}
+use lib.Seq.{length-take-le}
+use Rattle.writer.specs.Call.{value_in}
+use Rattle.writer.specs.code.Held.{type_in}
+use Rattle.message.proofs.Writes.{front_of}
+use Rattle.writer.proofs.Named.{named_by}
+use Rattle.writer.proofs.Calls.{body-told, other_type, unfit_values, fit_values}
+use Rattle.writer.proofs.write.Goals as goal
+
+pub returns-in_default : goal.returns-in_default
+returns-in_default c =
+    let s = c in
+    let a = c.admin_of-named in
+    other_type s.args.code.now s.args.values s.args.text.now s.args.buf-1.now a.result a.ensures c.enum_told-1.given.1
+
+pub put_body-filled-requires : goal.put_body-filled-requires
+put_body-filled-requires c =
+    let s = c in
+    let a = c.admin_of-named in
+    let m = c.named-1.given in
+    let N = named_by s.args.code.now m.0.0 (sym (ap type_in m.1) ∙ a.ensures) in
+    (N.administers, N.coded, search rules)
+
+pub returns-in_default-filled : goal.returns-in_default-filled
+returns-in_default-filled c =
+    let s = c in
+    let a = c.admin_of-named in
+    let m = c.named-1.given in
+    let p = c.put_body-filled in
+    let vs = value_in s.args.values s.args.text.now in
+    let f = body-told c.enum_told-in_default-filled-1.given.1 m.0.0 vs _ p.new.0 p.ensures in
+    unfit_values s.args.code.now s.args.values s.args.text.now s.args.buf-1.now a.result a.ensures m.0.0 m.1 f
+
+pub slice_bounds-body-end : goal.slice_bounds-body-end
+slice_bounds-body-end c =
+    let s = c in
+    let a = c.admin_of-named in
+    let m = c.named-1.given in
+    let p = c.put_body-filled in
+    let f = body-told c.filled-1.given.1 m.0.0 (value_in s.args.values s.args.text.now) _ p.new.0 p.ensures in
+    omega (arith, f.1, p.auto)
+
+pub slice_bounds-put_message-end : goal.slice_bounds-put_message-end
+slice_bounds-put_message-end c =
+    let s = c in
+    let a = c.admin_of-named in
+    let m = c.named-1.given in
+    let p = c.put_body-filled in
+    let f = body-told c.filled-1.given.1 m.0.0 (value_in s.args.values s.args.text.now) _ p.new.0 p.ensures in
+    sym (length-take-le _ p.new.0 (omega (arith, f.1, p.auto)))
+
+pub put_message-requires : goal.put_message-requires
+put_message-requires c =
+    let s = c in
+    let a = c.admin_of-named in
+    let m = c.named-1.given in
+    let p = c.put_body-filled in
+    let f = body-told c.filled-1.given.1 m.0.0 (value_in s.args.values s.args.text.now) _ p.new.0 p.ensures in
+    let e = front_of f.2 (omega (arith, f.1)) in
+    omega (arith, ap length e, f.2.next, f.1)
+
+pub returns : goal.returns
+returns c =
+    let s = c in
+    let a = c.admin_of-named in
+    let m = c.named-1.given in
+    let p = c.put_body-filled in
+    let f = body-told c.filled-1.given.1 m.0.0 (value_in s.args.values s.args.text.now) _ p.new.0 p.ensures in
+    fit_values s.args.code.now s.args.values s.args.text.now s.args.buf-1.now a.result a.ensures m.0.0 m.1 _ _ f.0 (front_of f.2 (omega (arith, f.1))) c.put_message.ensures
