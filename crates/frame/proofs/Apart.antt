@@ -3,7 +3,7 @@ use Prim.Native.Nat.{ℕ, ◌+◌, ◌-◌, ◌≤◌, ◌<◌}
 use native.Mathlib.Decide.{dec_lt, dec_le}
 use native.Mathlib.Omega.{arith}
 use mathlib.Core.Path.{◌≡◌, sym, ap, ◌∙◌, subst}
-use mathlib.Core.List.{List, ◌∷◌, ◌++◌}
+use mathlib.Core.List.{◌++◌}
 use lib.ListN.{length, take, drop, get_or, length-append}
 use lib.Seq.{get_or-append-add, get_or-drop, get_or-take}
 use Rattle.octets.specs.Bytes.{Bytes, At, Digit}

@@ -4,7 +4,7 @@ use native.Mathlib.Nat.{add_assoc, zero-add}
 use native.Mathlib.Decide.{dec_lt}
 use native.Mathlib.Omega.{arith}
 use mathlib.Core.Path.{◌≡◌, sym, ap, ◌∙◌, subst}
-use mathlib.Core.List.{List, ◌∷◌, ◌++◌, append_assoc}
+use mathlib.Core.List.{◌∷◌, ◌++◌, append_assoc}
 use lib.ListN.{length, take, drop, get_or, length-append, length-drop, take-append-drop, get_or-eq_default}
 use lib.Seq.{get_or-drop, get_or-take, drop-drop}
 use Rattle.octets.specs.Bytes.{Bytes, value, At}

@@ -2,14 +2,14 @@
 use Prim.Native.Nat.{ℕ, ◌+◌, ◌≤◌, ◌<◌}
 use native.Mathlib.Omega.{arith}
 use mathlib.Core.Path.{◌≡◌, sym, ap, ap₂, ◌∙◌, subst}
-use mathlib.Core.List.{List, ◌∷◌, ◌++◌, append_assoc, append_cancel_left, tail-eq_of_cons-eq}
+use mathlib.Core.List.{◌∷◌, ◌++◌, append_assoc, append_cancel_left, tail-eq_of_cons-eq}
 use lib.ListN.{length, take, drop, get_or, length-drop, take-append-drop, get_or-append}
 use lib.Seq.{get_or-drop, get_or-take, drop-append-le, ext_get_or, length-take-le, drop-drop}
 use Rattle.octets.specs.Bytes.{Bytes, At}
 use Rattle.octets.specs.code.Leaf.{Matched}
 use Rattle.octets.proofs.Lists.{matched_at, bytes_at}
 use Rattle.octets.proofs.Numerals.{Digits, split_digits}
-use Rattle.frame.specs.Frame.{Rule, Good, Live, front, trailer, sum_of}
+use Rattle.frame.specs.Frame.{Rule, Good, Live, trailer, sum_of}
 use Rattle.frame.specs.code.Walk.{MarkSeen, Open}
 use Rattle.frame.specs.Mark.{MarkOk}
 use Rattle.frame.proofs.Good.{good_split, good_digits}

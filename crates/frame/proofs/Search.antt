@@ -1,42 +1,38 @@
 -- One reading's outcome, from what a search from the left has seen: no position behind it is live.
-use denote.Enum.Declared.{tag_of}
-use Prim.Native.Nat.{ℕ, zero, suc, ◌+◌, ◌-◌, ◌≤◌, ◌<◌}
+use Prim.Native.Nat.{ℕ, zero, suc, ◌-◌, ◌<◌}
 use native.Mathlib.Decide.{dec_lt}
 use native.Mathlib.Omega.{arith}
-use mathlib.Core.Path.{◌≡◌, refl, sym, ap, ◌∙◌, subst}
+use mathlib.Core.Path.{◌≡◌, refl, sym, ap, subst}
 use mathlib.Core.Logic.{◌⊎◌, inl, inr}
-use mathlib.Core.List.{List, []}
+use mathlib.Core.List.{[]}
 use lib.ListN.{length, take, drop, get_or}
 use Rattle.octets.specs.Bytes.{Bytes}
 use Rattle.octets.specs.code.Leaf.{NextStart}
 use Rattle.octets.proofs.Lists.{part_length}
 use Rattle.frame.specs.Frame.{Rule, GoodAt, Live}
-use Rattle.frame.specs.Reading.{frame, Leftmost, Unfinished, Reads, answered, Handed}
+use Rattle.frame.specs.Reading.{frame, Leftmost, Reads, answered, Handed}
 use Rattle.frame.specs.code.Walk.{Open, Ended, Past, Stepped, Told}
 use Rattle.frame.specs.declared.parts.Step.{Step}
 use Rattle.frame.specs.declared.parts.Step.TheVariants.{On, Whole, Short, Wrong}
 use Rattle.frame.specs.Mark.{MarkOk}
 use Rattle.frame.proofs.Good.{good_at_length, good_live, open_none}
 use Rattle.frame.proofs.AtMark.{live_byte}
-use Rattle.frame.specs.contracts.parts.Step.{the_type}
 
 module _ (R : Rule) (s : Bytes) where
   -- a part that is not as it should be tells of the candidate, and so does the last one
-  pub told_at : (p : ℕ) (Seen : ℕ → ℕ → Type 0) (x : Step) → (tag_of the_type x ≡ 1) ⊎ ((tag_of the_type x ≡ 2) ⊎ (tag_of the_type x ≡ 3)) → Stepped R s p Seen x → Told R s p x
-  told_at p Seen (On a n) (inl k) h = absurd (omega arith)
-  told_at p Seen (On a n) (inr (inl k)) h = absurd (omega arith)
-  told_at p Seen (On a n) (inr (inr k)) h = absurd (omega arith)
+  pub told_at : (p : ℕ) (Seen : ℕ → ℕ → Type 0) (x : Step) → ((a n : ℕ) → x ≡ On a n → ⊥) → Stepped R s p Seen x → Told R s p x
+  told_at p Seen (On a n) k h = absurd (k a n refl)
   told_at p Seen (Whole e) k h = h
   told_at p Seen Short k h = h
   told_at p Seen (Wrong n) k h = h
 
-  pub told_open : (p : ℕ) (x : Step) → (tag_of the_type x ≡ 2) ⊎ (tag_of the_type x ≡ 0) → Told R s p x → Open R s p
+  pub told_open : (p : ℕ) (x : Step) → (x ≡ Short) ⊎ ((a : ℕ) × (n : ℕ) × (x ≡ On a n)) → Told R s p x → Open R s p
   told_open p (On a n) k h = absurd h
-  told_open p (Whole e) (inl k) h = absurd (omega arith)
-  told_open p (Whole e) (inr k) h = absurd (omega arith)
+  told_open p (Whole e) (inl k) h = cc
+  told_open p (Whole e) (inr (a, n, k)) h = cc
   told_open p Short k h = h
-  told_open p (Wrong n) (inl k) h = absurd (omega arith)
-  told_open p (Wrong n) (inr k) h = absurd (omega arith)
+  told_open p (Wrong n) (inl k) h = cc
+  told_open p (Wrong n) (inr (a, m, k)) h = cc
 
   -- no position before p is live
   abbrev pub Dead : ℕ → Type 0

@@ -1,5 +1,5 @@
 -- The frames of a stream: there is one list of them, and around a good frame it is that of the front, the frame, that of the back (demand 3).
-use Prim.Native.Nat.{ℕ, zero, suc, ◌+◌, ◌-◌, ◌≤◌, ◌<◌}
+use Prim.Native.Nat.{ℕ, zero, suc, ◌+◌, ◌<◌}
 use native.Mathlib.Omega.{arith}
 use mathlib.Core.Path.{◌≡◌, refl, sym, ap, ap₂, ◌∙◌, subst}
 use mathlib.Core.List.{List, [], ◌∷◌, ◌++◌}
@@ -8,7 +8,7 @@ use lib.Seq.{drop-append-le, drop-append_seam, take-append_seam, drop-drop}
 use Rattle.octets.specs.Bytes.{Bytes}
 use Rattle.octets.proofs.Lists.{part_more}
 use Rattle.frame.specs.Frame.{Rule, Good, GoodAt}
-use Rattle.frame.specs.Reading.{Answer, frame, refusal, Leftmost, Unfinished, Reads}
+use Rattle.frame.specs.Reading.{Answer, frame, refusal, Leftmost, Reads}
 use Rattle.frame.specs.Mark.{MarkOk}
 use Rattle.frame.specs.Stream.{Frames, rest, next}
 use Rattle.frame.proofs.Good.{good_at_length}

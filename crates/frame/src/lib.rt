@@ -1,4 +1,6 @@
 // The good frame: one reading of a byte string, whether bytes are one good frame, and its body.
+#![tactic(auto)]
+
 mod parts;
 
 ghost use Rattle.frame.specs.Frame.{rule_of, fixt, Whether, BodyOf};

@@ -1,4 +1,5 @@
 -- What the calls of writing and of the session leave at the border, a law for each way out of them. Assumes nothing.
+use Rattle.std.specs.Prelude.{if◌then◌else◌}
 use Prim.Native.Nat.{ℕ, ◌≤◌}
 use mathlib.Core.Path.{◌≡◌, refl, sym, ap, ◌∙◌}
 use mathlib.Core.List.{List, [], ◌∷◌}
@@ -13,7 +14,6 @@ use Rattle.octets.proofs.Tests.{both}
 use Rattle.writer.specs.Call.{write}
 use Rattle.writer.specs.declared.Values.{Values}
 use Rattle.writer.specs.declared.Written.{Written}
-use Rattle.moves.specs.Words.{if◌then◌else◌}
 use Rattle.session.specs.Refusals.{numbers}
 use Rattle.moves.specs.Session.{fresh, turned}
 use Rattle.message.specs.Unfit.{comp_id}

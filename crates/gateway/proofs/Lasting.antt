@@ -1,5 +1,6 @@
 -- What a call on a record leaves, of every call of the border, by whether a record lies there.
 -- Assumes nothing.
+use Rattle.std.specs.Prelude.{if◌then◌else◌}
 use Prim.Native.Nat.{ℕ, ◌-◌, ◌≤◌}
 use mathlib.Core.Path.{◌≡◌, refl, sym, ap, ap₂, ◌∙◌, subst}
 use mathlib.Core.List.{List, [], ◌∷◌}
@@ -14,7 +15,6 @@ use Rattle.octets.specs.Bytes.{Bytes, Byted, has, within}
 use Rattle.octets.proofs.Tests.{both}
 use Rattle.octets.proofs.Numerals.{within_is}
 use Rattle.gap.specs.Gap.{bounded}
-use Rattle.moves.specs.Words.{if◌then◌else◌}
 use Rattle.moves.specs.Session.{Session, in_range, fresh, turned}
 use Rattle.message.specs.Unfit.{comp_id}
 use Rattle.session.specs.Refusals.{numbers}

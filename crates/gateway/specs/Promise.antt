@@ -1,6 +1,6 @@
 -- The whole promise on one page: what a host that calls this library may rely on, in the words of documents 01 and 02 and of the three demands.
 -- Shown once, by `promise` in proofs/Promise.antt. What each call does is its relation (Border.antt, Calls.antt), which is its whole contract.
-use Rattle.std.specs.Prelude.{ℕ, ◌≤◌, ◌≡◌, ◌⊎◌, List, [], ◌∷◌, true, length, take, drop, get_or}
+use Rattle.std.specs.Prelude.{ℕ, ◌≤◌, ◌≡◌, ◌⊎◌, List, [], ◌∷◌, true, length, take, drop, get_or, if◌then◌else◌}
 use Rattle.std.proofs.Math.Option.{Option, none, some}
 use Rattle.octets.specs.Bytes.{Bytes, Byted, fix, within}
 use Rattle.calendar.specs.Time.{utc}
@@ -27,7 +27,6 @@ use Rattle.store.specs.Promise as Store
 use Rattle.readback.specs.Back.{read_back, words_in}
 use Rattle.readback.specs.declared.ReadBack.TheVariants as ReadBack
 use Rattle.readback.specs.Promise as Back
-use Rattle.moves.specs.Words.{if◌then◌else◌}
 use Rattle.moves.specs.Session.{Session, fresh, in_range}
 use Rattle.moves.specs.Held.{session_of}
 use Rattle.session.specs.Refusals.{numbers}

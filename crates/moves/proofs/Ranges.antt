@@ -11,7 +11,7 @@ use Rattle.octets.proofs.Numerals.{within_is}
 use Rattle.octets.proofs.Tests.{both}
 use Rattle.gap.specs.Gap.{numbered, bounded}
 use Rattle.gap.specs.Held.{gap_of}
-use Rattle.moves.specs.Session.{◌==◌, placed, in_range}
+use Rattle.moves.specs.Session.{◌equals◌, placed, in_range}
 use Rattle.message.specs.Unfit.{string_to, comp_id}
 use Rattle.moves.specs.Held.{held, session_of}
 use Rattle.moves.specs.declared.record.Record.{Record}
@@ -91,7 +91,7 @@ module _ (r : Record) where
   pub placed_none : r.at ≡ 0 → eqb r.to 0 ≡ placed (session_of r) (session_of r).replay
   placed_none e = rw (eq-eqb r.at 0 e)
 
-  module _ (e : r.at ≡ 0 → ⊥) {a : Bool} (ra : a ≡ (r.status == Active)) where
+  module _ (e : r.at ≡ 0 → ⊥) {a : Bool} (ra : a ≡ (r.status equals Active)) where
     pub placed_idle : not a ≡ true → false ≡ placed (session_of r) (session_of r).replay
     placed_idle h = rw (ne_eqb r.at 0 e, ← ra, not-true a h)
 

@@ -1,5 +1,5 @@
 -- "The session's moves": what a session does with the body of a good frame, rule by rule.
-use Rattle.std.specs.Prelude.{ℕ, ◌+◌, ◌-◌, min, ◌≡◌, List, [], ◌∷◌, ◌++◌, Bool, not, ◌&&◌, ◌||◌}
+use Rattle.std.specs.Prelude.{ℕ, ◌+◌, ◌-◌, min, ◌≡◌, List, [], ◌∷◌, ◌++◌, Bool, not, ◌&&◌, ◌||◌, if◌then◌else◌}
 use Prim.Native.String.{String}
 use Rattle.std.proofs.Math.Option.{Option, some}
 use Rattle.octets.specs.Bytes.{Bytes, fix}
@@ -11,7 +11,7 @@ use Rattle.dictionary.specs.Verdict.{verdict, msg_type}
 use Rattle.message.specs.Message.{Value, number, absent, bytes, ◌is◌, written}
 use Rattle.replies.specs.Reply as Reply
 use Rattle.gap.specs.Gap.{Gap, no_gap, asks, asked_for, seen}
-use Rattle.moves.specs.Words.{◌=?◌, ◌<?◌, ◌≤?◌, if◌then◌else◌, ◌when◌, first, ◌otherwise◌, speaks}
+use Rattle.moves.specs.Words.{◌=?◌, ◌<?◌, ◌≤?◌, ◌when◌, first, ◌otherwise◌, speaks}
 use Rattle.moves.specs.Session.{Session, Replay}
 use Rattle.moves.specs.Seen.{is_it, repeated, number_in, moment_in, ◌later_than◌, code_of, reason_of, tag_of, is_clean}
 use Rattle.moves.specs.declared.record.Status.{Status}

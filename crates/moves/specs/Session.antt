@@ -1,9 +1,9 @@
 -- The record of a session and its ranges.
-use Rattle.std.specs.Prelude.{ℕ, Bool, not, ◌&&◌}
+use Rattle.std.specs.Prelude.{ℕ, Bool, not, ◌&&◌, if◌then◌else◌}
 use Rattle.octets.specs.Bytes.{Bytes, within}
 use Rattle.gap.specs.Gap.{Gap, no_gap, numbered, bounded}
 use Rattle.message.specs.Unfit.{comp_id}
-use Rattle.moves.specs.Words.{◌=?◌, ◌<?◌, ◌≤?◌, if◌then◌else◌}
+use Rattle.moves.specs.Words.{◌=?◌, ◌<?◌, ◌≤?◌}
 use Rattle.moves.specs.declared.record.Status.{Status}
 use Rattle.moves.specs.declared.record.Status.TheVariants.{Waiting, Active, Closed}
 
@@ -13,9 +13,9 @@ code Waiting = 0
 code Active = 1
 code Closed = 2
 
-infix 80 ◌==◌
-abbrev pub ◌==◌ : Status → Status → Bool
-◌==◌ a b = code a =? code b
+infix 80 ◌equals◌
+abbrev pub ◌equals◌ : Status → Status → Bool
+◌equals◌ a b = code a =? code b
 
 -- An unfinished replay (document 02, Q-4): the number that goes out next, and the last one asked for; both are 0 where none is running
 pub record Replay : Type 0 where
@@ -70,7 +70,7 @@ fresh us them = record { ours = us; peers = them; status = Waiting; E = 1; next 
 
 -- Document 02: "the place, within 1 to L, is held in the record under refusal 11": only an Active session replays, up to one below its next number out
 abbrev pub placed : Session → Replay → Bool
-placed s p = if running p then s.status == Active && p.at ≤? p.to && p.to <? s.next else p.to =? 0
+placed s p = if running p then s.status equals Active && p.at ≤? p.to && p.to <? s.next else p.to =? 0
 
 -- "CompIDs (1 to 11 bytes, no `|`)"; "numbers 1 to 999,999,999, heartbeat 1 to 60"; and the place, and the gap
 unfoldable pub in_range : Session → Bool

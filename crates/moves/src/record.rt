@@ -1,7 +1,7 @@
 // The record of a session, its ranges and its changes.
 ghost use Rattle.std.specs.Prelude.{◌≡◌};
 ghost use Rattle.gap.specs.Held.{gap_of};
-ghost use Rattle.moves.specs.Session.{◌==◌, turned, placed, in_range};
+ghost use Rattle.moves.specs.Session.{◌equals◌, turned, placed, in_range};
 ghost use Rattle.message.specs.Unfit.{string_to, comp_id};
 ghost use Rattle.moves.specs.Held.{session_of, held, with};
 ghost use Rattle.moves.specs.code.Plan.{changed};
@@ -41,7 +41,7 @@ pub struct Record {
 }
 
 pub fn is_active(s: Status) -> bool
-    ensures { result ≡ (s == Status.Active) }
+    ensures { result ≡ (s equals Status.Active) }
 {
     match s {
         Status::Waiting => false,

@@ -31,7 +31,7 @@ use Rattle.store.specs.Store.{find}
 use Rattle.store.specs.Plan.{Item, Again, Fill, ends, Run, Right}
 use Rattle.store.proofs.Plan.{Fits, item_fits, item_right}
 use Rattle.store.proofs.Finding.{found_number}
-use Rattle.moves.specs.Session.{◌==◌, Session, no_replay, running, sent_at, replaying, placed, in_range}
+use Rattle.moves.specs.Session.{◌equals◌, Session, no_replay, running, sent_at, replaying, placed, in_range}
 use Rattle.moves.specs.Moves.{GapFill}
 use Rattle.moves.specs.declared.record.Status.TheVariants.{Active}
 use Rattle.letters.specs.code.Fit.{Numbered}
@@ -168,8 +168,8 @@ behind-placed s t i P = go (ltb (ends i) s.replay.to) refl
     go : (b : Bool) → ltb (ends i) s.replay.to ≡ b → placed s (cond b (record { at = ends i + 1; to = s.replay.to }) no_replay) ≡ true
     go true e =
         rw (ne_eqb (ends i + 1) 0 (λ x. omega (arith, x)))
-        (both_true ((s.status == Active) && leb (ends i + 1) s.replay.to) (ltb s.replay.to s.next)
-        (both_true (s.status == Active) (leb (ends i + 1) s.replay.to) P.active (le-leb (ends i + 1) s.replay.to (omega (arith, ltb-true (ends i) s.replay.to e))))
+        (both_true ((s.status equals Active) && leb (ends i + 1) s.replay.to) (ltb s.replay.to s.next)
+        (both_true (s.status equals Active) (leb (ends i + 1) s.replay.to) P.active (le-leb (ends i + 1) s.replay.to (omega (arith, ltb-true (ends i) s.replay.to e))))
         (lt-ltb s.replay.to s.next P.high))
     go false e = refl
 

@@ -14,7 +14,7 @@ use Rattle.octets.proofs.Tests.{both}
 use Rattle.calendar.specs.Time.{limit}
 use Rattle.places.specs.Places.{is_store}
 use Rattle.moves.specs.Words.{◌when◌}
-use Rattle.moves.specs.Session.{◌==◌, Session, no_replay, running, in_range}
+use Rattle.moves.specs.Session.{◌equals◌, Session, no_replay, running, in_range}
 use Rattle.moves.specs.declared.record.Status.TheVariants.{Active}
 use Rattle.moves.proofs.Words.{Said, each_first, then_by, said_when, not_said}
 use Rattle.session.specs.Refusals.{No, after}
@@ -28,7 +28,7 @@ use Rattle.replaying.specs.Call.{its_item, refusals, playing, unless, replay}
 
 -- WHERE A REPLAY STANDS
 pub record Placed (s : Session) : Type 0 where
-  pub active : (s.status == Active) ≡ true
+  pub active : (s.status equals Active) ≡ true
   pub low : 1 ≤ s.replay.at
   pub ordered : s.replay.at ≤ s.replay.to
   pub high : s.replay.to < s.next
@@ -38,9 +38,9 @@ module _ (s : Session) (r : in_range s ≡ true) where
   placed_running h =
       let a = s.replay.at in
       let z = s.replay.to in
-      let p = subst (λ (b : Bool). cond b ((s.status == Active) && leb a z && ltb z s.next) (eqb z 0) ≡ true) h (ranged_is s r).place in
-      let k = both ((s.status == Active) && leb a z) (ltb z s.next) p in
-      let l = both (s.status == Active) (leb a z) k.0 in
+      let p = subst (λ (b : Bool). cond b ((s.status equals Active) && leb a z && ltb z s.next) (eqb z 0) ≡ true) h (ranged_is s r).place in
+      let k = both ((s.status equals Active) && leb a z) (ltb z s.next) p in
+      let l = both (s.status equals Active) (leb a z) k.0 in
       record { active = l.0; low = positive (eqb-false a 0 (not-true (eqb a 0) h)); ordered = leb-true a z l.1; high = ltb-true z s.next k.1 }
     where
       positive : (s.replay.at ≡ 0 → ⊥) → 1 ≤ s.replay.at
@@ -50,7 +50,7 @@ module _ (s : Session) (r : in_range s ≡ true) where
   none_running h =
       let a = s.replay.at in
       let z = s.replay.to in
-      let p = subst (λ (b : Bool). cond b ((s.status == Active) && leb a z && ltb z s.next) (eqb z 0) ≡ true) h (ranged_is s r).place in
+      let p = subst (λ (b : Bool). cond b ((s.status equals Active) && leb a z && ltb z s.next) (eqb z 0) ≡ true) h (ranged_is s r).place in
       ap₂ (λ (x y : ℕ). record { at = x; to = y }) (eqb-true a 0 (not-false (eqb a 0) h)) (eqb-true z 0 p)
 
 -- a call that sends a message

@@ -1,5 +1,5 @@
 -- The replay call (document 02, Q-4): "Each replay call writes one message".
-use Rattle.std.specs.Prelude.{ℕ, ◌+◌, List, [], ◌∷◌, Bool, not, length}
+use Rattle.std.specs.Prelude.{ℕ, ◌+◌, List, [], ◌∷◌, Bool, not, length, if◌then◌else◌}
 use Rattle.std.proofs.Math.Option.{Option, none, some}
 use Rattle.octets.specs.Bytes.{Bytes}
 use Rattle.calendar.specs.Time.{utc, limit}
@@ -7,7 +7,7 @@ use Rattle.places.specs.Places.{is_store}
 use Rattle.report.specs.Report.{again}
 use Rattle.store.specs.Store.{Table, kept}
 use Rattle.store.specs.Plan.{Item, Again, Fill, ends, item}
-use Rattle.moves.specs.Words.{◌<?◌, ◌≤?◌, if◌then◌else◌, ◌when◌, first}
+use Rattle.moves.specs.Words.{◌<?◌, ◌≤?◌, ◌when◌, first}
 use Rattle.moves.specs.Session.{Session, Replay, no_replay, running, replaying, sent_at, in_range}
 use Rattle.moves.specs.Moves.{GapFill, letter}
 use Rattle.session.specs.Calls.{Outcome, over, answering, least_room}

@@ -1,6 +1,6 @@
 -- What is promised of the replay call, and of any run of all calls (Run.antt): document 02's "Demand 2's serving rule now reads this way, and a finished
 -- replay's numbers cover the requested range exactly, each once".
-use Rattle.std.specs.Prelude.{ℕ, ◌+◌, ◌≤◌, ◌<◌, ◌≡◌, List, [], ◌∷◌, ◌++◌, true, false, length}
+use Rattle.std.specs.Prelude.{ℕ, ◌+◌, ◌≤◌, ◌<◌, ◌≡◌, List, [], ◌∷◌, ◌++◌, true, false, length, if◌then◌else◌}
 use Rattle.std.proofs.Math.Option.{some}
 use Rattle.octets.specs.Bytes.{Bytes, Byted, fix, decimal, has}
 use Rattle.frame.specs.Frame.{fixt, Good}
@@ -16,7 +16,6 @@ use Rattle.store.specs.Store.{find}
 use Rattle.store.specs.Store as Store
 use Rattle.store.specs.Promise.{last64}
 use Rattle.store.specs.Plan.{Item, Again, Fill, range, plan, Run}
-use Rattle.moves.specs.Words.{if◌then◌else◌}
 use Rattle.moves.specs.Session.{Session, no_replay, running, sent_at, replaying, in_range}
 use Rattle.moves.specs.Moves.{requested}
 use Rattle.session.specs.Refusals.{No}

@@ -1,6 +1,6 @@
 -- ANY RUN of a session's calls, with reports and replay calls among them: the numbers that go out, a replay that is finished, and the store that a host
 -- lends to all of them.
-use Rattle.std.specs.Prelude.{ℕ, ◌+◌, ◌≡◌, List, [], ◌∷◌, ◌++◌, map, Bool, true, false, length}
+use Rattle.std.specs.Prelude.{ℕ, ◌+◌, ◌≡◌, List, [], ◌∷◌, ◌++◌, map, Bool, true, false, length, if◌then◌else◌}
 use Rattle.std.proofs.Math.Option.{some}
 use Rattle.octets.specs.Bytes.{Bytes, decimal}
 use Rattle.fields.specs.Field.{first_field}
@@ -9,7 +9,6 @@ use Rattle.message.specs.Whole.{body_in}
 use Rattle.report.specs.Values.{Values}
 use Rattle.report.specs.Report.{Report}
 use Rattle.store.specs.Plan.{Item, range, covered}
-use Rattle.moves.specs.Words.{if◌then◌else◌}
 use Rattle.moves.specs.Session.{Session, no_replay, running}
 use Rattle.session.specs.Calls.{Outcome, store_after, Call, Step, Tick, OurLogout, OurTestRequest, Reconnect, call}
 use Rattle.session.specs.Promise.{OfBytes, renews}

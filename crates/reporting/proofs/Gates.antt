@@ -12,7 +12,7 @@ use Rattle.calendar.specs.Time.{limit}
 use Rattle.places.specs.Places.{is_store}
 use Rattle.report.specs.Values.{Values}
 use Rattle.moves.specs.Words.{first}
-use Rattle.moves.specs.Session.{◌==◌, turned, in_range}
+use Rattle.moves.specs.Session.{◌equals◌, turned, in_range}
 use Rattle.moves.specs.Held.{session_of, with}
 use Rattle.moves.specs.code.Plan.{Ready}
 use Rattle.moves.specs.declared.record.Record.{Record}
@@ -72,7 +72,7 @@ module _ (r : Record) (v : Values) (t : ℕ) (d store : Bytes) where
           unfolding of_session
           report_7 h w = same refl (rw (← ra, not-false a ha, eq-eqb r.at 0 h₁₃, ← rb, not-false b hb, le-leb limit t h)) w
 
-          module _ (h₇ : t < limit) {c : Bool} (rc : c ≡ (r.status == Active)) where
+          module _ (h₇ : t < limit) {c : Bool} (rc : c ≡ (r.status equals Active)) where
             pub report_2 : not c ≡ true → x ≡ record { answer = Refused SessionClosed; after = r; len = 0 } → Left x d store
             unfolding of_session
             report_2 h w = same refl (rw (← ra, not-false a ha, eq-eqb r.at 0 h₁₃, ← rb, not-false b hb, lt-leb limit t h₇, ← rc, not-true c h)) w

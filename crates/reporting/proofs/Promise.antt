@@ -21,7 +21,7 @@ use Rattle.store.specs.Store as Store
 use Rattle.store.specs.Store.{find, keep}
 use Rattle.store.proofs.Promise as Promised
 use Rattle.moves.specs.Words.{◌when◌, first}
-use Rattle.moves.specs.Session.{◌==◌, Session, Replay, no_replay, running, numbering, sent_at, placed, in_range}
+use Rattle.moves.specs.Session.{◌equals◌, Session, Replay, no_replay, running, numbering, sent_at, placed, in_range}
 use Rattle.moves.specs.declared.record.Status.{Status}
 use Rattle.moves.specs.declared.record.Status.TheVariants.{Waiting, Active, Closed}
 use Rattle.moves.proofs.Words.{Said, each_first, then_by, said_when, not_said}
@@ -44,7 +44,7 @@ pub record Passed (s : Session) (v : Values) (t : ℕ) (stored : Bool) (room : �
   pub still : running s.replay ≡ false
   pub lent : stored ≡ true
   pub timed : t < limit
-  pub active : (s.status == Active) ≡ true
+  pub active : (s.status equals Active) ≡ true
   pub unspent : spent s ≡ false
   pub taken : takes v ≡ true
   pub short : length (message s v t) ≤ 512
@@ -60,7 +60,7 @@ each_report P s v t stored room shuts h =
     then_by (shut Replaying (running s.replay)) (λ n₁₃.
     then_by (shut BadStore (not stored)) (λ n₁₄.
     then_by (shut TimePast (leb limit t)) (λ n₇.
-    then_by (shut SessionClosed (not (s.status == Active))) (λ n₂.
+    then_by (shut SessionClosed (not (s.status equals Active))) (λ n₂.
     then_by (shut NumbersSpent (spent s)) (λ n₅.
     then_by (shut BadValue (not (takes v))) (λ n₈.
     then_by (shut ReportTooLong (ltb 512 (length (message s v t)))) (λ n₁₂.
@@ -70,7 +70,7 @@ each_report P s v t stored room shuts h =
       still = not_said (Refused Replaying) _ n₁₃;
       lent = not-false stored (not_said (Refused BadStore) _ n₁₄);
       timed = leb-false limit t (not_said (Refused TimePast) _ n₇);
-      active = not-false (s.status == Active) (not_said (Refused SessionClosed) _ n₂);
+      active = not-false (s.status equals Active) (not_said (Refused SessionClosed) _ n₂);
       unspent = not_said (Refused NumbersSpent) _ n₅;
       taken = not-false (takes v) (not_said (Refused BadValue) _ n₈);
       short = ltb-false 512 (length (message s v t)) (not_said (Refused ReportTooLong) _ n₁₂);
@@ -101,20 +101,20 @@ no_place s p e =
     ap₂ (λ (a z : ℕ). record { at = a; to = z }) (eqb-true s.replay.at 0 (not-false _ e)) (eqb-true s.replay.to 0 k)
 
 -- a status that is Active, and one that is not: then no replay is running
-active_is : (x : Status) → (x == Active) ≡ true → x ≡ Active
+active_is : (x : Status) → (x equals Active) ≡ true → x ≡ Active
 active_is Waiting e = absurd (false≢true e)
 active_is Active e = refl
 active_is Closed e = absurd (false≢true e)
 
-inactive : (x : Status) → (x ≡ Active → ⊥) → (x == Active) ≡ false
+inactive : (x : Status) → (x ≡ Active → ⊥) → (x equals Active) ≡ false
 inactive Waiting n = refl
 inactive Active n = absurd (n refl)
 inactive Closed n = refl
 
-unplaced : (s : Session) → placed s s.replay ≡ true → (s.status == Active) ≡ false → running s.replay ≡ false
+unplaced : (s : Session) → placed s s.replay ≡ true → (s.status equals Active) ≡ false → running s.replay ≡ false
 unplaced s p a = go (running s.replay) p
   where
-    go : (b : Bool) → cond b ((s.status == Active) && leb s.replay.at s.replay.to && ltb s.replay.to s.next) (eqb s.replay.to 0) ≡ true → b ≡ false
+    go : (b : Bool) → cond b ((s.status equals Active) && leb s.replay.at s.replay.to && ltb s.replay.to s.next) (eqb s.replay.to 0) ≡ true → b ≡ false
     go true e = absurd (false≢true (sym (rw a) ∙ e))
     go false e = refl
 
@@ -152,7 +152,7 @@ module _ (s : Session) (v : Values) (t : ℕ) (buf store : Bytes) where
   reports : Sends s v t buf store → (report s v t buf store).answer ≡ Done
   unfolding report refusals
   reports S =
-      rw (S.ranged, ap running S.none_running, S.stored, lt-leb limit t S.timed, ap (λ (x : Status). x == Active) S.is_active, S.unspent, S.taken, le-ltb 512 (length (message s v t)) S.short, le-ltb (length buf) (length (message s v t)) S.fits)
+      rw (S.ranged, ap running S.none_running, S.stored, lt-leb limit t S.timed, ap (λ (x : Status). x equals Active) S.is_active, S.unspent, S.taken, le-ltb 512 (length (message s v t)) S.short, le-ltb (length buf) (length (message s v t)) S.fits)
 
   outside_active : in_range s ≡ true → is_store store ≡ true → t < limit → (s.status ≡ Active → ⊥) → report s v t buf store ≡ keeping (Refused SessionClosed) s buf
   unfolding report refusals

@@ -8,7 +8,7 @@ use Rattle.report.specs.Values.{Values, takes}
 use Rattle.report.specs.Report.{Report, sent}
 use Rattle.store.specs.Store.{keep}
 use Rattle.moves.specs.Words.{◌<?◌, ◌≤?◌, ◌when◌, first}
-use Rattle.moves.specs.Session.{◌==◌, Session, running, numbering, sent_at, in_range}
+use Rattle.moves.specs.Session.{◌equals◌, Session, running, numbering, sent_at, in_range}
 use Rattle.moves.specs.declared.record.Status.TheVariants.{Active}
 use Rattle.session.specs.Calls.{Outcome, over, answering, spent}
 use Rattle.session.specs.declared.Refusal.TheVariants.{SessionClosed, NumbersSpent, TimePast, BadValue, NoRoom, BadRecord, ReportTooLong, Replaying, BadStore}
@@ -35,7 +35,7 @@ module _ (s : Session) (v : Values) (t : ℕ) where
       Refused Replaying when running s.replay ∷
       Refused BadStore when not stored ∷
       Refused TimePast when limit ≤? t ∷
-      Refused SessionClosed when not (s.status == Active) ∷  -- "Outside Active a report is refusal 2, session unchanged."
+      Refused SessionClosed when not (s.status equals Active) ∷  -- "Outside Active a report is refusal 2, session unchanged."
       Refused NumbersSpent when spent s ∷
       Refused BadValue when not (takes v) ∷
       Refused ReportTooLong when longest <? length message ∷

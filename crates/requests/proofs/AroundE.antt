@@ -1,5 +1,6 @@
 -- An open gap is around E behind every call: it was asked for at E or before, and its highest number is E or above.
 -- Assumes nothing.
+use Rattle.std.specs.Prelude.{if◌then◌else◌}
 use Prim.Native.Nat.{ℕ, ◌+◌, ◌≤◌}
 use native.Mathlib.Omega.{arith}
 use mathlib.Core.Path.{◌≡◌, refl, sym, subst}
@@ -12,7 +13,7 @@ use Rattle.fields.specs.Field.{first_field}
 use Rattle.message.specs.Whole.{body_in}
 use Rattle.message.specs.Unfit.{comp_id}
 use Rattle.gap.specs.Gap.{Gap, no_gap, opened, unless_past}
-use Rattle.moves.specs.Words.{if◌then◌else◌, ◌otherwise◌}
+use Rattle.moves.specs.Words.{◌otherwise◌}
 use Rattle.moves.specs.Session.{Session, turned, fresh}
 use Rattle.moves.specs.Seen.{repeated}
 use Rattle.moves.specs.Moves.{Deeds, Heartbeat, Write, Count, Deliver, N, reject, reject_type, rejection, logout, counted, unserved, served, logon, waiting, stranger, in_turn, active}

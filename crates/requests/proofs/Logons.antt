@@ -1,5 +1,6 @@
 -- The gap behind a logon that is accepted: one that is above E opens one, any other leaves none.
 -- Assumes nothing.
+use Rattle.std.specs.Prelude.{if◌then◌else◌}
 use Prim.Native.Nat.{ℕ, ◌+◌}
 use native.Mathlib.Omega.{arith}
 use mathlib.Core.Path.{◌≡◌, refl, sym, ap, ◌∙◌}
@@ -11,7 +12,6 @@ use Rattle.fields.specs.Field.{first_field}
 use Rattle.message.specs.Whole.{body_in}
 use Rattle.gap.specs.Gap.{Gap, no_gap, asked_for}
 use Rattle.gap.proofs.Laws.{past_none, past_stays}
-use Rattle.moves.specs.Words.{if◌then◌else◌}
 use Rattle.moves.specs.Session.{Session}
 use Rattle.moves.specs.Seen.{is_it}
 use Rattle.moves.specs.Moves.{Deeds, N, logon, waiting}

@@ -1,5 +1,6 @@
 -- One request for each gap: behind a frame that asked, no frame within 10 seconds asks again, whatever calls come between them, and one after 10 seconds does.
 -- Assumes nothing.
+use Rattle.std.specs.Prelude.{if◌then◌else◌}
 use Prim.Native.Nat.{ℕ}
 use mathlib.Core.Path.{◌≡◌, refl, sym, ap, ap₂, ◌∙◌, subst}
 use mathlib.Core.Bool.{Bool, true, false}
@@ -7,7 +8,6 @@ use mathlib.Core.List.{List, [], ◌∷◌, ◌++◌, append_assoc}
 use Rattle.octets.specs.Bytes.{Bytes}
 use Rattle.message.specs.Whole.{body_in}
 use Rattle.gap.specs.Gap.{Gap, asks, asked_for, seen}
-use Rattle.moves.specs.Words.{if◌then◌else◌}
 use Rattle.moves.specs.Session.{Session}
 use Rattle.moves.specs.Moves.{N}
 use Rattle.session.specs.Calls.{Outcome, step, Step, Tick, OurLogout, OurTestRequest, Reconnect}

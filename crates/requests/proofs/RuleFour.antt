@@ -1,5 +1,6 @@
 -- A frame that is too high: the step makes rule 4's move, it asks or it does not, and the gap behind it stays as the move left it.
 -- Assumes nothing.
+use Rattle.std.specs.Prelude.{if◌then◌else◌}
 use Prim.Native.Nat.{ℕ}
 use native.Mathlib.Omega.{arith}
 use mathlib.Core.Path.{◌≡◌, refl, sym, ap, ◌∙◌, subst}
@@ -9,7 +10,6 @@ use Rattle.octets.specs.Bytes.{Bytes}
 use Rattle.message.specs.Whole.{body_in}
 use Rattle.gap.specs.Gap.{asks, asked_for, seen}
 use Rattle.gap.proofs.Laws.{past_stays}
-use Rattle.moves.specs.Words.{if◌then◌else◌}
 use Rattle.moves.specs.Session.{Session}
 use Rattle.moves.specs.Moves.{Deeds, N, served, too_high, active}
 use Rattle.moves.proofs.EachRule.{each_high, each_rule}

@@ -1,11 +1,11 @@
 -- "One request for each gap" (document 02, Q-5): what frames that are too high make a session send, in any run of its calls, and what its record says of the
 -- gap behind each.
-use Rattle.std.specs.Prelude.{ℕ, ◌+◌, ◌≤◌, ◌<◌, ◌≡◌, ◌⊎◌, List, [], ◌∷◌, ◌++◌, true, false, not, ◌&&◌}
+use Rattle.std.specs.Prelude.{ℕ, ◌+◌, ◌≤◌, ◌<◌, ◌≡◌, ◌⊎◌, List, [], ◌∷◌, ◌++◌, true, false, not, ◌&&◌, if◌then◌else◌}
 use Rattle.octets.specs.Bytes.{Bytes, fix}
 use Rattle.message.specs.Whole.{body_in}
 use Rattle.calendar.specs.Time.{utc}
 use Rattle.gap.specs.Gap.{no_gap, opened, re_ask, asks, asked_for, seen, unless_past}
-use Rattle.moves.specs.Words.{◌<?◌, if◌then◌else◌}
+use Rattle.moves.specs.Words.{◌<?◌}
 use Rattle.moves.specs.Session.{Session}
 use Rattle.moves.specs.Moves.{ResendRequest, letter, #, N, clean, ◌holds◌}
 use Rattle.moves.specs.declared.record.Status.TheVariants.{Waiting, Active}

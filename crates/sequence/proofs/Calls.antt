@@ -1,5 +1,6 @@
 -- Each call by itself: a step that is no reset, and the calls that are given no frame.
 -- Assumes nothing.
+use Rattle.std.specs.Prelude.{if◌then◌else◌}
 use Prim.Native.Nat.{ℕ, ◌+◌, ◌<◌}
 use native.Mathlib.Omega.{arith}
 use mathlib.Core.Path.{◌≡◌, refl, sym, ap, ◌∙◌, subst}
@@ -20,7 +21,7 @@ use Rattle.calendar.specs.Time.{utc}
 use Rattle.report.specs.Values.{Values}
 use Rattle.report.specs.Report.{fields_with, fields_of, sent, again}
 use Rattle.store.specs.Plan.{Item, Again, Fill}
-use Rattle.moves.specs.Words.{if◌then◌else◌, ◌when◌, first, ◌otherwise◌}
+use Rattle.moves.specs.Words.{◌when◌, first, ◌otherwise◌}
 use Rattle.moves.specs.Session.{Session}
 use Rattle.moves.specs.Moves.{OurPeer, Heartbeat, GapFill, Write, #, N, bare, readable}
 use Rattle.session.specs.Calls.{Outcome, refusing, Step, Tick, OurLogout, OurTestRequest, Reconnect, step}

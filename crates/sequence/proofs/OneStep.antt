@@ -18,7 +18,7 @@ use Rattle.dictionary.specs.Verdict.{verdict, msg_type}
 use Rattle.message.specs.Whole.{body_in}
 use Rattle.gap.specs.Gap.{seen}
 use Rattle.moves.specs.Words.{◌when◌, first, ◌otherwise◌, speaks}
-use Rattle.moves.specs.Session.{◌==◌, Session}
+use Rattle.moves.specs.Session.{◌equals◌, Session}
 use Rattle.moves.specs.Seen.{is_it, code_of, is_clean}
 use Rattle.moves.specs.Moves.{OurPeer, Deeds, #, N, type, bare, readable, acceptable, reject, reject_type, rejection, counted, logout, asking, GapBecomes, served, logon, waiting, stranger, bare_reset, filled, in_turn, active}
 use Rattle.moves.specs.declared.record.Status.{Status}
@@ -66,7 +66,7 @@ module _ (s : Session) (body : Bytes) where
 
   -- AN ACCEPTED GAP FILL
   pub record Fills (o : Outcome) : Type 0 where
-    pub is_active : (s.status == Active) ≡ true
+    pub is_active : (s.status equals Active) ≡ true
     pub unrefused : refuses o.answer ≡ false
     pub right : acceptable s body ≡ true
     pub type_4 : type s body "4" ≡ true
@@ -81,8 +81,8 @@ module _ (s : Session) (body : Bytes) where
       let b = both (taken s body o && type s body "4" && filling) (eqb (N s body) s.E) a.0 in
       let c = both (taken s body o && type s body "4") filling b.0 in
       let d = both (taken s body o) (type s body "4") c.0 in
-      let f = both ((s.status == Active) && not (refuses o.answer)) (acceptable s body) d.0 in
-      let g = both (s.status == Active) (not (refuses o.answer)) f.0 in
+      let f = both ((s.status equals Active) && not (refuses o.answer)) (acceptable s body) d.0 in
+      let g = both (s.status equals Active) (not (refuses o.answer)) f.0 in
       record { is_active = g.0; unrefused = not-true (refuses o.answer) g.1; right = f.1; type_4 = d.1; with_123 = c.1; in_turn = eqb-true _ _ b.1; leads_on = ltb-true _ _ a.1 }
 
   -- WHY E MOVES: it stays, or a frame in turn moves it by one, and no gap fill is accepted; or one is
@@ -134,14 +134,14 @@ module _ (s : Session) (body : Bytes) where
         → Why (settling (making t s (waiting s body t) buf))
     unfolding logon
     logon_why st y = each_logon (λ (ds : Deeds). (renewed s body (settling (making t s ds buf)) && type s body "A" && not (refuses (settling (making t s ds buf)).answer)) ≡ false → Why (settling (making t s ds buf))) s body t (record {
-      anew = λ a n R. never R (both_true _ true (both_true _ (type s body "A") (ap (λ (x : Status). (x == Waiting) && (Active == Active) && is_it (fix "Y") (first_field 141 body)) st ∙ a) y) refl);
+      anew = λ a n R. never R (both_true _ true (both_true _ (type s body "A") (ap (λ (x : Status). (x equals Waiting) && (Active equals Active) && is_it (fix "Y") (first_field 141 body)) st ∙ a) y) refl);
       logged_out = λ R. inr (record { not_filled = asleep; by = inl refl });
       in_turn = λ a n R. inr (record { not_filled = asleep; by = inr (n, refl) });
       high = λ a n R. inr (record { not_filled = asleep; by = inl refl });
     })
       where
         asleep : {o : Outcome} → Fills o → ⊥
-        asleep F = false≢true (sym (ap (λ (x : Status). x == Active) st) ∙ F.is_active)
+        asleep F = false≢true (sym (ap (λ (x : Status). x equals Active) st) ∙ F.is_active)
 
     -- THE SIX RULES of an Active session
     abbrev Moved : Deeds → Type 0
@@ -166,7 +166,7 @@ module _ (s : Session) (body : Bytes) where
     bare_not : bare s body ≡ true → {o : Outcome} → Fills o → ⊥
     bare_not b F = never (ap not F.with_123) (both (type s body "4") (not filling) b).1
 
-    reset_why : (s.status == Active) ≡ true → speaks (readable s body) ≡ true → OurPeer s body → bare s body ≡ true → Moved (bare_reset s body)
+    reset_why : (s.status equals Active) ≡ true → speaks (readable s body) ≡ true → OurPeer s body → bare s body ≡ true → Moved (bare_reset s body)
     unfolding reject taken
     reset_why st r p b = each_reset Moved s body
         (λ c. plain (rejection s body) (bare_not b) (inl refl))
@@ -197,7 +197,7 @@ module _ (s : Session) (body : Bytes) where
         go true = refl
         go false = refl
 
-    fill_why : (s.status == Active) ≡ true → speaks (readable s body) ≡ true → OurPeer s body → N s body ≡ s.E → type s body "4" ≡ true → bare s body ≡ false → Moved (in_turn s body)
+    fill_why : (s.status equals Active) ≡ true → speaks (readable s body) ≡ true → OurPeer s body → N s body ≡ s.E → type s body "4" ≡ true → bare s body ≡ false → Moved (in_turn s body)
     unfolding reject filled_by taken
     fill_why st r p e y b = subst Moved (sym (fill_turn y)) (go (is_clean (verdict body)) refl)
       where
@@ -210,7 +210,7 @@ module _ (s : Session) (body : Bytes) where
             (λ l R. inl (record { is_filled = rw (st, acceptable_by r p c, y, has_123 filling refl, eq-eqb _ _ e, lt-ltb _ _ l); to = refl; unrejected = refl }))
         go false c = plain (counted s body (rejection s body)) (λ F. never c (acceptable_is F.right).clean) (inr (e, refl))
 
-    turn_why : (s.status == Active) ≡ true → speaks (readable s body) ≡ true → OurPeer s body → N s body ≡ s.E → bare s body ≡ false → Moved (in_turn s body)
+    turn_why : (s.status equals Active) ≡ true → speaks (readable s body) ≡ true → OurPeer s body → N s body ≡ s.E → bare s body ≡ false → Moved (in_turn s body)
     turn_why st r p e b = go (type s body "4") refl
       where
         go : (h : Bool) → type s body "4" ≡ h → Moved (in_turn s body)
@@ -221,7 +221,7 @@ module _ (s : Session) (body : Bytes) where
     out_of_turn : (N s body ≡ s.E → ⊥) → (ds : Deeds) → (after_all t s ds).E ≡ s.E → Moved ds
     out_of_turn h ds e = plain ds (λ F. h F.in_turn) (inl e)
 
-    active_why : (s.status == Active) ≡ true → Moved (active s body t)
+    active_why : (s.status equals Active) ≡ true → Moved (active s body t)
     unfolding reject served
     active_why st = each_rule Moved s body t (record {
       one = λ r. plain (logout s body 101) (λ F. never r (acceptable_is F.right).numbered) (inl refl);
@@ -243,7 +243,7 @@ unfolding reset_by
 step_why s f t buf store = each_step (λ (o : Outcome). (anew o || onward o) ≡ false → Why s body o) s t buf f store (record {
   refused = λ k n. inr (record { not_filled = λ F. false≢true (sym F.unrefused); by = inl (each_refusal (λ (u : Session). u.E ≡ s.E) k s refl refl) });
   logon = λ P st y c n. logon_why s body t buf st y (neither (anew (settling (making t s (waiting s body t) buf))) (onward (settling (making t s (waiting s body t) buf))) n).0;
-  move = λ P st n. active_why s body t buf (ap (λ (x : Status). x == Active) st) (neither (anew (settling (making t s (active s body t) buf))) (onward (settling (making t s (active s body t) buf))) n).1;
+  move = λ P st n. active_why s body t buf (ap (λ (x : Status). x equals Active) st) (neither (anew (settling (making t s (active s body t) buf))) (onward (settling (making t s (active s body t) buf))) n).1;
 })
   where
     body : Bytes

@@ -1,7 +1,7 @@
 -- Wrong sessions, and that what is promised of every run rules them out: each has a run without a reset that is not as Sequence.antt of crates/session says.
-use Rattle.std.specs.Prelude.{◌+◌, ◌-◌, List, [], ◌∷◌, not, ◌&&◌}
+use Rattle.std.specs.Prelude.{◌+◌, ◌-◌, List, [], ◌∷◌, not, ◌&&◌, if◌then◌else◌}
 use Rattle.octets.specs.Bytes.{Bytes, fix}
-use Rattle.moves.specs.Words.{◌=?◌, ◌<?◌, if◌then◌else◌}
+use Rattle.moves.specs.Words.{◌=?◌, ◌<?◌}
 use Rattle.moves.specs.Session.{Session, expecting}
 use Rattle.moves.specs.Moves.{#, N, type, ◌holds◌}
 use Rattle.session.specs.Calls.{Outcome}

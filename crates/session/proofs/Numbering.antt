@@ -14,7 +14,7 @@ use Rattle.calendar.specs.Time.{limit}
 use Rattle.message.specs.Message.{absent, bytes}
 use Rattle.message.specs.Whole.{good, body_in}
 use Rattle.gap.specs.Gap.{no_gap}
-use Rattle.moves.specs.Session.{◌==◌, Session, in_range}
+use Rattle.moves.specs.Session.{◌equals◌, Session, in_range}
 use Rattle.moves.specs.Seen.{is_it}
 use Rattle.moves.specs.Moves.{Heartbeat, Deed, Write, Start, Count, FillTo, ResetTo, Anew, HeartbeatBecomes, Becomes, GapBecomes, Deliver, Deeds, N, reject, reject_type, counted, logout, asking, served, logon, waiting, stranger, in_turn, active}
 use Rattle.moves.specs.declared.record.Status.{Status}
@@ -137,11 +137,11 @@ module _ (Q : Bool → Outcome → Type 0) (s : Session) (f : Bytes) (t : ℕ) (
     high = λ y l F. told_as (settling (making t s (logon s body absent ++ asking s body t no_gap) buf)) (accepted y) (R.plain P (logon s body absent ++ asking s body t no_gap) (tt, (tt, (tt, (tt, (tt, (tt, tt)))))) F);
   })
     where
-      accepted : {b : Bool} → is_it (fix "Y") (first_field 141 body) ≡ b → ((s.status == Waiting) && (Active == Active) && is_it (fix "Y") (first_field 141 body)) ≡ b
-      accepted y = ap (λ (x : Status). (x == Waiting) && (Active == Active) && is_it (fix "Y") (first_field 141 body)) st ∙ y
+      accepted : {b : Bool} → is_it (fix "Y") (first_field 141 body) ≡ b → ((s.status equals Waiting) && (Active equals Active) && is_it (fix "Y") (first_field 141 body)) ≡ b
+      accepted y = ap (λ (x : Status). (x equals Waiting) && (Active equals Active) && is_it (fix "Y") (first_field 141 body)) st ∙ y
 
-      closed : ((s.status == Waiting) && (Closed == Active) && is_it (fix "Y") (first_field 141 body)) ≡ false
-      closed = ap (λ (x : Status). (x == Waiting) && (Closed == Active) && is_it (fix "Y") (first_field 141 body)) st
+      closed : ((s.status equals Waiting) && (Closed equals Active) && is_it (fix "Y") (first_field 141 body)) ≡ false
+      closed = ap (λ (x : Status). (x equals Waiting) && (Closed equals Active) && is_it (fix "Y") (first_field 141 body)) st
 
   each_numbering : Told (step s f t buf store)
   each_numbering = each_step Told s t buf f store (record {

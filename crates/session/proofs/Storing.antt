@@ -11,7 +11,7 @@ use Rattle.places.specs.Places.{is_store, zeroed}
 use Rattle.fields.specs.Field.{first_field}
 use Rattle.message.specs.Whole.{good, body_in}
 use Rattle.moves.specs.Words.{first}
-use Rattle.moves.specs.Session.{◌==◌, Session}
+use Rattle.moves.specs.Session.{◌equals◌, Session}
 use Rattle.moves.specs.Seen.{is_it}
 use Rattle.session.specs.Calls.{Outcome, refusing, stepping, refusals, turned_away, moves, step, renewed, store_by, store_after}
 use Rattle.moves.specs.Held.{session_of}
@@ -26,22 +26,22 @@ use Rattle.session.proofs.EachCall.{each_refusal}
 
 -- WHETHER IT IS RENEWED
 -- a session that is not Waiting is not
-pub awake_old : (s : Session) (body : Bytes) (o : Outcome) (x : Status) → (x == Waiting) ≡ false → s.status ≡ x → renewed s body o ≡ false
+pub awake_old : (s : Session) (body : Bytes) (o : Outcome) (x : Status) → (x equals Waiting) ≡ false → s.status ≡ x → renewed s body o ≡ false
 awake_old s body o x n st =
     let asks = is_it (fix "Y") (first_field 141 body) in
-    ap (λ (y : Status). (y == Waiting) && (o.session.status == Active) && asks) st ∙ ap (λ (b : Bool). b && (o.session.status == Active) && asks) n
+    ap (λ (y : Status). (y equals Waiting) && (o.session.status equals Active) && asks) st ∙ ap (λ (b : Bool). b && (o.session.status equals Active) && asks) n
 
 -- nor by a refusal
 pub refused_old : (k : Refusal) (s : Session) (body buf : Bytes) → renewed s body (refusing k s buf) ≡ false
 refused_old k s body buf =
-    ap (λ (b : Bool). b && is_it (fix "Y") (first_field 141 body)) (each_refusal (λ (u : Session). ((s.status == Waiting) && (u.status == Active)) ≡ false) k s (same s.status) (closed s.status))
+    ap (λ (b : Bool). b && is_it (fix "Y") (first_field 141 body)) (each_refusal (λ (u : Session). ((s.status equals Waiting) && (u.status equals Active)) ≡ false) k s (same s.status) (closed s.status))
   where
-    same : (x : Status) → ((x == Waiting) && (x == Active)) ≡ false
+    same : (x : Status) → ((x equals Waiting) && (x equals Active)) ≡ false
     same Waiting = refl
     same Active = refl
     same Closed = refl
 
-    closed : (x : Status) → ((x == Waiting) && (Closed == Active)) ≡ false
+    closed : (x : Status) → ((x equals Waiting) && (Closed equals Active)) ≡ false
     closed Waiting = refl
     closed Active = refl
     closed Closed = refl
@@ -51,16 +51,16 @@ module _ (s : Session) (body : Bytes) (o : Outcome) (store : Bytes) where
   unfolding store_by
   old_stays e = rw e
 
-  pub awake_stays : (x : Status) → (x == Waiting) ≡ false → s.status ≡ x → store ≡ store_by s body o store
+  pub awake_stays : (x : Status) → (x equals Waiting) ≡ false → s.status ≡ x → store ≡ store_by s body o store
   awake_stays x n st = old_stays (awake_old s body o x n st)
 
 pub refusal_stays : (s : Session) (body buf store : Bytes) {o : Outcome} {k : Refusal} → o ≡ refusing k s buf → store ≡ store_by s body o store
 refusal_stays s body buf store {k = k} e = old_stays s body (refusing k s buf) store (refused_old k s body buf) ∙ ap (λ (o : Outcome). store_by s body o store) (sym e)
 
 -- A LOGON that was answered
-module _ (r : Record) (body store : Bytes) (st : r.status ≡ Waiting) {o : Outcome} {a : Answered} {d : Bytes} (l : Leaves r o a d) {b : Bool} (ra : b ≡ (a.after.status == Active)) where
-  accepted : b ≡ (o.session.status == Active)
-  accepted = ra ∙ ap (λ (z : Answered). z.after.status == Active) l.answered
+module _ (r : Record) (body store : Bytes) (st : r.status ≡ Waiting) {o : Outcome} {a : Answered} {d : Bytes} (l : Leaves r o a d) {b : Bool} (ra : b ≡ (a.after.status equals Active)) where
+  accepted : b ≡ (o.session.status equals Active)
+  accepted = ra ∙ ap (λ (z : Answered). z.after.status equals Active) l.answered
 
   pub unaccepted_stays : not b ≡ true → store ≡ store_by (session_of r) body o store
   unaccepted_stays h = old_stays (session_of r) body o store (rw (st, ← accepted, not-true b h))

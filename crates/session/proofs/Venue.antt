@@ -11,7 +11,7 @@ use borrow.Author.Tests.{lt-ltb, le-ltb, lt-leb, le-leb, leb-false, ltb-false, n
 use Rattle.octets.specs.Bytes.{Bytes, Byted}
 use Rattle.calendar.specs.Time.{limit}
 use Rattle.moves.specs.Words.{first, ◌when◌}
-use Rattle.moves.specs.Session.{◌==◌, Session, in_range}
+use Rattle.moves.specs.Session.{◌equals◌, Session, in_range}
 use Rattle.message.specs.Unfit.{string_to}
 use Rattle.moves.specs.Moves as Words
 use Rattle.moves.specs.Moves.{Deeds, Write, Becomes}
@@ -59,7 +59,7 @@ module _ (s : Session) (t room : ℕ) {a : Bool} (ra : a ≡ in_range s) where
       unfolding unsendable
       own_6 h = rw (← ra, not-false a ha, lt-leb limit t h₇, lt-ltb room 600 h)
 
-      module _ (h₆ : 600 ≤ room) {c : Bool} (rc : c ≡ (s.status == Active)) where
+      module _ (h₆ : 600 ≤ room) {c : Bool} (rc : c ≡ (s.status equals Active)) where
         pub own_2 : not c ≡ true → shut (Shut SessionClosed) ≡ first (unsendable s t room)
         unfolding unsendable
         own_2 h = rw (← ra, not-false a ha, lt-leb limit t h₇, le-ltb room 600 h₆, ← rc, not-true c h)

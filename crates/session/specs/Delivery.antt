@@ -1,5 +1,5 @@
 -- What a reader of document 01 looks for in a step: the frame that is delivered, and the slips that are shut out.
-use Rattle.std.specs.Prelude.{ℕ, ◌+◌, ◌≤◌, ◌<◌, ◌≡◌, [], ◌∷◌, true, false, ◌&&◌, ◌||◌, length}
+use Rattle.std.specs.Prelude.{ℕ, ◌+◌, ◌≤◌, ◌<◌, ◌≡◌, [], ◌∷◌, true, false, ◌&&◌, ◌||◌, length, if◌then◌else◌}
 use Rattle.octets.specs.Bytes.{Bytes}
 use Rattle.places.specs.Places.{is_store}
 use Rattle.dictionary.specs.declared.Verdict.TheVariants.{Clean}
@@ -7,7 +7,7 @@ use Rattle.dictionary.specs.Verdict.{verdict, msg_type}
 use Rattle.message.specs.Message.{absent}
 use Rattle.message.specs.Whole.{good, body_in}
 use Rattle.calendar.specs.Time.{utc, limit}
-use Rattle.moves.specs.Words.{◌≤?◌, if◌then◌else◌, speaks}
+use Rattle.moves.specs.Words.{◌≤?◌, speaks}
 use Rattle.gap.specs.Gap.{no_gap}
 use Rattle.moves.specs.Session.{Session, expecting, numbering, sent_at, missing, in_range}
 use Rattle.moves.specs.Seen.{repeated, code_of, reason_of, tag_of}

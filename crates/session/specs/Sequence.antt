@@ -1,14 +1,14 @@
 -- "Nothing delivered twice, nothing stepped over." (document 02, Q-10): what one call contributes to E, a run without a reset, and what holds of every such
 -- run. (That a frame in turn counts, and an AD or F in turn is delivered, is said of each step in Delivery.antt.)
-use Rattle.std.specs.Prelude.{ℕ, ◌+◌, ◌-◌, ◌≤◌, ◌<◌, ◌≡◌, List, [], ◌∷◌, map, Bool, true, false, not, ◌&&◌, ◌||◌, get_or}
+use Rattle.std.specs.Prelude.{ℕ, ◌+◌, ◌-◌, ◌≤◌, ◌<◌, ◌≡◌, List, [], ◌∷◌, map, Bool, true, false, not, ◌&&◌, ◌||◌, get_or, if◌then◌else◌}
 use Rattle.std.proofs.Math.Option.{Option, none, some}
 use Rattle.octets.specs.Bytes.{Bytes, fix, any}
 use Rattle.frame.specs.Stream.{joined}
 use Rattle.frame.specs.Promise.{ExactlyOne}
 use Rattle.fields.specs.Field.{first_field}
 use Rattle.message.specs.Whole.{good, body_in}
-use Rattle.moves.specs.Words.{◌=?◌, ◌<?◌, ◌≤?◌, if◌then◌else◌, ◌when◌, first, ◌otherwise◌}
-use Rattle.moves.specs.Session.{◌==◌, Session}
+use Rattle.moves.specs.Words.{◌=?◌, ◌<?◌, ◌≤?◌, ◌when◌, first, ◌otherwise◌}
+use Rattle.moves.specs.Session.{◌equals◌, Session}
 use Rattle.moves.specs.Seen.{is_it}
 use Rattle.moves.specs.Moves.{OurPeer, #, N, type, bare, ◌holds◌, acceptable}
 use Rattle.moves.specs.declared.record.Status.TheVariants.{Active}
@@ -71,7 +71,7 @@ pub data Share : Type 0 where
 module _ (s : Session) (body : Bytes) (o : Outcome) where
   -- the step is not refused, the session is Active, and nothing is wrong with the message: 34 is readable, 49 the peer's, 56 ours, and there is no verdict
   unfoldable pub taken : Bool
-  taken = s.status == Active && not (refuses o.answer) && acceptable s body
+  taken = s.status equals Active && not (refuses o.answer) && acceptable s body
 
   -- "a reset is an accepted logon with 141=Y or a Sequence Reset that isn't a gap fill": one that is to be taken by rule 3, and is not rejected
   unfoldable pub reset_by : Bool

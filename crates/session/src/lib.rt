@@ -11,7 +11,7 @@ ghost use Rattle.std.proofs.Math.Option.{none};
 ghost use Rattle.calendar.specs.Time.{limit};
 ghost use Rattle.session.specs.Refusals.{No};
 ghost use Rattle.moves.specs.Words.{first};
-ghost use Rattle.moves.specs.Session.{◌==◌, turned, in_range};
+ghost use Rattle.moves.specs.Session.{◌equals◌, turned, in_range};
 ghost use Rattle.session.specs.declared.Answer.TheVariants as Answer;
 ghost use Rattle.session.specs.Calls.{refusing, turned_away, moves_on, due, step, store_by, store_after, tick, logout, test_request, new, reconnect};
 ghost use Rattle.moves.specs.Held.{session_of};
@@ -144,7 +144,7 @@ fn logging_on(r: Record, body: &[u8], time: u64, buf: &mut [u8], store: &mut [u8
 
 // A step that no refusal before the moves stopped.
 fn moving(r: Record, body: &[u8], time: u64, buf: &mut [u8], store: &mut [u8]) -> Answered
-    requires ready { Ready r × (in_range (session_of r) ≡ true) × ((r.status == Status.Closed) ≡ false) }
+    requires ready { Ready r × (in_range (session_of r) ≡ true) × ((r.status equals Status.Closed) ≡ false) }
     requires in_bounds { (600 ≤ length buf.old) × (time < limit) }
     ensures moved { Leaves r (moves_on (session_of r) body.now time buf.old) result buf.new }
     ensures stored { store.new ≡ store_by (session_of r) body.now (moves_on (session_of r) body.now time buf.old) store.old }

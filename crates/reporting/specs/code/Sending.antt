@@ -8,7 +8,7 @@ use Rattle.message.specs.Wrote.{Wrote}
 use Rattle.report.specs.Values.{Values, takes}
 use Rattle.report.specs.Report.{fields_of}
 use Rattle.moves.specs.Words.{◌<?◌, ◌≤?◌, ◌when◌}
-use Rattle.moves.specs.Session.{◌==◌, Session, running, in_range}
+use Rattle.moves.specs.Session.{◌equals◌, Session, running, in_range}
 use Rattle.moves.specs.declared.record.Status.TheVariants.{Active}
 use Rattle.session.specs.Calls.{spent}
 use Rattle.session.specs.declared.Refusal.TheVariants.{SessionClosed, NumbersSpent, TimePast, BadValue, NoRoom, BadRecord, ReportTooLong, Replaying, BadStore}
@@ -23,7 +23,7 @@ of_session s stored t =
     Refused Replaying when running s.replay ∷
     Refused BadStore when not stored ∷
     Refused TimePast when limit ≤? t ∷
-    Refused SessionClosed when not (s.status == Active) ∷
+    Refused SessionClosed when not (s.status equals Active) ∷
     Refused NumbersSpent when spent s ∷
     []
 

@@ -3,7 +3,7 @@ use native.Mathlib.Omega.{arith}
 use mathlib.Core.Path.{refl, sym, ap, ◌∙◌}
 use mathlib.Core.Bool.{false≢true}
 use Rattle.moves.specs.Moves.{active}
-use Rattle.moves.specs.Session.{◌==◌}
+use Rattle.moves.specs.Session.{◌equals◌}
 use Rattle.moves.specs.Held.{session_of}
 use Rattle.moves.specs.declared.record.Status.{Status}
 use Rattle.moves.specs.declared.record.Status.TheVariants.{Active, Closed}
@@ -42,4 +42,4 @@ returns-in-Active c =
 pub returns-in-Closed : goal.returns-in-Closed
 returns-in-Closed c =
     let u = c in
-    absurd (false≢true (sym u.requires.0.2 ∙ ap (λ (x : Status). x == Closed) c.enum_told-in-Closed-1.given.1))
+    absurd (false≢true (sym u.requires.0.2 ∙ ap (λ (x : Status). x equals Closed) c.enum_told-in-Closed-1.given.1))
