@@ -13,12 +13,12 @@ returns-then-places-eq0 c =
 pub put_digits-requires-2 : goal.put_digits-requires-2
 put_digits-requires-2 c =
     let a = c.args in
-    omega (arith, length-set c.put_digits-front.new.0 (a.at + c.before_point-f.result) 46)
+    omega (arith, length-set c.put_digits-front.new.0 (a.at + c.before-point.result) 46)
 
 pub shape_of-buf : goal.shape_of-buf
 shape_of-buf c =
     let a = c.args in
-    omega (arith, length-set c.put_digits-front.new.0 (a.at + c.before_point-f.result) 46)
+    omega (arith, length-set c.put_digits-front.new.0 (a.at + c.before-point.result) 46)
 
 pub returns : goal.returns
 returns c =

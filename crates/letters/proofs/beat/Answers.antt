@@ -9,21 +9,21 @@ use native.Mathlib.Omega.{arith}
 use Rattle.letters.proofs.beat.Goals as goal
 
 pub slice_bounds-ours-end : goal.slice_bounds-ours-end
-slice_bounds-ours-end c = let e : length c.args.r.ours-1 ≡ 11 = search rules in omega arith
+slice_bounds-ours-end c = let e : length c.args.r.ours ≡ 11 = search rules in omega arith
 
 pub slice_bounds-heartbeat-end : goal.slice_bounds-heartbeat-end
-slice_bounds-heartbeat-end c = let e : length c.args.r.ours-1 ≡ 11 = search rules in sym (length-take-le _ _ (omega arith))
+slice_bounds-heartbeat-end c = let e : length c.args.r.ours ≡ 11 = search rules in sym (length-take-le _ _ (omega arith))
 
 pub slice_bounds-peer-end : goal.slice_bounds-peer-end
-slice_bounds-peer-end c = let e : length c.args.r.peer-1 ≡ 11 = search rules in omega arith
+slice_bounds-peer-end c = let e : length c.args.r.peer ≡ 11 = search rules in omega arith
 
 pub slice_bounds-heartbeat-end-2 : goal.slice_bounds-heartbeat-end-2
-slice_bounds-heartbeat-end-2 c = let e : length c.args.r.peer-1 ≡ 11 = search rules in sym (length-take-le _ _ (omega arith))
+slice_bounds-heartbeat-end-2 c = let e : length c.args.r.peer ≡ 11 = search rules in sym (length-take-le _ _ (omega arith))
 
 pub returns : goal.returns
 returns c =
     let s = c in
     let r = s.args.r in
-    let e : length c.args.r.ours-1 ≡ 11 = search rules in
-    let f : length c.args.r.peer-1 ≡ 11 = search rules in
+    let e : length c.args.r.ours ≡ 11 = search rules in
+    let f : length c.args.r.peer ≡ 11 = search rules in
     beat_put r s.requires.0 e f s.args.time (c.utc-stamp.ensures ∙ utc_before _ s.requires.2) s.requires.1 c.heartbeat.ensures

@@ -49,7 +49,7 @@ put_frame-requires c =
     let s = c in
     let p = c.put_body-k in
     let e = length-take-le p.result p.new.0 (omega (arith, p.ensures.1)) in
-    frame-fits (length (take p.result p.new.0)) (length s.args.buf-1.now) (omega (arith, e, p.ensures.1)) s.requires.0.4
+    frame-fits (length (take p.result p.new.0)) (length s.args.buf.now) (omega (arith, e, p.ensures.1)) s.requires.0.4
 
 pub returns : goal.returns
 returns c =

@@ -13,44 +13,44 @@ pub slice_bounds-ours-end : goal.slice_bounds-ours-end
 slice_bounds-ours-end c =
     let s = c in
     let P = plays s.args.r s.requires.0 s.requires.1 in
-    let e : length s.args.r.ours-1 ≡ 11 = search rules in
-    omega (arith, P.ours-1.short, e)
+    let e : length s.args.r.ours ≡ 11 = search rules in
+    omega (arith, P.ours.short, e)
 
 pub slice_bounds-us-end : goal.slice_bounds-us-end
 slice_bounds-us-end c =
     let s = c in
     let P = plays s.args.r s.requires.0 s.requires.1 in
-    let e : length s.args.r.ours-1 ≡ 11 = search rules in
-    sym (length-take-le _ _ (omega (arith, P.ours-1.short, e)))
+    let e : length s.args.r.ours ≡ 11 = search rules in
+    sym (length-take-le _ _ (omega (arith, P.ours.short, e)))
 
 pub slice_bounds-peer-end : goal.slice_bounds-peer-end
 slice_bounds-peer-end c =
     let s = c in
     let P = plays s.args.r s.requires.0 s.requires.1 in
-    let e : length s.args.r.peer-1 ≡ 11 = search rules in
-    omega (arith, P.peer-1.short, e)
+    let e : length s.args.r.peer ≡ 11 = search rules in
+    omega (arith, P.peer.short, e)
 
 pub slice_bounds-them-end : goal.slice_bounds-them-end
 slice_bounds-them-end c =
     let s = c in
     let P = plays s.args.r s.requires.0 s.requires.1 in
-    let e : length s.args.r.peer-1 ≡ 11 = search rules in
-    sym (length-take-le _ _ (omega (arith, P.peer-1.short, e)))
+    let e : length s.args.r.peer ≡ 11 = search rules in
+    sym (length-take-le _ _ (omega (arith, P.peer.short, e)))
 
 pub overflow_add-us : goal.overflow_add-us
 overflow_add-us c =
     let s = c in
     let P = plays s.args.r s.requires.0 s.requires.1 in
-    omega (arith, P.ours-1.long, P.peer-1.long)
+    omega (arith, P.ours.long, P.peer.long)
 
 pub peeked-numbers-requires : goal.peeked-numbers-requires
 peeked-numbers-requires c =
     let s = c in
     let P = plays s.args.r s.requires.0 s.requires.1 in
-    (s.requires.2, omega (arith, P.ours-1.long, P.peer-1.long))
+    (s.requires.2, omega (arith, P.ours.long, P.peer.long))
 
 pub place_of-i-requires : goal.place_of-i-requires
-place_of-i-requires c = let s = c in let P = plays s.args.r s.requires.0 s.requires.1 in (s.requires.2, P.ours-1.right, P.peer-1.right, P.low, c.peeked-numbers.ensures)
+place_of-i-requires c = let s = c in let P = plays s.args.r s.requires.0 s.requires.1 in (s.requires.2, P.ours.right, P.peer.right, P.low, c.peeked-numbers.ensures)
 
 pub slice_bounds-put_again-end : goal.slice_bounds-put_again-end
 slice_bounds-put_again-end c = let e = store_is _ c.requires.2 in omega (arith, e, c.if-i-lt64.true)
@@ -61,7 +61,7 @@ put_again-len-requires c =
     let P = plays s.args.r s.requires.0 s.requires.1 in
     let i = c.place_of-i in
     let h = c.if-i-lt64.true in
-    ((place_long _ _ _ _ _ i.ensures s.requires.2 h, P.ours-1.right, P.peer-1.right, s.requires.3, s.requires.4), (P.low, place_number _ _ _ _ _ i.ensures h))
+    ((place_long _ _ _ _ _ i.ensures s.requires.2 h, P.ours.right, P.peer.right, s.requires.3, s.requires.4), (P.low, place_number _ _ _ _ _ i.ensures h))
 
 pub moved_on-requires : goal.moved_on-requires
 moved_on-requires c = let s = c in let P = plays s.args.r s.requires.0 s.requires.1 in omega (arith, P.ordered, P.high)
@@ -69,10 +69,10 @@ moved_on-requires c = let s = c in let P = plays s.args.r s.requires.0 s.require
 pub returns-then-i-lt64 : goal.returns-then-i-lt64
 returns-then-i-lt64 c =
     let s = c in
-    play_again s.args.r s.args.time s.args.buf-1.now (plays s.args.r s.requires.0 s.requires.1) s.args.store.now c.place_of-i.ensures c.if-i-lt64.true c.put_again-len.ensures.0 (omega (arith, c.put_again-len.ensures.1, s.requires.4)) c.moved_on.ensures
+    play_again s.args.r s.args.time s.args.buf.now (plays s.args.r s.requires.0 s.requires.1) s.args.store.now c.place_of-i.ensures c.if-i-lt64.true c.put_again-len.ensures.0 (omega (arith, c.put_again-len.ensures.1, s.requires.4)) c.moved_on.ensures
 
 pub run_to-e-requires : goal.run_to-e-requires
-run_to-e-requires c = let s = c in let P = plays s.args.r s.requires.0 s.requires.1 in (s.requires.2, P.ours-1.right, P.peer-1.right, c.peeked-numbers.ensures)
+run_to-e-requires c = let s = c in let P = plays s.args.r s.requires.0 s.requires.1 in (s.requires.2, P.ours.right, P.peer.right, c.peeked-numbers.ensures)
 
 pub overflow_add-e : goal.overflow_add-e
 overflow_add-e c =
@@ -91,4 +91,4 @@ moved_on-requires-2 c =
 pub returns : goal.returns
 returns c =
     let s = c in
-    play_fill s.args.r s.args.time s.args.buf-1.now (plays s.args.r s.requires.0 s.requires.1) s.args.store.now c.place_of-i.ensures c.if-i-lt64.false c.run_to-e.ensures (c.utc-stamp.ensures ∙ utc_before _ s.requires.3) c.gap_filled.ensures s.requires.4 c.moved_on-2.ensures
+    play_fill s.args.r s.args.time s.args.buf.now (plays s.args.r s.requires.0 s.requires.1) s.args.store.now c.place_of-i.ensures c.if-i-lt64.false c.run_to-e.ensures (c.utc-stamp.ensures ∙ utc_before _ s.requires.3) c.gap_filled.ensures s.requires.4 c.moved_on-2.ensures

@@ -12,35 +12,35 @@ use Rattle.reporting.proofs.Sends.{head_some, body_put}
 use Rattle.reporting.proofs.put_body.Goals as goal
 
 pub slice_bounds-ours-end : goal.slice_bounds-ours-end
-slice_bounds-ours-end c = let e : length c.args.r.ours-1 ≡ 11 = search rules in omega (arith, c.requires.0.ours-1)
+slice_bounds-ours-end c = let e : length c.args.r.ours ≡ 11 = search rules in omega (arith, c.requires.0.ours)
 
 pub slice_bounds-put_head-end : goal.slice_bounds-put_head-end
-slice_bounds-put_head-end c = let e : length c.args.r.ours-1 ≡ 11 = search rules in sym (length-take-le _ _ (omega (arith, c.requires.0.ours-1)))
+slice_bounds-put_head-end c = let e : length c.args.r.ours ≡ 11 = search rules in sym (length-take-le _ _ (omega (arith, c.requires.0.ours)))
 
 pub slice_bounds-peer-end : goal.slice_bounds-peer-end
-slice_bounds-peer-end c = let e : length c.args.r.peer-1 ≡ 11 = search rules in omega (arith, c.requires.0.peer-1)
+slice_bounds-peer-end c = let e : length c.args.r.peer ≡ 11 = search rules in omega (arith, c.requires.0.peer)
 
 pub slice_bounds-put_head-end-2 : goal.slice_bounds-put_head-end-2
-slice_bounds-put_head-end-2 c = let e : length c.args.r.peer-1 ≡ 11 = search rules in sym (length-take-le _ _ (omega (arith, c.requires.0.peer-1)))
+slice_bounds-put_head-end-2 c = let e : length c.args.r.peer ≡ 11 = search rules in sym (length-take-le _ _ (omega (arith, c.requires.0.peer)))
 
 pub put_head-a-requires : goal.put_head-a-requires
 put_head-a-requires c =
     let P = c.requires in
     let r = c.args.r in
-    let e : length r.ours-1 ≡ 11 = search rules in
-    let f : length r.peer-1 ≡ 11 = search rules in
+    let e : length r.ours ≡ 11 = search rules in
+    let f : length r.peer ≡ 11 = search rules in
     let g : length c.utc-stamp.result ≡ 24 = search rules in
-    (omega (arith, P.0.ours-1, length-take-le r.oursLen r.ours-1 (omega (arith, P.0.ours-1))), omega (arith, P.0.peer-1, length-take-le r.peerLen r.peer-1 (omega (arith, P.0.peer-1))), omega (arith, P.0.next), omega (arith, g), P.2)
+    (omega (arith, P.0.ours, length-take-le r.oursLen r.ours (omega (arith, P.0.ours))), omega (arith, P.0.peer, length-take-le r.peerLen r.peer (omega (arith, P.0.peer))), omega (arith, P.0.next), omega (arith, g), P.2)
 
 pub put_own-requires : goal.put_own-requires
 put_own-requires c =
     let h = c.put_head-a.ensures in
     let r = c.args.r in
-    (omega (arith, h.0.next, head_some (take r.oursLen r.ours-1) (take r.peerLen r.peer-1) r.next c.utc-stamp.result), omega (arith, h.1), search rules)
+    (omega (arith, h.0.next, head_some (take r.oursLen r.ours) (take r.peerLen r.peer) r.next c.utc-stamp.result), omega (arith, h.1), search rules)
 
 pub returns : goal.returns
 returns c =
     let a = c.args in
     let P = c.requires in
     let h = c.put_head-a.ensures in
-    body_put (session_of a.r) (values_given a.values.now a.text.now) a.time (sym (held_is a.r.oursLen a.r.ours-1 P.0.ours-1)) (sym (held_is a.r.peerLen a.r.peer-1 P.0.peer-1)) (c.utc-stamp.ensures ∙ utc_before _ P.1) (omega (arith, h.0.next, head_some (take a.r.oursLen a.r.ours-1) (take a.r.peerLen a.r.peer-1) a.r.next c.utc-stamp.result)) h.0 c.put_own.ensures
+    body_put (session_of a.r) (values_given a.values.now a.text.now) a.time (sym (held_is a.r.oursLen a.r.ours P.0.ours)) (sym (held_is a.r.peerLen a.r.peer P.0.peer)) (c.utc-stamp.ensures ∙ utc_before _ P.1) (omega (arith, h.0.next, head_some (take a.r.oursLen a.r.ours) (take a.r.peerLen a.r.peer) a.r.next c.utc-stamp.result)) h.0 c.put_own.ensures

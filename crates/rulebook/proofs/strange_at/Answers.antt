@@ -7,16 +7,16 @@ use Rattle.rulebook.proofs.Deciding.{deciding}
 use Rattle.rulebook.proofs.strange_at.Goals as goal
 
 pub slice_bounds-peer-end : goal.slice_bounds-peer-end
-slice_bounds-peer-end c = let e : length c.args.r.peer-1 ≡ 11 = search rules in omega arith
+slice_bounds-peer-end c = let e : length c.args.r.peer ≡ 11 = search rules in omega arith
 
 pub slice_bounds-holds_at-end : goal.slice_bounds-holds_at-end
-slice_bounds-holds_at-end c = let e : length c.args.r.peer-1 ≡ 11 = search rules in sym (length-take-le _ _ (omega arith))
+slice_bounds-holds_at-end c = let e : length c.args.r.peer ≡ 11 = search rules in sym (length-take-le _ _ (omega arith))
 
 pub slice_bounds-ours-end : goal.slice_bounds-ours-end
-slice_bounds-ours-end c = let e : length c.args.r.ours-1 ≡ 11 = search rules in omega arith
+slice_bounds-ours-end c = let e : length c.args.r.ours ≡ 11 = search rules in omega arith
 
 pub slice_bounds-holds_at-end-2 : goal.slice_bounds-holds_at-end-2
-slice_bounds-holds_at-end-2 c = let e : length c.args.r.ours-1 ≡ 11 = search rules in sym (length-take-le _ _ (omega arith))
+slice_bounds-holds_at-end-2 c = let e : length c.args.r.ours ≡ 11 = search rules in sym (length-take-le _ _ (omega arith))
 
 pub returns-then-not-holds_at : goal.returns-then-not-holds_at
 returns-then-not-holds_at c = search deciding

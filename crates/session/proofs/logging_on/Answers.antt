@@ -25,24 +25,24 @@ returns-then-not-is_active c =
     let b = c in
     let u = b in
     let a = u.args in
-    let l = wait_open a.r a.body.now a.time a.buf-1.now u.requires.0.2 u.requires.0.3
-    (settled_makes a.time (session_of a.r) a.body.now b.waiting.result (waiting (session_of a.r) a.body.now a.time) b.settled-p.ensures b.waiting.ensures a.buf-1.now) b.say-left.ensures in
-    (l, unaccepted_stays a.r a.body.now a.store-1.now u.requires.0.2 l c.is_active.ensures c.if-not-is_active.true)
+    let l = wait_open a.r a.body.now a.time a.buf.now u.requires.0.2 u.requires.0.3
+    (settled_makes a.time (session_of a.r) a.body.now b.waiting.result (waiting (session_of a.r) a.body.now a.time) b.settled-p.ensures b.waiting.ensures a.buf.now) b.say-left.ensures in
+    (l, unaccepted_stays a.r a.body.now a.store.now u.requires.0.2 l c.is_active.ensures c.if-not-is_active.true)
 
 pub returns-then-not-holds : goal.returns-then-not-holds
 returns-then-not-holds c =
     let b = c in
     let u = b in
     let a = u.args in
-    let l = wait_open a.r a.body.now a.time a.buf-1.now u.requires.0.2 u.requires.0.3
-    (settled_makes a.time (session_of a.r) a.body.now b.waiting.result (waiting (session_of a.r) a.body.now a.time) b.settled-p.ensures b.waiting.ensures a.buf-1.now) b.say-left.ensures in
-    (l, unasked_stays a.r a.body.now a.store-1.now u.requires.0.2 l c.is_active.ensures c.if-not-is_active.false c.holds.ensures c.if-not-holds.true)
+    let l = wait_open a.r a.body.now a.time a.buf.now u.requires.0.2 u.requires.0.3
+    (settled_makes a.time (session_of a.r) a.body.now b.waiting.result (waiting (session_of a.r) a.body.now a.time) b.settled-p.ensures b.waiting.ensures a.buf.now) b.say-left.ensures in
+    (l, unasked_stays a.r a.body.now a.store.now u.requires.0.2 l c.is_active.ensures c.if-not-is_active.false c.holds.ensures c.if-not-holds.true)
 
 pub returns : goal.returns
 returns c =
     let b = c in
     let u = b in
     let a = u.args in
-    let l = wait_open a.r a.body.now a.time a.buf-1.now u.requires.0.2 u.requires.0.3
-    (settled_makes a.time (session_of a.r) a.body.now b.waiting.result (waiting (session_of a.r) a.body.now a.time) b.settled-p.ensures b.waiting.ensures a.buf-1.now) b.say-left.ensures in
-    (l, asked_zeroes a.r a.body.now a.store-1.now u.requires.0.2 l c.is_active.ensures c.if-not-is_active.false c.holds.ensures c.if-not-holds.false c.zero_store.ensures)
+    let l = wait_open a.r a.body.now a.time a.buf.now u.requires.0.2 u.requires.0.3
+    (settled_makes a.time (session_of a.r) a.body.now b.waiting.result (waiting (session_of a.r) a.body.now a.time) b.settled-p.ensures b.waiting.ensures a.buf.now) b.say-left.ensures in
+    (l, asked_zeroes a.r a.body.now a.store.now u.requires.0.2 l c.is_active.ensures c.if-not-is_active.false c.holds.ensures c.if-not-holds.false c.zero_store.ensures)

@@ -21,11 +21,11 @@ pub returns-in-Shut : goal.returns-in-Shut
 unfolding logout
 returns-in-Shut c =
     let a = c.args in
-    own_shut a.r (unsendable (session_of a.r) a.time (length a.buf-1.now)) a.time farewell a.buf-1.now c.own_gate-gate.ensures c.gate-1.given.1 c.refused.ensures
+    own_shut a.r (unsendable (session_of a.r) a.time (length a.buf.now)) a.time farewell a.buf.now c.own_gate-gate.ensures c.gate-1.given.1 c.refused.ensures
 
 pub returns-in-Open : goal.returns-in-Open
 unfolding logout
 returns-in-Open c =
     let a = c.args in
-    own_made a.r (unsendable (session_of a.r) a.time (length a.buf-1.now)) a.time farewell a.buf-1.now c.own_gate-gate.ensures c.enum_told-1.given.1
-    (plan_makes a.time (session_of a.r) [] c.closing-p.result farewell a.buf-1.now (farewell-plan (session_of a.r) c.closing-p.ensures)) c.say.ensures
+    own_made a.r (unsendable (session_of a.r) a.time (length a.buf.now)) a.time farewell a.buf.now c.own_gate-gate.ensures c.enum_told-1.given.1
+    (plan_makes a.time (session_of a.r) [] c.closing-p.result farewell a.buf.now (farewell-plan (session_of a.r) c.closing-p.ensures)) c.say.ensures

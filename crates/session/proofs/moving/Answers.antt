@@ -29,15 +29,15 @@ play-requires c =
 pub returns-in-Shut : goal.returns-in-Shut
 returns-in-Shut c =
     let a = c.args in
-    let e = wait_shut (session_of a.r) a.body.now a.time a.buf-1.now c.enum_told-1.given.1 c.logon_gate-gate.ensures c.gate-1.given.1 in
-    (made_by a.r (sym e) (record { answered = c.refused.ensures; buffer = refl }), refusal_stays (session_of a.r) a.body.now a.buf-1.now a.store-1.now e)
+    let e = wait_shut (session_of a.r) a.body.now a.time a.buf.now c.enum_told-1.given.1 c.logon_gate-gate.ensures c.gate-1.given.1 in
+    (made_by a.r (sym e) (record { answered = c.refused.ensures; buffer = refl }), refusal_stays (session_of a.r) a.body.now a.buf.now a.store.now e)
 
 pub returns-in-Active : goal.returns-in-Active
 returns-in-Active c =
     let a = c.args in
     let st = c.enum_told-in-Active-1.given.1 in
-    let w = settled_makes a.time (session_of a.r) a.body.now c.active.result (active (session_of a.r) a.body.now a.time) c.settled-p.ensures c.active.ensures a.buf-1.now in
-    (act a.r a.body.now a.time a.buf-1.now st w c.play.ensures, awake_stays (session_of a.r) a.body.now _ a.store-1.now Active refl st)
+    let w = settled_makes a.time (session_of a.r) a.body.now c.active.result (active (session_of a.r) a.body.now a.time) c.settled-p.ensures c.active.ensures a.buf.now in
+    (act a.r a.body.now a.time a.buf.now st w c.play.ensures, awake_stays (session_of a.r) a.body.now _ a.store.now Active refl st)
 
 pub returns-in-Closed : goal.returns-in-Closed
 returns-in-Closed c =

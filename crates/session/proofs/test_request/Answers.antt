@@ -11,7 +11,7 @@ use Rattle.session.proofs.test_request.Goals as goal
 pub returns-then-not-is_test_id : goal.returns-then-not-is_test_id
 returns-then-not-is_test_id c =
     let a = c.args in
-    test_8 a.r a.id.now a.time a.buf-1.now c.own_gate-gate.ensures c.enum_told-1.given.1 c.is_test_id.ensures c.if-not-is_test_id.true c.refused-then-not-is_test_id.ensures
+    test_8 a.r a.id.now a.time a.buf.now c.own_gate-gate.ensures c.enum_told-1.given.1 c.is_test_id.ensures c.if-not-is_test_id.true c.refused-then-not-is_test_id.ensures
 
 pub say-requires : goal.say-requires
 say-requires c =
@@ -25,10 +25,10 @@ say-requires c =
 pub returns-in-Shut : goal.returns-in-Shut
 returns-in-Shut c =
     let a = c.args in
-    test_shut a.r a.id.now a.time a.buf-1.now c.own_gate-gate.ensures c.gate-1.given.1 c.refused.ensures
+    test_shut a.r a.id.now a.time a.buf.now c.own_gate-gate.ensures c.gate-1.given.1 c.refused.ensures
 
 pub returns-else-not-is_test_id : goal.returns-else-not-is_test_id
 returns-else-not-is_test_id c =
     let a = c.args in
-    test_made a.r a.id.now a.time a.buf-1.now c.own_gate-gate.ensures c.enum_told-1.given.1 c.is_test_id.ensures c.if-not-is_test_id.false
-    (plan_makes a.time (session_of a.r) a.id.now c.saying-p.result (asked a.id.now) a.buf-1.now (asked-plan (session_of a.r) a.id.now c.saying-p.ensures)) c.say.ensures
+    test_made a.r a.id.now a.time a.buf.now c.own_gate-gate.ensures c.enum_told-1.given.1 c.is_test_id.ensures c.if-not-is_test_id.false
+    (plan_makes a.time (session_of a.r) a.id.now c.saying-p.result (asked a.id.now) a.buf.now (asked-plan (session_of a.r) a.id.now c.saying-p.ensures)) c.say.ensures

@@ -20,23 +20,23 @@ kept_number-n-requires c = let s = c in (slice-length _ _ s.requires.0 c.loop-i-
 pub returns-then-n-eq0 : goal.returns-then-n-eq0
 returns-then-n-eq0 c =
     let l = c.loop-i in
-    free_none _ _ _ l.numbers-1 l.i _ c.loop-i-test.true l.invariant.2 c.kept_number-n.ensures c.requires.0 c.if-n-eq0.true
+    free_none _ _ _ l.numbers l.i _ c.loop-i-test.true l.invariant.2 c.kept_number-n.ensures c.requires.0 c.if-n-eq0.true
 
 pub returns-then-is_met : goal.returns-then-is_met
 returns-then-is_met c =
     let l = c.loop-i in
-    free_met _ _ _ l.numbers-1 l.i _ c.loop-i-test.true l.invariant.2 c.kept_number-n.ensures c.if-n-eq0.false c.is_met.ensures c.if-is_met.true
+    free_met _ _ _ l.numbers l.i _ c.loop-i-test.true l.invariant.2 c.kept_number-n.ensures c.if-n-eq0.false c.is_met.ensures c.if-is_met.true
 
 pub loop-i-preserved : goal.loop-i-preserved
 loop-i-preserved c =
     let l = c.loop-i in (
       omega arith,
-      length-set l.numbers-1 l.i _ ∙ l.invariant.1,
-      free_more _ _ _ l.numbers-1 l.i _ c.loop-i-test.true l.invariant.2 c.kept_number-n.ensures l.invariant.1 c.if-n-eq0.false c.is_met.ensures c.if-is_met.false,
+      length-set l.numbers l.i _ ∙ l.invariant.1,
+      free_more _ _ _ l.numbers l.i _ c.loop-i-test.true l.invariant.2 c.kept_number-n.ensures l.invariant.1 c.if-n-eq0.false c.is_met.ensures c.if-is_met.false,
     )
 
 pub returns : goal.returns
 returns c =
     let l = c.loop-i in
     let e : l.i ≡ 64 = omega arith in
-    free_full _ _ _ l.numbers-1 l.i _ l.invariant.1 e l.invariant.2 c.lowest_place.ensures
+    free_full _ _ _ l.numbers l.i _ l.invariant.1 e l.invariant.2 c.lowest_place.ensures

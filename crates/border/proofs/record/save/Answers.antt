@@ -9,27 +9,27 @@ use Rattle.border.specs.Record.{gap_words}
 use Rattle.border.proofs.record.save.Goals as goal
 
 pub bounds-words-5 : goal.bounds-words-5
-bounds-words-5 c = let a = c.args in lt-length-sets a.words-1.now 1 (c.status_number.result ∷ a.r.expected ∷ a.r.next ∷ a.r.heartbeat ∷ []) (omega arith)
+bounds-words-5 c = let a = c.args in lt-length-sets a.words.now 1 (c.status_number.result ∷ a.r.expected ∷ a.r.next ∷ a.r.heartbeat ∷ []) (omega arith)
 
 pub bounds-words-6 : goal.bounds-words-6
-bounds-words-6 c = let a = c.args in lt-length-sets a.words-1.now 1 (c.status_number.result ∷ a.r.expected ∷ a.r.next ∷ a.r.heartbeat ∷ a.r.sent ∷ []) (omega arith)
+bounds-words-6 c = let a = c.args in lt-length-sets a.words.now 1 (c.status_number.result ∷ a.r.expected ∷ a.r.next ∷ a.r.heartbeat ∷ a.r.sent ∷ []) (omega arith)
 
 pub bounds-words-7 : goal.bounds-words-7
-bounds-words-7 c = let a = c.args in lt-length-sets a.words-1.now 1 (c.status_number.result ∷ a.r.expected ∷ a.r.next ∷ a.r.heartbeat ∷ a.r.sent ∷ a.r.at ∷ []) (omega arith)
+bounds-words-7 c = let a = c.args in lt-length-sets a.words.now 1 (c.status_number.result ∷ a.r.expected ∷ a.r.next ∷ a.r.heartbeat ∷ a.r.sent ∷ a.r.at ∷ []) (omega arith)
 
 pub save_gap-requires : goal.save_gap-requires
 save_gap-requires c =
     let a = c.args in
-    length-sets a.words-1.now 1 (c.status_number.result ∷ a.r.expected ∷ a.r.next ∷ a.r.heartbeat ∷ a.r.sent ∷ a.r.at ∷ a.r.to ∷ []) ∙ c.requires
+    length-sets a.words.now 1 (c.status_number.result ∷ a.r.expected ∷ a.r.next ∷ a.r.heartbeat ∷ a.r.sent ∷ a.r.at ∷ a.r.to ∷ []) ∙ c.requires
 
 pub shape_of-words : goal.shape_of-words
 shape_of-words c =
     let a = c.args in
     ap length c.save_gap.ensures
-    ∙ length-sets a.words-1.now 1 (c.status_number.result ∷ a.r.expected ∷ a.r.next ∷ a.r.heartbeat ∷ a.r.sent ∷ a.r.at ∷ a.r.to ∷ gap_words a.r.gap)
+    ∙ length-sets a.words.now 1 (c.status_number.result ∷ a.r.expected ∷ a.r.next ∷ a.r.heartbeat ∷ a.r.sent ∷ a.r.at ∷ a.r.to ∷ gap_words a.r.gap)
 
 pub returns : goal.returns
 returns c =
     let a = c.args in
     c.save_gap.ensures
-    ∙ ap (λ (k : ℕ). sets a.words-1.now 1 (k ∷ a.r.expected ∷ a.r.next ∷ a.r.heartbeat ∷ a.r.sent ∷ a.r.at ∷ a.r.to ∷ gap_words a.r.gap)) c.status_number.ensures
+    ∙ ap (λ (k : ℕ). sets a.words.now 1 (k ∷ a.r.expected ∷ a.r.next ∷ a.r.heartbeat ∷ a.r.sent ∷ a.r.at ∷ a.r.to ∷ gap_words a.r.gap)) c.status_number.ensures

@@ -18,13 +18,13 @@ pub field_at-requires : goal.field_at-requires
 field_at-requires c = tt
 
 pub enum_known-tag : goal.enum_known-tag
-enum_known-tag c = c.in-NoBody.keys1
+enum_known-tag c = c.in-Field.keys1
 
 pub enum_known-start : goal.enum_known-start
-enum_known-start c = c.in-NoBody.keys2
+enum_known-start c = c.in-Malformed.keys2
 
 pub enum_told-1 : goal.enum_told-1
-enum_told-1 c = c.in-NoBody.keys3
+enum_told-1 c = c.in-End.keys3
 
 pub enum_told-in-NoBody : goal.enum_told-in-NoBody
 enum_told-in-NoBody c = c.in-NoBody.keys4

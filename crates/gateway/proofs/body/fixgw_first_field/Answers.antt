@@ -20,7 +20,7 @@ pub first_field-requires : goal.first_field-requires
 first_field-requires c = tt
 
 pub enum_known-start : goal.enum_known-start
-enum_known-start c = c.in-Absent.keys1
+enum_known-start c = c.in-At.keys1
 
 pub enum_told-1 : goal.enum_told-1
 enum_told-1 c = c.in-Absent.keys2

@@ -19,10 +19,10 @@ pub verdict_on-requires : goal.verdict_on-requires
 verdict_on-requires c = tt
 
 pub enum_told-1 : goal.enum_told-1
-enum_told-1 c = c.in-NoBody.keys1
+enum_told-1 c = c.in-Clean.keys1
 
 pub enum_known-reason : goal.enum_known-reason
-enum_known-reason c = c.in-NoBody.keys2
+enum_known-reason c = c.in-Finding.keys2
 
 pub enum_told-in-NoBody : goal.enum_told-in-NoBody
 enum_told-in-NoBody c = c.in-NoBody.keys3

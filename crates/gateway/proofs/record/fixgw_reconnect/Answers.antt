@@ -8,19 +8,19 @@ use Rattle.gateway.proofs.record.fixgw_reconnect.Goals as goal
 pub returns-then-not-is_record : goal.returns-then-not-is_record
 returns-then-not-is_record c =
     let a = c.args in
-    reconnect_unread a.ids.now a.words-1.now (no_record a.words-1.now a.ids.now (sym c.is_record.ensures ∙ not-true _ c.if-not-is_record.true))
+    reconnect_unread a.ids.now a.words.now (no_record a.words.now a.ids.now (sym c.is_record.ensures ∙ not-true _ c.if-not-is_record.true))
 
 pub load-requires : goal.load-requires
 load-requires c = sym c.is_record.ensures ∙ not-false _ c.if-not-is_record.false
 
 pub leave-requires : goal.leave-requires
-leave-requires c = record_length c.args.words-1.now (sym c.is_record.ensures ∙ not-false _ c.if-not-is_record.false)
+leave-requires c = record_length c.args.words.now (sym c.is_record.ensures ∙ not-false _ c.if-not-is_record.false)
 
 pub returns : goal.returns
 returns c =
     let a = c.args in
     let left = c.leave.ensures in
-    reconnect_left a.ids.now a.words-1.now c.load.ensures left.0 left.1 c.reconnect.ensures
+    reconnect_left a.ids.now a.words.now c.load.ensures left.0 left.1 c.reconnect.ensures
 
 pub is_record-requires : goal.is_record-requires
 is_record-requires c = tt

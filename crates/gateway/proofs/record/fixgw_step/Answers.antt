@@ -8,20 +8,20 @@ use Rattle.gateway.proofs.record.fixgw_step.Goals as goal
 pub returns-then-not-is_record : goal.returns-then-not-is_record
 returns-then-not-is_record c =
     let a = c.args in
-    step_unread a.ids.now a.words-1.now (no_record a.words-1.now a.ids.now (sym c.is_record.ensures ∙ not-true _ c.if-not-is_record.true)) a.frame.now a.time a.buf-1.now a.store-1.now
+    step_unread a.ids.now a.words.now (no_record a.words.now a.ids.now (sym c.is_record.ensures ∙ not-true _ c.if-not-is_record.true)) a.frame.now a.time a.buf.now a.store.now
 
 pub load-requires : goal.load-requires
 load-requires c = sym c.is_record.ensures ∙ not-false _ c.if-not-is_record.false
 
 pub leave-requires : goal.leave-requires
-leave-requires c = record_length c.args.words-1.now (sym c.is_record.ensures ∙ not-false _ c.if-not-is_record.false)
+leave-requires c = record_length c.args.words.now (sym c.is_record.ensures ∙ not-false _ c.if-not-is_record.false)
 
 pub returns : goal.returns
 returns c =
     let a = c.args in
     let left = c.leave.ensures in
     let steps = c.step-left.ensures in
-    step_left a.ids.now a.words-1.now c.load.ensures left.0 left.1 a.frame.now a.time a.buf-1.now a.store-1.now c.delivered.ensures steps.leaves steps.stored
+    step_left a.ids.now a.words.now c.load.ensures left.0 left.1 a.frame.now a.time a.buf.now a.store.now c.delivered.ensures steps.leaves steps.stored
 
 pub is_record-requires : goal.is_record-requires
 is_record-requires c = tt

@@ -12,7 +12,7 @@ pub reading_of-requires : goal.reading_of-requires
 reading_of-requires c = tt
 
 pub enum_known-skip : goal.enum_known-skip
-enum_known-skip c = c.in-NoFrame.keys1
+enum_known-skip c = c.in-Frame.keys1
 
 pub enum_known-drop : goal.enum_known-drop
 enum_known-drop c = c.in-NoFrame.keys2

@@ -15,4 +15,4 @@ returns-then-e-3 c m H =
 pub returns : goal.returns
 returns c m H =
     let s = c in
-    left_out m s.args.e s.args.text.now H s.args.buf-1.now s.args.at c.if-e.false c.if-e-3.false
+    left_out m s.args.e s.args.text.now H s.args.buf.now s.args.at c.if-e.false c.if-e-3.false

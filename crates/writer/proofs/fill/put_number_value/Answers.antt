@@ -34,4 +34,4 @@ returns c =
     let p = c.put_decimal-k in
     let e = front_of p.ensures (omega (arith, few_digits 8 s.args.n (omega arith))) in
     let q = c.put_bytes_value in
-    subst (λ (v : Bytes). PutText (meaning s.args.kind) s.args.tag v s.args.buf-1.now q.new.0 s.args.at q.result) e q.ensures
+    subst (λ (v : Bytes). PutText (meaning s.args.kind) s.args.tag v s.args.buf.now q.new.0 s.args.at q.result) e q.ensures

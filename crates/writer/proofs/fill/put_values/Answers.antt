@@ -25,7 +25,7 @@ put_entry-requires c =
     let S = c.slots-table in
     let t = slot_bounds S.result S.ensures l.k k in
     let f = first_short s.args.m s.requires.0 vs l.k (l.invariant.1.1.1 s.args.m s.requires.0 M) in
-    ((t.0, t.1, omega (arith, f, l.invariant.1.1.0.next-1, l.invariant.1.0, s.requires.1)), t.2)
+    ((t.0, t.1, omega (arith, f, l.invariant.1.1.0.next, l.invariant.1.0, s.requires.1)), t.2)
 
 pub returns-in-Unfit : goal.returns-in-Unfit
 returns-in-Unfit c =
@@ -39,9 +39,9 @@ returns-in-Unfit c =
     let one = c.bit in
     let two = c.bit-in-loop-k in
     let here =
-    put_here S.result S.ensures l.k k s.args.t4 s.args.text.now c.marks_of-marks.result one.result two.result one.ensures two.ensures l.buf-1
+    put_here S.result S.ensures l.k k s.args.t4 s.args.text.now c.marks_of-marks.result one.result two.result one.ensures two.ensures l.buf
     p.new.0 l.to p.result p.ensures in
-    let r = told c.enum_told-1.given.1 (tag_at l.k) (vs (tag_at l.k)) l.buf-1 p.new.0 l.to c.marks_of-marks.result here in
+    let r = told c.enum_told-1.given.1 (tag_at l.k) (vs (tag_at l.k)) l.buf p.new.0 l.to c.marks_of-marks.result here in
     unfit-here s.args.m vs l.k k (r s.args.m s.requires.0 M)
 
 pub loop-k-preserved : goal.loop-k-preserved
@@ -56,9 +56,9 @@ loop-k-preserved c =
     let one = c.bit in
     let two = c.bit-in-loop-k in
     let here =
-    put_here S.result S.ensures l.k k s.args.t4 s.args.text.now c.marks_of-marks.result one.result two.result one.ensures two.ensures l.buf-1
+    put_here S.result S.ensures l.k k s.args.t4 s.args.text.now c.marks_of-marks.result one.result two.result one.ensures two.ensures l.buf
     p.new.0 l.to p.result p.ensures in
-    let at = told c.next-1.given.1 (tag_at l.k) (vs (tag_at l.k)) l.buf-1 p.new.0 l.to c.marks_of-marks.result here in (
+    let at = told c.next-1.given.1 (tag_at l.k) (vs (tag_at l.k)) l.buf p.new.0 l.to c.marks_of-marks.result here in (
       omega arith,
       (
         omega (arith, p.auto, l.invariant.1.0),
