@@ -26,8 +26,8 @@ infix 80 ◌N
 infix 80 ◌of◌Y
 infix 80 ◌of◌N
 infix 80 ◌from◌to◌Y
-infix 80 group_Y
-infix 80 group_N
+infix 80 group◌Y
+infix 80 group◌N
 abbrev pub row : ℕ → Kind → Bool → Row
 row t k r = record { tag = t; kind = k; required = r }
 
@@ -46,11 +46,11 @@ abbrev pub ◌of◌N : ℕ → String → Row
 abbrev pub ◌from◌to◌Y : ℕ → ℕ → ℕ → Row
 ◌from◌to◌Y t a b = row t (number a to b) true
 
-abbrev pub group_Y : Group → Row
-group_Y g = row g.counter (number 1 to g.most) true
+abbrev pub group◌Y : Group → Row
+group◌Y g = row g.counter (number 1 to g.most) true
 
-abbrev pub group_N : Group → Row
-group_N g = row g.counter (number 1 to g.most) false
+abbrev pub group◌N : Group → Row
+group◌N g = row g.counter (number 1 to g.most) false
 
 -- "Group 453, 1 to 8 times: 448 Y, 447 {D} Y, 452 {1, 3, 12, 17, 76} Y. Group 580, once or twice: 75 Y, 60 N." (They stand first, since the
 -- lines of F, AD and AE name them.)

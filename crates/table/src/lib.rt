@@ -1,5 +1,7 @@
 // The dictionary as data: the message types, and the constant table and rows that are held to the document's lists.
 
+#![tactic(auto)]
+
 // The ten message types.
 #[derive(Clone, Copy)]
 pub enum MsgType {

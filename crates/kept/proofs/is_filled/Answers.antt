@@ -22,7 +22,7 @@ returns-then-not-stands_at c =
 pub returns-then-not-is_stamp : goal.returns-then-not-is_stamp
 returns-then-not-is_stamp c =
     let a = c.args in
-    refuted (λ F. false≢true (sym (not-true _ c.if-not-is_stamp.true) ∙ c.is_stamp.ensures ∙ filled_stamp a.place.now a.at a.n F))
+    refuted (λ F. false≢true (sym c.if-not-is_stamp.true ∙ c.is_stamp.ensures ∙ filled_stamp a.place.now a.at a.n F))
 
 pub returns-then-place-at-ne1 : goal.returns-then-place-at-ne1
 returns-then-place-at-ne1 c =
@@ -38,7 +38,7 @@ is_listed-requires c = let a = c.args in (omega arith, omega (arith, length-take
 pub returns-then-not-is_listed : goal.returns-then-not-is_listed
 returns-then-not-is_listed c =
     let a = c.args in
-    refuted (λ F. false≢true (sym (not-true _ c.if-not-is_listed.true) ∙ filled_listed a.place.now a.at a.n F c.is_listed.ensures))
+    refuted (λ F. false≢true (sym c.if-not-is_listed.true ∙ filled_listed a.place.now a.at a.n F c.is_listed.ensures))
 
 pub returns-then-not-is_summed : goal.returns-then-not-is_summed
 returns-then-not-is_summed c =

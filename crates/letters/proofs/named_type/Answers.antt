@@ -5,24 +5,24 @@ use Rattle.letters.proofs.Replying.{type_absent, type_named, type_other, type-sh
 use Rattle.letters.proofs.named_type.Goals as goal
 
 pub returns-in_default : goal.returns-in_default
-returns-in_default c = type_absent c.type_field.ensures c.enum_told-1.given.1
+returns-in_default c = type_absent c.type_field.ensures c.in_default.is
 
 pub slice_bounds-type_of-count : goal.slice_bounds-type_of-count
-slice_bounds-type_of-count c = omega (arith, place_inside c.type_field.ensures c.start-1.given.1)
+slice_bounds-type_of-count c = omega (arith, place_inside c.type_field.ensures c.in-At.is)
 
 pub slice_bounds-type_of-start : goal.slice_bounds-type_of-start
-slice_bounds-type_of-start c = omega (arith, place_inside c.type_field.ensures c.start-1.given.1)
+slice_bounds-type_of-start c = omega (arith, place_inside c.type_field.ensures c.in-At.is)
 
 pub slice_bounds-type_of-end : goal.slice_bounds-type_of-end
-slice_bounds-type_of-end c = omega (arith, place_inside c.type_field.ensures c.start-1.given.1)
+slice_bounds-type_of-end c = omega (arith, place_inside c.type_field.ensures c.in-At.is)
 
 pub returns-in-Of : goal.returns-in-Of
 returns-in-Of c =
     let F = c.type_field.ensures in
-    let q = c.start-1.given.1 in
+    let q = c.in-At.is in
     let T = c.type_of.ensures in
-    let m = c.enum_told-in-Of-1.given.1 in
+    let m = c.in-Of.is in
     ((place_inside F q).0, (place_inside F q).1, type-short _ T m, type_named F q T m)
 
 pub returns-in-Other : goal.returns-in-Other
-returns-in-Other c = type_other c.type_field.ensures c.start-1.given.1 c.type_of.ensures c.enum_told-in-Other-1.given.1
+returns-in-Other c = type_other c.type_field.ensures c.in-At.is c.type_of.ensures c.in-Other.is

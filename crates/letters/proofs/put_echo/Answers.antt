@@ -9,20 +9,20 @@ use Rattle.letters.proofs.put_echo.Goals as goal
 pub returns-in_default : goal.returns-in_default
 returns-in_default c =
     let w = was_put c.requires.0 _ c.heartbeat.ensures refl (omega arith) (omega arith) in
-    (rw (echo_none c.first_field.ensures c.enum_told-1.given.1) w.0, omega arith)
+    (rw (echo_none c.first_field.ensures c.in_default.is) w.0, omega arith)
 
 pub slice_bounds-heartbeat-count : goal.slice_bounds-heartbeat-count
-slice_bounds-heartbeat-count c = omega (arith, place_inside c.first_field.ensures c.start-1.given.1)
+slice_bounds-heartbeat-count c = omega (arith, place_inside c.first_field.ensures c.in-At.is)
 
 pub slice_bounds-heartbeat-start : goal.slice_bounds-heartbeat-start
-slice_bounds-heartbeat-start c = omega (arith, place_inside c.first_field.ensures c.start-1.given.1)
+slice_bounds-heartbeat-start c = omega (arith, place_inside c.first_field.ensures c.in-At.is)
 
 pub slice_bounds-heartbeat-end-2 : goal.slice_bounds-heartbeat-end-2
-slice_bounds-heartbeat-end-2 c = omega (arith, place_inside c.first_field.ensures c.start-1.given.1)
+slice_bounds-heartbeat-end-2 c = omega (arith, place_inside c.first_field.ensures c.in-At.is)
 
 pub returns : goal.returns
 returns c =
     let F = c.first_field.ensures in
-    let e = c.start-1.given.1 in
+    let e = c.in-At.is in
     let w = was_put c.requires.0 _ c.heartbeat-2.ensures (le-leb _ _ (echo_short F e c.requires.1)) (omega arith) (omega arith) in
     (rw (echo_is F e) w.0, omega arith)

@@ -22,7 +22,7 @@ returns-then-r-eq0 c = let a = c.args in replay_idle a.r a.time a.buf.now a.stor
 
 pub play_next-requires : goal.play_next-requires
 play_next-requires c =
-    (sym c.in_range.ensures ∙ not-false _ c.if-not-in_range.false, ap not (ne_eqb _ 0 c.if-r-eq0.false), sym c.is_store_lem.ensures ∙ not-false _ c.if-not-is_store.false, c.if-time-ge253402300800000000.false, c.if-buf-lt600.false)
+    (sym c.in_range.ensures ∙ c.if-not-in_range.false, ap not (ne_eqb _ 0 c.if-r-eq0.false), sym c.is_store_lem.ensures ∙ c.if-not-is_store.false, c.if-time-ge253402300800000000.false, c.if-buf-lt600.false)
 
 pub returns : goal.returns
 returns c =

@@ -26,8 +26,8 @@ returns-then-is_spent c = let a = c.args in report_5 a.r (values_given a.values.
 pub send-requires : goal.send-requires
 send-requires c = (
   ready c.args.r c.in_range.ensures c.if-not-in_range.false c.is_spent.ensures c.if-is_spent.false,
-  sym c.in_range.ensures ∙ not-false _ c.if-not-in_range.false,
-  sym c.is_store_lem.ensures ∙ not-false _ c.if-not-is_store.false,
+  sym c.in_range.ensures ∙ c.if-not-in_range.false,
+  sym c.is_store_lem.ensures ∙ c.if-not-is_store.false,
   c.if-time-ge253402300800000000.false,
 )
 

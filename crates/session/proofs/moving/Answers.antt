@@ -16,30 +16,30 @@ use Rattle.session.proofs.moving.Goals as goal
 pub logging_on-requires : goal.logging_on-requires
 logging_on-requires c =
     let u = c in
-    let st = c.enum_told-1.given.1 in
-    ((u.requires.0.0, u.requires.0.1, st, let_in (session_of u.args.r) u.args.body.now st c.logon_gate-gate.ensures c.enum_told-in-Open-1.given.1), u.requires.1)
+    let st = c.in-Waiting.is in
+    ((u.requires.0.0, u.requires.0.1, st, let_in (session_of u.args.r) u.args.body.now st c.logon_gate-gate.ensures c.in-Open.is), u.requires.1)
 
 pub play-requires : goal.play-requires
 play-requires c =
     let u = c in
     let a = u.args in
-    let f = active_fit a.time (session_of a.r) a.body.now (ample a.r u.requires.0.0) (λ i. omega (arith, c.shared_slice_known-1.given i)) c.enum_told-in-Active-1.given.1 in
+    let f = active_fit a.time (session_of a.r) a.body.now (ample a.r u.requires.0.0) (λ i. omega (arith, c.shared_slice_known-1.given i)) c.in-Active.is in
     (u.requires.0.0, (omega (arith, u.requires.1.0), u.requires.1.1, settled_fits a.time (session_of a.r) a.body.now c.active.result (active (session_of a.r) a.body.now a.time) c.settled-p.ensures c.active.ensures f))
 
 pub returns-in-Shut : goal.returns-in-Shut
 returns-in-Shut c =
     let a = c.args in
-    let e = wait_shut (session_of a.r) a.body.now a.time a.buf.now c.enum_told-1.given.1 c.logon_gate-gate.ensures c.gate-1.given.1 in
+    let e = wait_shut (session_of a.r) a.body.now a.time a.buf.now c.in-Waiting.is c.logon_gate-gate.ensures c.in-Shut.is in
     (made_by a.r (sym e) (record { answered = c.refused.ensures; buffer = refl }), refusal_stays (session_of a.r) a.body.now a.buf.now a.store.now e)
 
 pub returns-in-Active : goal.returns-in-Active
 returns-in-Active c =
     let a = c.args in
-    let st = c.enum_told-in-Active-1.given.1 in
+    let st = c.in-Active.is in
     let w = settled_makes a.time (session_of a.r) a.body.now c.active.result (active (session_of a.r) a.body.now a.time) c.settled-p.ensures c.active.ensures a.buf.now in
     (act a.r a.body.now a.time a.buf.now st w c.play.ensures, awake_stays (session_of a.r) a.body.now _ a.store.now Active refl st)
 
 pub returns-in-Closed : goal.returns-in-Closed
 returns-in-Closed c =
     let u = c in
-    absurd (false≢true (sym u.requires.0.2 ∙ ap (λ (x : Status). x equals Closed) c.enum_told-in-Closed-1.given.1))
+    absurd (false≢true (sym u.requires.0.2 ∙ ap (λ (x : Status). x equals Closed) c.in-Closed.is))

@@ -11,7 +11,7 @@ use Rattle.session.proofs.step.Goals as goal
 pub moving-requires : goal.moving-requires
 moving-requires c =
     let r = c.args.r in
-    let P = passes (session_of r) _ _ _ _ (sym c.step_gate-gate.ensures ∙ ap shut c.enum_told-1.given.1) in
+    let P = passes (session_of r) _ _ _ _ (sym c.step_gate-gate.ensures ∙ ap shut c.in-Open.is) in
     ((ready_of r P, P.ranged, P.not_closed), (P.roomy, P.timed))
 
 pub returns-in-Shut : goal.returns-in-Shut
@@ -19,7 +19,7 @@ returns-in-Shut c =
     let b = c in
     let a = b.args in
     let o = framed_is _ _ (λ i. omega (arith, b.shared_slice_known-1.given i)) b.body_of-body.ensures in
-    let e = step_refused (session_of a.r) a.frame.now a.buf.now a.store.now a.time b.is_store_lem.ensures o b.step_gate-gate.ensures c.gate-1.given.1 in
+    let e = step_refused (session_of a.r) a.frame.now a.buf.now a.store.now a.time b.is_store_lem.ensures o b.step_gate-gate.ensures c.in-Shut.is in
     record {
       leaves = made_by a.r (sym e) (record { answered = c.refused.ensures; buffer = refl });
       stored = after_as (session_of a.r) a.frame.now a.time a.buf.now a.store.now refl e (refusal_stays (session_of a.r) _ a.buf.now a.store.now refl);
@@ -30,7 +30,7 @@ returns-in-Open c =
     let b = c in
     let a = b.args in
     let o = framed_is _ _ (λ i. omega (arith, b.shared_slice_known-1.given i)) b.body_of-body.ensures in
-    let q = c.enum_told-1.given.1 in
+    let q = c.in-Open.is in
     let P = passes (session_of a.r) _ _ _ _ (sym b.step_gate-gate.ensures ∙ ap shut q) in
     let i = body_in_lem _ _ (λ i. omega (arith, b.shared_slice_known-1.given i)) b.body_of-body.ensures (sym o ∙ P.framed) in
     let e = step_moves (session_of a.r) a.frame.now a.buf.now a.store.now a.time b.is_store_lem.ensures o b.step_gate-gate.ensures i q in

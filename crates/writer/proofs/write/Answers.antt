@@ -15,7 +15,7 @@ pub returns-in_default : goal.returns-in_default
 returns-in_default c =
     let s = c in
     let a = c.admin_of-named in
-    other_type s.args.code.now s.args.values s.args.text.now s.args.buf.now a.result a.ensures c.enum_told-1.given.1
+    other_type s.args.code.now s.args.values s.args.text.now s.args.buf.now a.result a.ensures c.in_default.is
 
 pub put_body-filled-requires : goal.put_body-filled-requires
 put_body-filled-requires c =
@@ -32,7 +32,7 @@ returns-in_default-filled c =
     let m = c.named-1.given in
     let p = c.put_body-filled in
     let vs = value_in s.args.values s.args.text.now in
-    let f = body-told c.enum_told-in_default-filled-1.given.1 m.0.0 vs _ p.new.0 p.ensures in
+    let f = body-told c.in_default-filled.is m.0.0 vs _ p.new.0 p.ensures in
     unfit_values s.args.code.now s.args.values s.args.text.now s.args.buf.now a.result a.ensures m.0.0 m.1 f
 
 pub slice_bounds-body-end : goal.slice_bounds-body-end
@@ -41,7 +41,7 @@ slice_bounds-body-end c =
     let a = c.admin_of-named in
     let m = c.named-1.given in
     let p = c.put_body-filled in
-    let f = body-told c.filled-1.given.1 m.0.0 (value_in s.args.values s.args.text.now) _ p.new.0 p.ensures in
+    let f = body-told c.in-At.is m.0.0 (value_in s.args.values s.args.text.now) _ p.new.0 p.ensures in
     omega (arith, f.1, p.auto)
 
 pub slice_bounds-put_message-end : goal.slice_bounds-put_message-end
@@ -50,7 +50,7 @@ slice_bounds-put_message-end c =
     let a = c.admin_of-named in
     let m = c.named-1.given in
     let p = c.put_body-filled in
-    let f = body-told c.filled-1.given.1 m.0.0 (value_in s.args.values s.args.text.now) _ p.new.0 p.ensures in
+    let f = body-told c.in-At.is m.0.0 (value_in s.args.values s.args.text.now) _ p.new.0 p.ensures in
     sym (length-take-le _ p.new.0 (omega (arith, f.1, p.auto)))
 
 pub put_message-requires : goal.put_message-requires
@@ -59,7 +59,7 @@ put_message-requires c =
     let a = c.admin_of-named in
     let m = c.named-1.given in
     let p = c.put_body-filled in
-    let f = body-told c.filled-1.given.1 m.0.0 (value_in s.args.values s.args.text.now) _ p.new.0 p.ensures in
+    let f = body-told c.in-At.is m.0.0 (value_in s.args.values s.args.text.now) _ p.new.0 p.ensures in
     let e = front_of f.2 (omega (arith, f.1)) in
     omega (arith, ap length e, f.2.next, f.1)
 
@@ -69,5 +69,5 @@ returns c =
     let a = c.admin_of-named in
     let m = c.named-1.given in
     let p = c.put_body-filled in
-    let f = body-told c.filled-1.given.1 m.0.0 (value_in s.args.values s.args.text.now) _ p.new.0 p.ensures in
+    let f = body-told c.in-At.is m.0.0 (value_in s.args.values s.args.text.now) _ p.new.0 p.ensures in
     fit_values s.args.code.now s.args.values s.args.text.now s.args.buf.now a.result a.ensures m.0.0 m.1 _ _ f.0 (front_of f.2 (omega (arith, f.1))) c.put_message.ensures

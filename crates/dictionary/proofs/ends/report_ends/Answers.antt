@@ -4,10 +4,10 @@ use Rattle.dictionary.proofs.Closings.{malformed-ends, body-ends}
 use Rattle.dictionary.proofs.ends.report_ends.Goals as goal
 
 pub returns-in-Malformed : goal.returns-in-Malformed
-returns-in-Malformed c = malformed-ends c.enum_told-1.given.1
+returns-in-Malformed c = malformed-ends c.in-Malformed.is
 
 pub returns-in-End : goal.returns-in-End
-returns-in-End c = body-ends c.enum_told-in-End-1.given.1 c.report_lacks.ensures
+returns-in-End c = body-ends c.in-End.is c.report_lacks.ensures
 
 pub returns-in_default : goal.returns-in_default
-returns-in_default c = record { is = λ over. other_ends _ c.in_default.keys3 }
+returns-in_default c = record { is = λ over. other_ends _ c.in_default.is }

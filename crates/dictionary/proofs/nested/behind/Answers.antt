@@ -6,10 +6,10 @@ pub returns-then-group-eq0 : goal.returns-then-group-eq0
 returns-then-group-eq0 c = behind_none c.requires.2 c.opened-group.ensures c.if-group-eq0.true c.item_at.ensures
 
 pub returns-in-Found : goal.returns-in-Found
-returns-in-Found c = behind-group c.opened-group.ensures c.if-group-eq0.false c.group_walk.ensures c.reason-1.given.1
+returns-in-Found c = behind-group c.opened-group.ensures c.if-group-eq0.false c.group_walk.ensures c.in-Found.is
 
 pub returns-in-To : goal.returns-in-To
-returns-in-To c = behind-group c.opened-group.ensures c.if-group-eq0.false c.group_walk.ensures c.at-1.given.1
+returns-in-To c = behind-group c.opened-group.ensures c.if-group-eq0.false c.group_walk.ensures c.in-To.is
 
 pub group_walk-requires : goal.group_walk-requires
 group_walk-requires c = let P = c.requires in (P.1, P.2, c.opened-group.ensures.none)

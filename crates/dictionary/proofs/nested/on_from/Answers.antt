@@ -5,7 +5,7 @@ use Rattle.dictionary.specs.declared.Says.{Says}
 use Rattle.dictionary.proofs.nested.on_from.Goals as goal
 
 pub returns-in-Nothing : goal.returns-in-Nothing
-returns-in-Nothing c = let a = c.args in sym (ap (λ (x : Says). reached_by x a.at a.item) c.enum_told-1.given.1)
+returns-in-Nothing c = let a = c.args in sym (ap (λ (x : Says). reached_by x a.at a.item) c.in-Nothing.is)
 
 pub returns-in-Reason : goal.returns-in-Reason
-returns-in-Reason c = let a = c.args in sym (ap (λ (x : Says). reached_by x a.at a.item) c.said-1.given.1)
+returns-in-Reason c = let a = c.args in sym (ap (λ (x : Says). reached_by x a.at a.item) c.in-Reason.is)

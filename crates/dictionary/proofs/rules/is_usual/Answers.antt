@@ -12,7 +12,7 @@ returns-then-not-st c h =
       away = a.if-st-ne0.false;
       own = sym a.is_in.ensures ∙ not-false _ a.if-not-is_in.false;
       new = a.if-again.false;
-      timely = λ o. absurd (false≢true (sym (not-true _ c.if-not-st.true) ∙ o));
+      timely = λ o. absurd (false≢true (sym c.if-not-st.true ∙ o));
     }
 
 pub returns : goal.returns

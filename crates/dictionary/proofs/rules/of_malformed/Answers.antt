@@ -5,7 +5,7 @@ use mathlib.Core.Path.{refl}
 use Rattle.dictionary.proofs.rules.of_malformed.Goals as goal
 
 pub returns-in_default : goal.returns-in_default
-returns-in_default c = record { is = λ m w S. said-malformed m w _ (stops (c.rule_1-end.ensures.is w.inside malformed S malformed_belongs) c.enum_told-in_default-1.given.1) }
+returns-in_default c = record { is = λ m w S. said-malformed m w _ (stops (c.rule_1-end.ensures.is w.inside malformed S malformed_belongs) c.in_default.is) }
 
 pub returns : goal.returns
-returns c = record { is = λ m w S. said-malformed m w _ (passes (c.rule_1-end.ensures.is w.inside malformed S malformed_belongs) c.enum_told-1.given.1 (record { is = refl })) }
+returns c = record { is = λ m w S. said-malformed m w _ (passes (c.rule_1-end.ensures.is w.inside malformed S malformed_belongs) c.in-Nothing.is (record { is = refl })) }

@@ -15,7 +15,7 @@ returns-in_default c =
     record {
       is = λ w v S q.
           tag_said _ w _ v
-          (stops (r1.rule_1-r1.ensures.is w.inside _ S.stood (entry_belongs _ v s.requires.right)) c.enum_told-in_default-1.given.1);
+          (stops (r1.rule_1-r1.ensures.is w.inside _ S.stood (entry_belongs _ v s.requires.right)) c.in_default.is);
     }
 
 pub returns-in_default-r4 : goal.returns-in_default-r4
@@ -26,8 +26,8 @@ returns-in_default-r4 c =
     record {
       is = λ w v S q.
           tag_said _ w _ v
-          (passes (r1.rule_1-r1.ensures.is w.inside _ S.stood (entry_belongs _ v s.requires.right)) r4.enum_told-1.given.1
-          (stops (r4.rule_4-r4.ensures.is v q) c.enum_told-in_default-r4-1.given.1));
+          (passes (r1.rule_1-r1.ensures.is w.inside _ S.stood (entry_belongs _ v s.requires.right)) r4.in-Nothing.is
+          (stops (r4.rule_4-r4.ensures.is v q) c.in_default-r4.is));
     }
 
 pub returns-in_default-r5 : goal.returns-in_default-r5
@@ -39,9 +39,9 @@ returns-in_default-r5 c =
     record {
       is = λ w v S q.
           tag_said _ w _ v
-          (passes (r1.rule_1-r1.ensures.is w.inside _ S.stood (entry_belongs _ v s.requires.right)) r4.enum_told-1.given.1
-          (passes (r4.rule_4-r4.ensures.is v q) r5.enum_told-in-Nothing-r4-1.given.1
-          (stops (r5.rule_5-r5.ensures.is w.seen (mark_seen S.marked s.requires)) c.enum_told-in_default-r5-1.given.1)));
+          (passes (r1.rule_1-r1.ensures.is w.inside _ S.stood (entry_belongs _ v s.requires.right)) r4.in-Nothing.is
+          (passes (r4.rule_4-r4.ensures.is v q) r5.in-Nothing-r4.is
+          (stops (r5.rule_5-r5.ensures.is w.seen (mark_seen S.marked s.requires)) c.in_default-r5.is)));
     }
 
 pub returns-in_default-r6 : goal.returns-in_default-r6
@@ -54,10 +54,10 @@ returns-in_default-r6 c =
     record {
       is = λ w v S q.
           tag_said _ w _ v
-          (passes (r1.rule_1-r1.ensures.is w.inside _ S.stood (entry_belongs _ v s.requires.right)) r4.enum_told-1.given.1
-          (passes (r4.rule_4-r4.ensures.is v q) r5.enum_told-in-Nothing-r4-1.given.1
-          (passes (r5.rule_5-r5.ensures.is w.seen (mark_seen S.marked s.requires)) r6.enum_told-in-Nothing-r5-1.given.1
-          (stops r6.rule_6-r6.ensures c.enum_told-in_default-r6-1.given.1))));
+          (passes (r1.rule_1-r1.ensures.is w.inside _ S.stood (entry_belongs _ v s.requires.right)) r4.in-Nothing.is
+          (passes (r4.rule_4-r4.ensures.is v q) r5.in-Nothing-r4.is
+          (passes (r5.rule_5-r5.ensures.is w.seen (mark_seen S.marked s.requires)) r6.in-Nothing-r5.is
+          (stops r6.rule_6-r6.ensures c.in_default-r6.is))));
     }
 
 pub returns-in_default-r7 : goal.returns-in_default-r7
@@ -71,11 +71,11 @@ returns-in_default-r7 c =
     record {
       is = λ w v S q.
           tag_said _ w _ v
-          (passes (r1.rule_1-r1.ensures.is w.inside _ S.stood (entry_belongs _ v s.requires.right)) r4.enum_told-1.given.1
-          (passes (r4.rule_4-r4.ensures.is v q) r5.enum_told-in-Nothing-r4-1.given.1
-          (passes (r5.rule_5-r5.ensures.is w.seen (mark_seen S.marked s.requires)) r6.enum_told-in-Nothing-r5-1.given.1
-          (passes r6.rule_6-r6.ensures r7.enum_told-in-Nothing-r6-1.given.1
-          (stops (r7.rule_7-r7.ensures.is w.seen S.over) c.enum_told-in_default-r7-1.given.1)))));
+          (passes (r1.rule_1-r1.ensures.is w.inside _ S.stood (entry_belongs _ v s.requires.right)) r4.in-Nothing.is
+          (passes (r4.rule_4-r4.ensures.is v q) r5.in-Nothing-r4.is
+          (passes (r5.rule_5-r5.ensures.is w.seen (mark_seen S.marked s.requires)) r6.in-Nothing-r5.is
+          (passes r6.rule_6-r6.ensures r7.in-Nothing-r6.is
+          (stops (r7.rule_7-r7.ensures.is w.seen S.over) c.in_default-r7.is)))));
     }
 
 pub returns : goal.returns
@@ -89,10 +89,10 @@ returns c =
     record {
       is = λ w v S q.
           tag_said _ w _ v
-          (passes (r1.rule_1-r1.ensures.is w.inside _ S.stood (entry_belongs _ v s.requires.right)) r4.enum_told-1.given.1
-          (passes (r4.rule_4-r4.ensures.is v q) r5.enum_told-in-Nothing-r4-1.given.1
-          (passes (r5.rule_5-r5.ensures.is w.seen (mark_seen S.marked s.requires)) r6.enum_told-in-Nothing-r5-1.given.1
-          (passes r6.rule_6-r6.ensures r7.enum_told-in-Nothing-r6-1.given.1
-          (passes (r7.rule_7-r7.ensures.is w.seen S.over) c.enum_told-in-Nothing-r7-1.given.1
+          (passes (r1.rule_1-r1.ensures.is w.inside _ S.stood (entry_belongs _ v s.requires.right)) r4.in-Nothing.is
+          (passes (r4.rule_4-r4.ensures.is v q) r5.in-Nothing-r4.is
+          (passes (r5.rule_5-r5.ensures.is w.seen (mark_seen S.marked s.requires)) r6.in-Nothing-r5.is
+          (passes r6.rule_6-r6.ensures r7.in-Nothing-r6.is
+          (passes (r7.rule_7-r7.ensures.is w.seen S.over) c.in-Nothing-r7.is
           (record { is = c.rule_8.ensures.is w.inside v S.stood ∙ sym (alone _) }))))));
     }

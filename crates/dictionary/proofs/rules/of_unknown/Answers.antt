@@ -4,14 +4,14 @@ use mathlib.Core.Path.{sym, ◌∙◌}
 use Rattle.dictionary.proofs.rules.of_unknown.Goals as goal
 
 pub returns-in_default : goal.returns-in_default
-returns-in_default c = record { is = λ w v S n. said_unknown _ w _ v _ (unknown_tag _ n) (stops (c.rule_1-r1.ensures.is w.inside _ S (unknown_belongs _ n v)) c.enum_told-in_default-1.given.1) }
+returns-in_default c = record { is = λ w v S n. said_unknown _ w _ v _ (unknown_tag _ n) (stops (c.rule_1-r1.ensures.is w.inside _ S (unknown_belongs _ n v)) c.in_default.is) }
 
 pub returns-then-is_administrative : goal.returns-then-is_administrative
 returns-then-is_administrative c =
     let a = c in
     record {
       is = λ w v S n. said_unknown _ w _ v _ (unknown_tag _ n)
-          (passes (a.rule_1-r1.ensures.is w.inside _ S (unknown_belongs _ n v)) a.enum_told-1.given.1 (record { is = rw (sym a.is_administrative.ensures ∙ c.if-is_administrative.true) }));
+          (passes (a.rule_1-r1.ensures.is w.inside _ S (unknown_belongs _ n v)) a.in-Nothing.is (record { is = rw (sym a.is_administrative.ensures ∙ c.if-is_administrative.true) }));
     }
 
 pub returns : goal.returns
@@ -19,5 +19,5 @@ returns c =
     let a = c in
     record {
       is = λ w v S n. said_unknown _ w _ v _ (unknown_tag _ n)
-          (passes (a.rule_1-r1.ensures.is w.inside _ S (unknown_belongs _ n v)) a.enum_told-1.given.1 (record { is = rw (sym a.is_administrative.ensures ∙ c.if-is_administrative.false) }));
+          (passes (a.rule_1-r1.ensures.is w.inside _ S (unknown_belongs _ n v)) a.in-Nothing.is (record { is = rw (sym a.is_administrative.ensures ∙ c.if-is_administrative.false) }));
     }

@@ -7,10 +7,10 @@ use Rattle.dictionary.specs.declared.Verdict.TheVariants.{Clean}
 use Rattle.dictionary.proofs.walk.ended.Goals as goal
 
 pub returns-in-Malformed : goal.returns-in-Malformed
-returns-in-Malformed c = rw c.enum_told-1.given.1 (record { is = λ w S. c.finding.ensures ∙ ap (λ (s : Says). verdict_by s Clean) (c.of_malformed.ensures.is _ w S.stood) })
+returns-in-Malformed c = rw c.in-Malformed.is (record { is = λ w S. c.finding.ensures ∙ ap (λ (s : Says). verdict_by s Clean) (c.of_malformed.ensures.is _ w S.stood) })
 
 pub returns-in-End : goal.returns-in-End
-returns-in-End c = rw c.enum_told-in-End-1.given.1 (record { is = c.finish.ensures.is })
+returns-in-End c = rw c.in-End.is (record { is = c.finish.ensures.is })
 
 pub returns-in_default : goal.returns-in_default
-returns-in_default c = other_ends _ c.in_default.keys3
+returns-in_default c = other_ends _ c.in_default.is

@@ -6,4 +6,4 @@ use Rattle.dictionary.specs.declared.Verdict.TheVariants.{Clean}
 use Rattle.dictionary.proofs.walk.finding.Goals as goal
 
 pub returns-in-Reason : goal.returns-in-Reason
-returns-in-Reason c = sym (ap (λ (s : Says). verdict_by s Clean) c.said-1.given.1)
+returns-in-Reason c = sym (ap (λ (s : Says). verdict_by s Clean) c.in-Reason.is)

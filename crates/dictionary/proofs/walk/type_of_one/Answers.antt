@@ -6,35 +6,35 @@ use Rattle.dictionary.proofs.walk.type_of_one.Goals as goal
 
 pub returns-in-48 : goal.returns-in-48
 unfolding type_of code35
-returns-in-48 c = rw c.in-48.keys1
+returns-in-48 c = rw c.in-48.is
 
 pub returns-in-49 : goal.returns-in-49
 unfolding type_of code35
-returns-in-49 c = rw c.in-49.keys2
+returns-in-49 c = rw c.in-49.is
 
 pub returns-in-50 : goal.returns-in-50
 unfolding type_of code35
-returns-in-50 c = rw c.in-50.keys3
+returns-in-50 c = rw c.in-50.is
 
 pub returns-in-51 : goal.returns-in-51
 unfolding type_of code35
-returns-in-51 c = rw c.in-51.keys4
+returns-in-51 c = rw c.in-51.is
 
 pub returns-in-52 : goal.returns-in-52
 unfolding type_of code35
-returns-in-52 c = rw c.in-52.keys5
+returns-in-52 c = rw c.in-52.is
 
 pub returns-in-53 : goal.returns-in-53
 unfolding type_of code35
-returns-in-53 c = rw c.in-53.keys6
+returns-in-53 c = rw c.in-53.is
 
 pub returns-in-65 : goal.returns-in-65
 unfolding type_of code35
-returns-in-65 c = rw c.in-65.keys7
+returns-in-65 c = rw c.in-65.is
 
 pub returns-in-70 : goal.returns-in-70
 unfolding type_of code35
-returns-in-70 c = rw c.in-70.keys8
+returns-in-70 c = rw c.in-70.is
 
 pub returns-in_default : goal.returns-in_default
 returns-in_default c = ap named (other_byte _ c.in_default.rest.0.0.0.0.0.0.0.1 c.in_default.rest.0.0.0.0.0.0.1 c.in_default.rest.0.0.0.0.0.1 c.in_default.rest.0.0.0.0.1 c.in_default.rest.0.0.0.1 c.in_default.rest.0.0.1 c.in_default.rest.0.1 c.in_default.rest.1)

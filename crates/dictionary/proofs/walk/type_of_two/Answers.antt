@@ -9,11 +9,11 @@ returns-then-b-ne65 c = ap named (other_first _ _ c.if-b-ne65.true)
 
 pub returns-in-68 : goal.returns-in-68
 unfolding type_of code35
-returns-in-68 c = rw (c.if-b-ne65.false, c.in-68.keys1)
+returns-in-68 c = rw (c.if-b-ne65.false, c.in-68.is)
 
 pub returns-in-69 : goal.returns-in-69
 unfolding type_of code35
-returns-in-69 c = rw (c.if-b-ne65.false, c.in-69.keys2)
+returns-in-69 c = rw (c.if-b-ne65.false, c.in-69.is)
 
 pub returns-in_default : goal.returns-in_default
 returns-in_default c = ap named (other_second _ _ c.in_default.rest.0.1 c.in_default.rest.1)

@@ -9,12 +9,12 @@ pub returns-then-not-is_body : goal.returns-then-not-is_body
 returns-then-not-is_body c = verdict_nobody _ c.is_body.ensures c.if-not-is_body.true
 
 pub type_at_front-requires : goal.type_at_front-requires
-type_at_front-requires c = sym c.is_body.ensures ∙ not-false _ c.if-not-is_body.false
+type_at_front-requires c = sym c.is_body.ensures ∙ c.if-not-is_body.false
 
 pub returns-in_default : goal.returns-in_default
 returns-in_default c =
     let f = c in
-    verdict_other _ (sym f.is_body.ensures ∙ not-false _ f.if-not-is_body.false) f.type_at_front.ensures c.enum_told-1.given.1
+    verdict_other _ (sym f.is_body.ensures ∙ not-false _ f.if-not-is_body.false) f.type_at_front.ensures c.in_default.is
 
 pub report_walk-requires : goal.report_walk-requires
 report_walk-requires c =
@@ -25,7 +25,7 @@ pub returns-then-is_report : goal.returns-then-is_report
 returns-then-is_report c =
     let m = c in
     let f = m in
-    verdict_walked _ (sym f.is_body.ensures ∙ not-false _ f.if-not-is_body.false) f.type_at_front.ensures (m.m-1.given.1 ∙ ap Of (report_is _ (sym c.is_report.ensures ∙ c.if-is_report.true))) c.report_walk.ensures
+    verdict_walked _ (sym f.is_body.ensures ∙ not-false _ f.if-not-is_body.false) f.type_at_front.ensures (m.in-Of.is ∙ ap Of (report_is _ (sym c.is_report.ensures ∙ c.if-is_report.true))) c.report_walk.ensures
 
 pub walk-requires : goal.walk-requires
 walk-requires c =
@@ -36,4 +36,4 @@ pub returns : goal.returns
 returns c =
     let m = c in
     let f = m in
-    verdict_walked _ (sym f.is_body.ensures ∙ not-false _ f.if-not-is_body.false) f.type_at_front.ensures m.m-1.given.1 c.walk.ensures
+    verdict_walked _ (sym f.is_body.ensures ∙ not-false _ f.if-not-is_body.false) f.type_at_front.ensures m.in-Of.is c.walk.ensures

@@ -8,10 +8,10 @@ pub returns-then-not-is_body : goal.returns-then-not-is_body
 returns-then-not-is_body c = first_none _ _ (sym c.is_body.ensures ∙ not-true _ c.if-not-is_body.true)
 
 pub returns-in-At : goal.returns-in-At
-returns-in-At c = first_is _ _ (sym c.is_body.ensures ∙ not-false _ c.if-not-is_body.false) c.first_field.ensures c.start-1.given.1
+returns-in-At c = first_is _ _ (sym c.is_body.ensures ∙ not-false _ c.if-not-is_body.false) c.first_field.ensures c.in-At.is
 
 pub returns-in-Absent : goal.returns-in-Absent
-returns-in-Absent c = first_is _ _ (sym c.is_body.ensures ∙ not-false _ c.if-not-is_body.false) c.first_field.ensures c.enum_told-1.given.1
+returns-in-Absent c = first_is _ _ (sym c.is_body.ensures ∙ not-false _ c.if-not-is_body.false) c.first_field.ensures c.in-Absent.is
 
 pub is_body-requires : goal.is_body-requires
 is_body-requires c = tt
@@ -20,7 +20,7 @@ pub first_field-requires : goal.first_field-requires
 first_field-requires c = tt
 
 pub enum_known-start : goal.enum_known-start
-enum_known-start c = c.in-At.keys1
+enum_known-start c = c.in-At.is
 
 pub enum_told-1 : goal.enum_told-1
-enum_told-1 c = c.in-Absent.keys2
+enum_told-1 c = c.in-Absent.is

@@ -3,16 +3,16 @@ use Rattle.gateway.proofs.Readings.{read-frame, read_none}
 use Rattle.gateway.proofs.stream.fixgw_read.Goals as goal
 
 pub returns-in-Frame : goal.returns-in-Frame
-returns-in-Frame c = read-frame c.skip-1.given.1 c.reading_of.ensures
+returns-in-Frame c = read-frame c.in-Frame.is c.reading_of.ensures
 
 pub returns-in-NoFrame : goal.returns-in-NoFrame
-returns-in-NoFrame c = read_none c.drop-1.given.1 c.reading_of.ensures
+returns-in-NoFrame c = read_none c.in-NoFrame.is c.reading_of.ensures
 
 pub reading_of-requires : goal.reading_of-requires
 reading_of-requires c = tt
 
 pub enum_known-skip : goal.enum_known-skip
-enum_known-skip c = c.in-Frame.keys1
+enum_known-skip c = c.in-Frame.is
 
 pub enum_known-drop : goal.enum_known-drop
-enum_known-drop c = c.in-NoFrame.keys2
+enum_known-drop c = c.in-NoFrame.is

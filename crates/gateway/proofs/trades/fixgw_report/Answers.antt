@@ -11,7 +11,7 @@ returns-then-not-is_record c =
     report_unread a.ids.now a.words.now (no_record a.words.now a.ids.now (sym c.is_record.ensures ∙ not-true _ c.if-not-is_record.true)) a.values.now a.text.now a.time a.buf.now a.store.now
 
 pub load-requires : goal.load-requires
-load-requires c = sym c.is_record.ensures ∙ not-false _ c.if-not-is_record.false
+load-requires c = sym c.is_record.ensures ∙ c.if-not-is_record.false
 
 pub leave-requires : goal.leave-requires
 leave-requires c = record_length c.args.words.now (sym c.is_record.ensures ∙ not-false _ c.if-not-is_record.false)

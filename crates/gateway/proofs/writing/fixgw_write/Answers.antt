@@ -5,17 +5,17 @@ use Rattle.gateway.proofs.writing.fixgw_write.Goals as goal
 pub returns-in-Message : goal.returns-in-Message
 returns-in-Message c =
     let a = c.args in
-    write-left a.code.now a.values.now a.text.now a.buf.now c.values_of.ensures c.write.ensures c.len-1.given.1
+    write-left a.code.now a.values.now a.text.now a.buf.now c.values_of.ensures c.write.ensures c.in-Message.is
 
 pub returns-in-Unfit : goal.returns-in-Unfit
 returns-in-Unfit c =
     let a = c.args in
-    write-left a.code.now a.values.now a.text.now a.buf.now c.values_of.ensures c.write.ensures c.enum_told-1.given.1
+    write-left a.code.now a.values.now a.text.now a.buf.now c.values_of.ensures c.write.ensures c.in-Unfit.is
 
 pub returns-in-Short : goal.returns-in-Short
 returns-in-Short c =
     let a = c.args in
-    write-left a.code.now a.values.now a.text.now a.buf.now c.values_of.ensures c.write.ensures c.enum_told-in-Short-1.given.1
+    write-left a.code.now a.values.now a.text.now a.buf.now c.values_of.ensures c.write.ensures c.in-Short.is
 
 pub values_of-requires : goal.values_of-requires
 values_of-requires c = tt
@@ -24,13 +24,13 @@ pub write-requires : goal.write-requires
 write-requires c = tt
 
 pub enum_known-len : goal.enum_known-len
-enum_known-len c = c.in-Message.keys1
+enum_known-len c = c.in-Message.is
 
 pub enum_told-1 : goal.enum_told-1
-enum_told-1 c = c.in-Unfit.keys2
+enum_told-1 c = c.in-Unfit.is
 
 pub enum_told-in-Short : goal.enum_told-in-Short
-enum_told-in-Short c = c.in-Short.keys3
+enum_told-in-Short c = c.in-Short.is
 
 pub shape_of-buf-in-Message : goal.shape_of-buf-in-Message
 shape_of-buf-in-Message c = c.buf-1.given

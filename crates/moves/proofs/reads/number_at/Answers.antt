@@ -4,13 +4,13 @@ use Rattle.moves.proofs.Readings.{readings}
 use Rattle.moves.proofs.reads.number_at.Goals as goal
 
 pub slice_bounds-read_number-count : goal.slice_bounds-read_number-count
-slice_bounds-read_number-count c = omega (arith, place_inside c.requires.1 c.place-1.given.1)
+slice_bounds-read_number-count c = omega (arith, place_inside c.requires.1 c.in-At.is)
 
 pub slice_bounds-read_number-start : goal.slice_bounds-read_number-start
-slice_bounds-read_number-start c = omega (arith, place_inside c.requires.1 c.place-1.given.1)
+slice_bounds-read_number-start c = omega (arith, place_inside c.requires.1 c.in-At.is)
 
 pub slice_bounds-read_number-end : goal.slice_bounds-read_number-end
-slice_bounds-read_number-end c = omega (arith, place_inside c.requires.1 c.place-1.given.1)
+slice_bounds-read_number-end c = omega (arith, place_inside c.requires.1 c.in-At.is)
 
 pub returns-in_default : goal.returns-in_default
 returns-in_default c = search readings

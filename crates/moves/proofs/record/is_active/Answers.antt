@@ -6,10 +6,10 @@ use mathlib.Core.Path.{sym, ap}
 use Rattle.moves.proofs.record.is_active.Goals as goal
 
 pub returns-in-Waiting : goal.returns-in-Waiting
-returns-in-Waiting c = sym (ap (λ (x : Status). x equals Active) c.enum_told-1.given.1)
+returns-in-Waiting c = sym (ap (λ (x : Status). x equals Active) c.in-Waiting.is)
 
 pub returns-in-Active : goal.returns-in-Active
-returns-in-Active c = sym (ap (λ (x : Status). x equals Active) c.enum_told-in-Active-1.given.1)
+returns-in-Active c = sym (ap (λ (x : Status). x equals Active) c.in-Active.is)
 
 pub returns-in-Closed : goal.returns-in-Closed
-returns-in-Closed c = sym (ap (λ (x : Status). x equals Active) c.enum_told-in-Closed-1.given.1)
+returns-in-Closed c = sym (ap (λ (x : Status). x equals Active) c.in-Closed.is)

@@ -5,13 +5,13 @@ use Rattle.moves.proofs.Readings.{readings}
 use Rattle.moves.proofs.times.time_in.Goals as goal
 
 pub slice_bounds-read_time-count : goal.slice_bounds-read_time-count
-slice_bounds-read_time-count c = omega (arith, place_inside c.first_field.ensures c.start-1.given.1)
+slice_bounds-read_time-count c = omega (arith, place_inside c.first_field.ensures c.in-At.is)
 
 pub slice_bounds-read_time-start : goal.slice_bounds-read_time-start
-slice_bounds-read_time-start c = omega (arith, place_inside c.first_field.ensures c.start-1.given.1)
+slice_bounds-read_time-start c = omega (arith, place_inside c.first_field.ensures c.in-At.is)
 
 pub slice_bounds-read_time-end : goal.slice_bounds-read_time-end
-slice_bounds-read_time-end c = omega (arith, place_inside c.first_field.ensures c.start-1.given.1)
+slice_bounds-read_time-end c = omega (arith, place_inside c.first_field.ensures c.in-At.is)
 
 pub returns-in_default : goal.returns-in_default
 returns-in_default c = search readings

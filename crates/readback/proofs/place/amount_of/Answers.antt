@@ -6,10 +6,10 @@ use Rattle.readback.proofs.Slots.{amount_pair}
 use Rattle.readback.proofs.place.amount_of.Goals as goal
 
 pub returns-in-Is : goal.returns-in-Is
-returns-in-Is c = ap (λ (d : Decimal). record { first = (given d).whole; second = (given d).places }) (sym c.whole-1.given.1) ∙ amount_pair _ c.read_decimal.ensures
+returns-in-Is c = ap (λ (d : Decimal). record { first = (given d).whole; second = (given d).places }) (sym c.in-Is.is) ∙ amount_pair _ c.read_decimal.ensures
 
 pub returns-in-OutOfRange : goal.returns-in-OutOfRange
-returns-in-OutOfRange c = ap (λ (d : Decimal). record { first = (given d).whole; second = (given d).places }) (sym c.enum_told-1.given.1) ∙ amount_pair _ c.read_decimal.ensures
+returns-in-OutOfRange c = ap (λ (d : Decimal). record { first = (given d).whole; second = (given d).places }) (sym c.in-OutOfRange.is) ∙ amount_pair _ c.read_decimal.ensures
 
 pub returns-in-Bad : goal.returns-in-Bad
-returns-in-Bad c = ap (λ (d : Decimal). record { first = (given d).whole; second = (given d).places }) (sym c.enum_told-in-Bad-1.given.1) ∙ amount_pair _ c.read_decimal.ensures
+returns-in-Bad c = ap (λ (d : Decimal). record { first = (given d).whole; second = (given d).places }) (sym c.in-Bad.is) ∙ amount_pair _ c.read_decimal.ensures

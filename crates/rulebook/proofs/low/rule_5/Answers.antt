@@ -23,7 +23,7 @@ returns-in_default c =
     let s = b in
     let o = s in
     low_bad_sending _ _ o.holds.ensures o.if-not-holds.false o.time_in-original.ensures s.is_missing.ensures s.if-is_missing.false s.time_in-sending.ensures b.is_missing-2.ensures b.if-is_missing-2.false
-    (unread s.time_in-sending.result c.in_default.keys2) c.rejecting_duplicate-in_default.ensures
+    (unread s.time_in-sending.result c.in_default.is) c.rejecting_duplicate-in_default.ensures
 
 pub returns-in_default-original : goal.returns-in_default-original
 returns-in_default-original c =
@@ -31,7 +31,7 @@ returns-in_default-original c =
     let s = b in
     let o = s in
     low_bad_original _ _ o.holds.ensures o.if-not-holds.false o.time_in-original.ensures s.is_missing.ensures s.if-is_missing.false s.time_in-sending.ensures b.is_missing-2.ensures b.if-is_missing-2.false
-    (ap moment_by c.sending-1.given.1) (unread o.time_in-original.result c.in_default-original.keys2) c.rejecting_duplicate-in_default-original.ensures
+    (ap moment_by c.in-Is.is) (unread o.time_in-original.result c.in_default-original.is) c.rejecting_duplicate-in_default-original.ensures
 
 pub returns-then-is_later : goal.returns-then-is_later
 returns-then-is_later c =
@@ -39,7 +39,7 @@ returns-then-is_later c =
     let s = b in
     let o = s in
     low_later _ _ o.holds.ensures o.if-not-holds.false o.time_in-original.ensures s.is_missing.ensures s.if-is_missing.false s.time_in-sending.ensures b.is_missing-2.ensures b.if-is_missing-2.false
-    (ap moment_by c.sending-1.given.1) (ap moment_by c.original-1.given.1) c.is_later.ensures c.if-is_later.true c.rejecting_duplicate-then-is_later.ensures
+    (ap moment_by c.in-Is.is) (ap moment_by c.in-Is-original.is) c.is_later.ensures c.if-is_later.true c.rejecting_duplicate-then-is_later.ensures
 
 pub returns : goal.returns
 returns c =
@@ -47,7 +47,7 @@ returns c =
     let s = b in
     let o = s in
     low_ignored _ _ o.holds.ensures o.if-not-holds.false o.time_in-original.ensures s.is_missing.ensures s.if-is_missing.false s.time_in-sending.ensures b.is_missing-2.ensures b.if-is_missing-2.false
-    (ap moment_by c.sending-1.given.1) (ap moment_by c.original-1.given.1) c.is_later.ensures c.if-is_later.false c.saying.ensures
+    (ap moment_by c.in-Is.is) (ap moment_by c.in-Is-original.is) c.is_later.ensures c.if-is_later.false c.saying.ensures
 
 pub returns-then-not-holds : goal.returns-then-not-holds
 returns-then-not-holds c = search low_first

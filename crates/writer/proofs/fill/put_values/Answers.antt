@@ -41,7 +41,7 @@ returns-in-Unfit c =
     let here =
     put_here S.result S.ensures l.k k s.args.t4 s.args.text.now c.marks_of-marks.result one.result two.result one.ensures two.ensures l.buf
     p.new.0 l.to p.result p.ensures in
-    let r = told c.enum_told-1.given.1 (tag_at l.k) (vs (tag_at l.k)) l.buf p.new.0 l.to c.marks_of-marks.result here in
+    let r = told c.in-Unfit.is (tag_at l.k) (vs (tag_at l.k)) l.buf p.new.0 l.to c.marks_of-marks.result here in
     unfit-here s.args.m vs l.k k (r s.args.m s.requires.0 M)
 
 pub loop-k-preserved : goal.loop-k-preserved
@@ -58,7 +58,7 @@ loop-k-preserved c =
     let here =
     put_here S.result S.ensures l.k k s.args.t4 s.args.text.now c.marks_of-marks.result one.result two.result one.ensures two.ensures l.buf
     p.new.0 l.to p.result p.ensures in
-    let at = told c.next-1.given.1 (tag_at l.k) (vs (tag_at l.k)) l.buf p.new.0 l.to c.marks_of-marks.result here in (
+    let at = told c.in-At.is (tag_at l.k) (vs (tag_at l.k)) l.buf p.new.0 l.to c.marks_of-marks.result here in (
       omega arith,
       (
         omega (arith, p.auto, l.invariant.1.0),

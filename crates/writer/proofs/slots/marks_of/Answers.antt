@@ -12,40 +12,40 @@ use Rattle.writer.proofs.slots.marks_of.Goals as goal
 
 pub returns-in-Heartbeat : goal.returns-in-Heartbeat
 unfolding tags right_at bit_of required rows_of header fields №453 №580 №552 groups_of
-returns-in-Heartbeat c = subst (λ (x : MsgType). Marked x _) (sym c.enum_told-1.given.1) (marked Heartbeat _ refl)
+returns-in-Heartbeat c = subst (λ (x : MsgType). Marked x _) (sym c.in-Heartbeat.is) (marked Heartbeat _ refl)
 
 pub returns-in-TestRequest : goal.returns-in-TestRequest
 unfolding tags right_at bit_of required rows_of header fields №453 №580 №552 groups_of
-returns-in-TestRequest c = subst (λ (x : MsgType). Marked x _) (sym c.enum_told-in-TestRequest-1.given.1) (marked TestRequest _ refl)
+returns-in-TestRequest c = subst (λ (x : MsgType). Marked x _) (sym c.in-TestRequest.is) (marked TestRequest _ refl)
 
 pub returns-in-ResendRequest : goal.returns-in-ResendRequest
 unfolding tags right_at bit_of required rows_of header fields №453 №580 №552 groups_of
-returns-in-ResendRequest c = subst (λ (x : MsgType). Marked x _) (sym c.enum_told-in-ResendRequest-1.given.1) (marked ResendRequest _ refl)
+returns-in-ResendRequest c = subst (λ (x : MsgType). Marked x _) (sym c.in-ResendRequest.is) (marked ResendRequest _ refl)
 
 pub returns-in-Reject : goal.returns-in-Reject
 unfolding tags right_at bit_of required rows_of header fields №453 №580 №552 groups_of
-returns-in-Reject c = subst (λ (x : MsgType). Marked x _) (sym c.enum_told-in-Reject-1.given.1) (marked Reject _ refl)
+returns-in-Reject c = subst (λ (x : MsgType). Marked x _) (sym c.in-Reject.is) (marked Reject _ refl)
 
 pub returns-in-SequenceReset : goal.returns-in-SequenceReset
 unfolding tags right_at bit_of required rows_of header fields №453 №580 №552 groups_of
-returns-in-SequenceReset c = subst (λ (x : MsgType). Marked x _) (sym c.enum_told-in-SequenceReset-1.given.1) (marked SequenceReset _ refl)
+returns-in-SequenceReset c = subst (λ (x : MsgType). Marked x _) (sym c.in-SequenceReset.is) (marked SequenceReset _ refl)
 
 pub returns-in-Logout : goal.returns-in-Logout
 unfolding tags right_at bit_of required rows_of header fields №453 №580 №552 groups_of
-returns-in-Logout c = subst (λ (x : MsgType). Marked x _) (sym c.enum_told-in-Logout-1.given.1) (marked Logout _ refl)
+returns-in-Logout c = subst (λ (x : MsgType). Marked x _) (sym c.in-Logout.is) (marked Logout _ refl)
 
 pub returns-in-Logon : goal.returns-in-Logon
 unfolding tags right_at bit_of required rows_of header fields №453 №580 №552 groups_of
-returns-in-Logon c = subst (λ (x : MsgType). Marked x _) (sym c.enum_told-in-Logon-1.given.1) (marked Logon _ refl)
+returns-in-Logon c = subst (λ (x : MsgType). Marked x _) (sym c.in-Logon.is) (marked Logon _ refl)
 
 pub returns-in-OrderCancelRequest : goal.returns-in-OrderCancelRequest
 unfolding administrative code35
-returns-in-OrderCancelRequest c = absurd (false≢true (ap administrative (sym c.enum_told-in-OrderCancelRequest-1.given.1) ∙ c.requires))
+returns-in-OrderCancelRequest c = absurd (false≢true (ap administrative (sym c.in-OrderCancelRequest.is) ∙ c.requires))
 
 pub returns-in-TradeCaptureReportRequest : goal.returns-in-TradeCaptureReportRequest
 unfolding administrative code35
-returns-in-TradeCaptureReportRequest c = absurd (false≢true (ap administrative (sym c.enum_told-in-TradeCaptureReportRequest-1.given.1) ∙ c.requires))
+returns-in-TradeCaptureReportRequest c = absurd (false≢true (ap administrative (sym c.in-TradeCaptureReportRequest.is) ∙ c.requires))
 
 pub returns-in-TradeCaptureReport : goal.returns-in-TradeCaptureReport
 unfolding administrative code35
-returns-in-TradeCaptureReport c = absurd (false≢true (ap administrative (sym c.enum_told-in-TradeCaptureReport-1.given.1) ∙ c.requires))
+returns-in-TradeCaptureReport c = absurd (false≢true (ap administrative (sym c.in-TradeCaptureReport.is) ∙ c.requires))
