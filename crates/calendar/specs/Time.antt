@@ -1,7 +1,6 @@
 -- A time in words, `YYYYMMDD-HH:MM:SS.ssssss`: from a number of microseconds since 1970, and back. The calendar is that of the dictionary's
 -- kinds, by the days of its months.
-use Rattle.std.specs.Prelude.{ℕ, zero, suc, ◌+◌, ◌-◌, ◌*◌, ◌/◌, ◌%◌, min, [], ◌∷◌, ◌++◌, cond, ltb}
-use Prim.Native.Char.{code}
+use Rattle.std.specs.Prelude.{ℕ, zero, suc, ◌+◌, ◌-◌, ◌*◌, ◌/◌, ◌%◌, min, ◌++◌, cond, ltb}
 use Rattle.octets.specs.Bytes.{Bytes, fix, padded}
 use Rattle.dates.specs.Date.{days, number_at}
 use Rattle.calendar.specs.declared.days.Date.{Date}

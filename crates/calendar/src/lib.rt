@@ -1,4 +1,6 @@
 // Times in UTC: from microseconds since 1970 to the bytes `YYYYMMDD-HH:MM:SS.ssssss`; and, of times that come, which of two is the later.
+#![tactic(auto)]
+
 mod days;
 mod moments;
 
@@ -10,6 +12,7 @@ use days::{Date, date_of};
 pub use moments::{Moment, TimeRead, is_later, read_time};
 
 // The time of a microsecond since 1970; past the year 9999, that of its last microsecond.
+#[tactic(auto, using(crate::proofs::Texts::utc_before, crate::proofs::Texts::utc_past))]
 pub fn utc(micros: u64) -> [u8; 24]
     ensures { result ≡ utc_or_last micros }
 {

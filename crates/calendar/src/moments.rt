@@ -4,8 +4,8 @@ ghost use Rattle.octets.specs.Tests.{◌=?◌, ◌<?◌};
 ghost use Rattle.calendar.specs.Later.{decimals, moment_of, read_time, later};
 ghost use Rattle.calendar.specs.code.Timed.{digits_at, Timed, NumberAt};
 
-use octets::row;
 use dates::judge_time;
+use octets::row;
 
 // The parts of a time.
 #[derive(Clone, Copy)]

@@ -1,5 +1,5 @@
 -- The shapes of days and times: a shape joined of two, of letters alone, and compared one byte at a time as the code does.
-use Rattle.std.proofs.Common.{◌≡◌, ℕ, zero, suc, ◌+◌, ◌<◌, ◌≤◌, Bool, true, false, cond, not, ◌&&◌, eqb, leb, [], ◌∷◌, ◌++◌, length, get_or, take, drop, sym, refl, ap, ◌∙◌, not-suc-le-zero, add-one, arith, length-drop, get_or-drop, take_all, drop-cons}
+use Rattle.std.proofs.Common.{◌≡◌, ℕ, zero, suc, ◌+◌, ◌<◌, ◌≤◌, Bool, true, false, cond, ◌&&◌, eqb, leb, [], ◌∷◌, ◌++◌, length, get_or, take, drop, sym, refl, ap, ◌∙◌, not-suc-le-zero, add-one, arith, length-drop, get_or-drop, take_all, drop-cons}
 use mathlib.Core.Bool.{and-true, and-false, false≢true}
 use lib.Dec.{eqb-suc-suc, eqb-zero-suc, eqb-suc-zero}
 use Rattle.octets.specs.Bytes.{Bytes, all, digit, Digit}

@@ -1,5 +1,5 @@
 -- Days and times by their shapes: what the bytes that were compared say, and the numbers that calendar and clock are asked with.
-use Rattle.std.proofs.Common.{◌≡◌, ℕ, ◌+◌, ◌*◌, ◌%◌, ◌^◌, ◌<◌, ◌≤◌, Bool, true, false, cond, not, ◌&&◌, ◌||◌, leb, [], ◌∷◌, length, get_or, take, drop, sym, refl, ap, ◌∙◌, add-one, arith, length-drop, take_all, get_or-take, take-take}
+use Rattle.std.proofs.Common.{◌≡◌, ℕ, ◌+◌, ◌*◌, ◌%◌, ◌^◌, ◌<◌, ◌≤◌, Bool, true, false, cond, ◌&&◌, ◌||◌, leb, [], ◌∷◌, length, get_or, take, drop, sym, refl, ap, ◌∙◌, add-one, arith, length-drop, take_all, get_or-take, take-take}
 use mathlib.Core.Bool.{and-true, or-false, false≢true}
 use Rattle.octets.specs.Bytes.{Bytes, fix, value, digit}
 use Rattle.dates.specs.Date.{like, is_time, good_day, good_clock, number_at, found, day_found, time_found}

@@ -9,7 +9,7 @@ use mathlib.Core.Bool.{Bool, true, false, cond, not, ◌&&◌, ◌||◌, and-fal
 use lib.Dec.{eqb, leb}
 use lib.ListN.{length, get_or, drop, drop_of_length-le, length-drop}
 use lib.Seq.{drop-cons}
-use Rattle.octets.specs.Bytes.{Bytes, all, starts, fix, digit, value, value_from, within}
+use Rattle.octets.specs.Bytes.{Bytes, all, starts, fix, digit, value, value_from}
 use Rattle.decimals.specs.Decimal.{leading, trailing, plain, pointed, is_decimal, ranged_of, decimal_of}
 use Rattle.decimals.specs.code.Scan.{Capped, Ran, Leads}
 use Rattle.decimals.specs.declared.Decimal.{Decimal}

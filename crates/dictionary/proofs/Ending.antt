@@ -54,22 +54,26 @@ module _ {met : List Bool} {st : State} where
   unfolding closing
   closing_none z [] (away e) = refl
   closing_none z (g ∷ []) (within I) = absurd (counted g.group I.three (sym I.counter ∙ z))
+  closing_none z (g ∷ (_ ∷ _)) x5 = elim x5 [ ]
 
   pub closing_lacks : {r : Says} {a t : ℕ} → (st.group ≡ 0 → ⊥) → Incomplete met st r → r ≡ Reason a t → (gs : List Open) → Stood gs met st → r ≡ closing_all gs
   unfolding closing
   closing_lacks n C e [] (away z) = absurd (n z)
   closing_lacks n C e (g ∷ []) (within I) = rw (sym (C.is g I) ∙ e) e
+  closing_lacks {r = r} {a = a} {t = t} n C e (g ∷ (_ ∷ _)) x5 = elim x5 [ ]
 
   pub closing_counts : {r : Says} → (st.group ≡ 0 → ⊥) → Incomplete met st r → r ≡ Nothing → st.begun ≡ st.count → (gs : List Open) → Stood gs met st → Nothing ≡ closing_all gs
   unfolding closing
   closing_counts n C e k [] (away z) = absurd (n z)
   closing_counts n C e k (g ∷ []) (within I) = rw (sym (C.is g I) ∙ e, eq-eqb g.begun g.count (sym I.begun ∙ k ∙ I.count))
+  closing_counts {r = r} n C e k (g ∷ (_ ∷ _)) x5 = elim x5 [ ]
 
   pub closing_miscounts : {r : Says} → (st.group ≡ 0 → ⊥) → Incomplete met st r → r ≡ Nothing → (st.begun ≡ st.count → ⊥) → (gs : List Open) → Stood gs met st → Reason 16 st.group ≡ closing_all gs
   unfolding closing
   closing_miscounts n C e k [] (away z) = absurd (n z)
   closing_miscounts n C e k (g ∷ []) (within I) =
       rw (sym (C.is g I) ∙ e, ne_eqb g.begun g.count (λ q. k (I.begun ∙ q ∙ sym I.count))) (ap (λ (c : ℕ). Reason 16 c) I.counter)
+  closing_miscounts {r = r} n C e k (g ∷ (_ ∷ _)) x5 = elim x5 [ ]
 
   -- rule 1 at a part that is a member of a group, or of none
   module _ {group : ℕ} {first : Bool} where
@@ -77,6 +81,7 @@ module _ {met : List Bool} {st : State} where
     unfolding rule1
     rule1_outside z [] p (away e) B = refl
     rule1_outside z (g ∷ []) p (within I) B = absurd (counted g.group I.three (sym I.counter ∙ z))
+    rule1_outside z (g ∷ (_ ∷ _)) p x6 B = elim x6 [ ]
 
     pub rule1_ends : {r : Says} → (st.group ≡ 0 → ⊥) → (st.group ≡ group → ⊥) → Closing met st r → (gs : List Open) (p : Part) → Stood gs met st → Belongs p group first → r ≡ rule1 gs p
     unfolding rule1
@@ -84,6 +89,7 @@ module _ {met : List Bool} {st : State} where
     rule1_ends n k C (g ∷ []) p (within I) B =
         let b = ne_eqb g.group.counter group (λ e. k (I.counter ∙ e)) in
         C.is (g ∷ []) (within I) ∙ rw (B.ended g.group I.three, b)
+    rule1_ends {r = r} n k C (g ∷ (_ ∷ _)) p x6 B = elim x6 [ ]
 
     pub rule1_begins : {r : Says} → (st.group ≡ 0 → ⊥) → st.group ≡ group → first ≡ true → Incomplete met st r → (gs : List Open) (p : Part) → Stood gs met st → Belongs p group first → r ≡ rule1 gs p
     unfolding rule1
@@ -91,6 +97,7 @@ module _ {met : List Bool} {st : State} where
     rule1_begins n k f C (g ∷ []) p (within I) B =
         let b = eq-eqb g.group.counter group (sym I.counter ∙ k) in
         C.is g I ∙ rw (B.ended g.group I.three, B.begun g.group I.three, b, f)
+    rule1_begins {r = r} n k f C (g ∷ (_ ∷ _)) p x6 B = elim x6 [ ]
 
     pub rule1_goes_on : (st.group ≡ 0 → ⊥) → st.group ≡ group → first ≡ false → (gs : List Open) (p : Part) → Stood gs met st → Belongs p group first → Nothing ≡ rule1 gs p
     unfolding rule1
@@ -98,3 +105,4 @@ module _ {met : List Bool} {st : State} where
     rule1_goes_on n k f (g ∷ []) p (within I) B =
         let b = eq-eqb g.group.counter group (sym I.counter ∙ k) in
         rw (B.ended g.group I.three, B.begun g.group I.three, b, f)
+    rule1_goes_on n k f (g ∷ (_ ∷ _)) p x6 B = elim x6 [ ]

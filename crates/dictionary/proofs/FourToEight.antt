@@ -98,6 +98,7 @@ module _ {e : Entry} {met : List Bool} {st : State} (R : Right e) where
   left_away i (g ∷ []) v (within I) =
       let h : eqb st.group 0 ≡ false = ne_eqb st.group 0 (λ z. counted g.group I.three (sym I.counter ∙ z)) in
       rw (sym (R.member_of g.group I.three), ← I.counter, rw h at i)
+  left_away i (g ∷ (_ ∷ _)) v x5 = elim x5 [ ]
 
   pub left_within : inside_of st e ≡ true → (gs : List Open) (v : Bytes) → Stood gs met st
       → (g : Open) × ((gs ≡ g ∷ []) × (InGroup g met st) × (left gs (field e.tag v) ≡ g ∷ []) × (eqb g.group.counter e.member.group ≡ true))
@@ -106,6 +107,7 @@ module _ {e : Entry} {met : List Bool} {st : State} (R : Right e) where
   left_within i (g ∷ []) v (within I) =
       let h : eqb g.group.counter e.member.group ≡ true = rw I.counter at (both (not (eqb st.group 0)) (eqb st.group e.member.group) i).1 in
       (g, (refl, I, rw (sym (R.member_of g.group I.three), h), h))
+  left_within i (g ∷ (_ ∷ _)) v x5 = elim x5 [ ]
 
 -- rule 8
 pub first_is : (rows : List Row) (t : ℕ) → Table.leads rows t ≡ first_member rows t

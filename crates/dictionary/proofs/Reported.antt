@@ -97,10 +97,8 @@ head_other {item} {tag} h a b c d e f = record { is = λ g R k. rw h (go g R) }
     go g (inl x) = rw (x, ne_eqb 54 tag (λ z. a (sym z)), ne_eqb 1427 tag (λ z. f (sym z)), ne_eqb 453 tag (λ z. b (sym z)))
     go g (inr x) = rw (x, ne_eqb 448 tag (λ z. c (sym z)), ne_eqb 447 tag (λ z. d (sym z)), ne_eqb 452 tag (λ z. e (sym z)))
 
-pub head_none : {group : ℕ} (item : Item) → (tag_of the_type item ≡ 1) ⊎ ((tag_of the_type item ≡ 2) ⊎ (tag_of the_type item ≡ 3)) → MemberIn item group Other
-head_none (Field t s e n) (inl k) = absurd (omega arith)
-head_none (Field t s e n) (inr (inl k)) = absurd (omega arith)
-head_none (Field t s e n) (inr (inr k)) = absurd (omega arith)
+pub head_none : {group : ℕ} (item : Item) → ((t s e n : ℕ) → item ≡ Field t s e n → ⊥) → MemberIn item group Other
+head_none (Field t s e n) k = absurd (k t s e n refl)
 head_none (Malformed s e n) k = record { is = λ g R c. refl }
 head_none End k = record { is = λ g R c. refl }
 head_none NoBody k = record { is = λ g R c. refl }

@@ -110,6 +110,7 @@ module _ (t : ℕ) (n : has tags t ≡ false) where
   unfolding left
   unknown_left [] v (away z) = refl
   unknown_left (g ∷ []) v (within I) = rw (not_listed g.group.members (members-placed g.group I.three))
+  unknown_left (g ∷ (_ ∷ _)) v {met = met} {st = st} x5 = elim x5 [ ]
 
 pub malformed_belongs : Belongs malformed 0 false
 malformed_belongs = record {

@@ -56,13 +56,11 @@ unknown_stops {body} {at = at} {t = t} {s} {e} {n} A h u =
 
 -- .. a malformed part, or the end of the body
 pub ended_stops : {body : Bytes} {seen : List Bool} {over : Bool} {at : ℕ} {item : Item} {r : Verdict} → Above body seen over at item
-    → (tag_of the_type item ≡ 1) ⊎ ((tag_of the_type item ≡ 2) ⊎ (tag_of the_type item ≡ 3)) → Ended AE seen seen (outside_of over) item r → r ≡ walk AE nothing_yet (parts body)
+    → ((t s e n : ℕ) → item ≡ Field t s e n → ⊥) → Ended AE seen seen (outside_of over) item r → r ≡ walk AE nothing_yet (parts body)
 ended_stops {body} {at = at} {item = item} {r} A K E = go item refl K (E.is (past A.met []) (record { marked = A.marked; over = A.header; stood = away refl })) ∙ sym A.rest
   where
-    go : (i : Item) → item ≡ i → (tag_of the_type i ≡ 1) ⊎ ((tag_of the_type i ≡ 2) ⊎ (tag_of the_type i ≡ 3)) → EndedBy AE (past A.met []) i r → r ≡ walk AE (past A.met []) (parts (drop at body))
-    go (Field t s e n) h (inl k) v = absurd (omega arith)
-    go (Field t s e n) h (inr (inl k)) v = absurd (omega arith)
-    go (Field t s e n) h (inr (inr k)) v = absurd (omega arith)
+    go : (i : Item) → item ≡ i → ((t s e n : ℕ) → i ≡ Field t s e n → ⊥) → EndedBy AE (past A.met []) i r → r ≡ walk AE (past A.met []) (parts (drop at body))
+    go (Field t s e n) h k v = absurd (k t s e n refl)
     go (Malformed s e n) h k v = v ∙ malformed-speaks AE (past A.met []) Clean _ ∙ sym (walk_on AE (past A.met []) body _ malformed at _ (malformed_step A.cut h))
     go End h k v = v ∙ sym (ap (walk AE (past A.met [])) (end_row A.cut h))
     go NoBody h k v = absurd (never_none A.cut h)

@@ -178,22 +178,18 @@ module _ {body : Bytes} {at : ℕ} {r : Item} (C : Cut body at r) where
   never_none h = subst (Lies body at) h C.lies
 
 -- what is no field
-pub other_ends : {m : MsgType} {seen met : List Bool} {st : State} {r : Verdict} (i : Item) → (tag_of the_type i ≡ 0) ⊎ (tag_of the_type i ≡ 3) → Ended m seen met st i r
-other_ends (Field t s e n) k = record { is = λ w S. tt }
-other_ends (Malformed s e n) (inl k) = absurd (omega arith)
-other_ends (Malformed s e n) (inr k) = absurd (omega arith)
-other_ends End (inl k) = absurd (omega arith)
-other_ends End (inr k) = absurd (omega arith)
-other_ends NoBody k = record { is = λ w S. tt }
+pub other_ends : {m : MsgType} {seen met : List Bool} {st : State} {r : Verdict} (i : Item) → ((s e n : ℕ) → i ≡ Malformed s e n → ⊥) → (i ≡ End → ⊥) → Ended m seen met st i r
+other_ends (Field t s e n) k h = record { is = λ w S. tt }
+other_ends (Malformed s e n) k h = absurd (k s e n refl)
+other_ends End k h = absurd (h refl)
+other_ends NoBody k h = record { is = λ w S. tt }
 
 pub ends-here : {m : MsgType} {body : Bytes} {seen met : List Bool} {st : State} {at : ℕ} (A : At m body seen met st at) {i : Item} {f : Verdict} → Cut body at i
-    → (tag_of the_type i ≡ 1) ⊎ ((tag_of the_type i ≡ 2) ⊎ (tag_of the_type i ≡ 3)) → Ended m seen met st i f → f ≡ walk m nothing_yet (parts body)
+    → ((t s e n : ℕ) → i ≡ Field t s e n → ⊥) → Ended m seen met st i f → f ≡ walk m nothing_yet (parts body)
 ends-here {m} {body} A {i} {f} C K E = go i refl K (E.is A.past A.stands)
   where
-    go : (j : Item) → i ≡ j → (tag_of the_type j ≡ 1) ⊎ ((tag_of the_type j ≡ 2) ⊎ (tag_of the_type j ≡ 3)) → EndedBy m A.past j f → f ≡ walk m nothing_yet (parts body)
-    go (Field t s e n) h (inl k) v = absurd (omega arith)
-    go (Field t s e n) h (inr (inl k)) v = absurd (omega arith)
-    go (Field t s e n) h (inr (inr k)) v = absurd (omega arith)
+    go : (j : Item) → i ≡ j → ((t s e n : ℕ) → j ≡ Field t s e n → ⊥) → EndedBy m A.past j f → f ≡ walk m nothing_yet (parts body)
+    go (Field t s e n) h k v = absurd (k t s e n refl)
     go (Malformed s e n) h k v = v ∙ malformed-speaks m A.past Clean _ ∙ sym (walk_on m A.past body _ malformed _ _ (malformed_step C h)) ∙ sym A.rest
     go End h k v = v ∙ sym (A.rest ∙ ap (walk m A.past) (end_row C h))
     go NoBody h k v = absurd (never_none C h)

@@ -1,12 +1,12 @@
 -- The line buffer: bytes put and moved one at a time are the definitions' put and drop.
 use Prim.Native.Nat.{ℕ, zero, suc, ◌+◌, ◌-◌, ◌≤◌, ◌<◌}
-use native.Mathlib.Nat.{zero-add, add_comm, add-zero}
+use native.Mathlib.Nat.{zero-add, add_comm}
 use native.Mathlib.Numerals.{add-one}
 use native.Mathlib.Decide.{dec_le}
 use native.Mathlib.Omega.{arith}
-use mathlib.Core.Path.{◌≡◌, refl, sym, ap, ap₂, ◌∙◌, subst}
+use mathlib.Core.Path.{◌≡◌, refl, sym, ap, ap₂, ◌∙◌}
 use mathlib.Core.Bool.{cond}
-use mathlib.Core.List.{List, [], ◌∷◌, ◌++◌}
+use mathlib.Core.List.{◌++◌}
 use lib.Dec.{leb}
 use lib.ListN.{length, take, drop, set, get_or, length-drop, drop_of_length-le, take-append-drop}
 use lib.Seq.{paste, paste-zero, paste-suc, length-take-le, take_all, get_or-append-add, get_or-drop, get_or-take, ext_get_or}

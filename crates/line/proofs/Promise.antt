@@ -1,7 +1,7 @@
 -- The line's promise (specs/Promise.antt), shown for every rule whose mark meets the conditions, and so for the two editions.
 use Prim.Native.Nat.{ℕ, ◌-◌, ◌≤◌}
 use native.Mathlib.Omega.{arith}
-use mathlib.Core.Path.{◌≡◌, refl, ap₂}
+use mathlib.Core.Path.{refl, ap₂}
 use mathlib.Core.List.{List}
 use Rattle.octets.specs.Bytes.{Bytes}
 use Rattle.frame.specs.Frame.{Rule, fixt, fix42, longest}

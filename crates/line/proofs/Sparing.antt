@@ -1,5 +1,5 @@
 -- The host's loop that reads only where a frame may have ended: its frames are those of reading in pieces, it ends, and it has one outcome.
-use Prim.Native.Nat.{ℕ, zero, suc, ◌+◌, ◌-◌, ◌≤◌, ◌<◌}
+use Prim.Native.Nat.{ℕ, zero, suc, ◌≤◌, ◌<◌}
 use native.Mathlib.Decide.{dec_lt}
 use native.Mathlib.Omega.{arith}
 use mathlib.Core.Path.{◌≡◌, refl, sym, ap, ap₂, ◌∙◌}
@@ -19,7 +19,7 @@ use Rattle.line.proofs.Hosted.{fitting-full, put_fits, put_pending, put_whole, p
 
 module _ (R : Rule) where
   -- ---- the loop has one outcome
-  sparing_one : {l l₂ m n : Line} {x x₂ : Bytes} {fs gs : List Bytes} → l ≡ l₂ → x ≡ x₂ → TakenSparing R l x fs m → TakenSparing R l₂ x₂ gs n → (fs ≡ gs) × (m ≡ n)
+  sparing_one : {l l₂ : Line} {x x₂ : Bytes} {m n : Line} {fs gs : List Bytes} → l ≡ l₂ → x ≡ x₂ → TakenSparing R l x fs m → TakenSparing R l₂ x₂ gs n → (fs ≡ gs) × (m ≡ n)
   sparing_one e f (unread h a) (unread k b) = (refl, ap₂ put e f)
   sparing_one e f (unread h a) (read k b X) = absurd (false≢true (sym a ∙ ap (λ (y : Bytes). has y (byte "|")) f ∙ b))
   sparing_one e f (unread h a) (full k X U) = absurd (omega (arith, h, k, ap room e, ap length f))

@@ -1,4 +1,6 @@
 // A line buffer that the host lends: a piece is put behind the pending bytes, and bytes are dropped from the front.
+#![tactic(auto)]
+
 ghost use Rattle.std.specs.Prelude.{◌≡◌, cond, ◌+◌, ◌-◌, ◌≤◌, leb, length, drop};
 ghost use Rattle.std.proofs.Math.Seq.{paste};
 ghost use Rattle.line.specs.Line.{Puts, Drops};

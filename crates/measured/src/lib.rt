@@ -1,4 +1,6 @@
 // What the bench measures by itself though no C call is it: the sum of bytes. No venue links this.
+#![tactic(auto)]
+
 ghost use Rattle.std.specs.Prelude.{◌≡◌, ◌%◌};
 ghost use Rattle.octets.specs.Bytes.{sum};
 

@@ -1,4 +1,6 @@
 // Whether bytes are a time as our messages carry it: from 1970 on, six decimals, no second 60.
+#![tactic(auto)]
+
 ghost use Rattle.std.specs.Prelude.{◌≡◌};
 ghost use Rattle.stamps.specs.code.Stamp.{is_stamp};
 

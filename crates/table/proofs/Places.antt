@@ -8,7 +8,7 @@ use mathlib.Core.Bool.{Bool, true, false, cond, not, ◌&&◌, ◌||◌, false�
 use mathlib.Core.Logic.{inl, inr}
 use lib.Dec.{eqb, ltb}
 use lib.ListN.{length, get_or, length-map}
-use Rattle.octets.specs.Bytes.{Bytes, any, all, has, same}
+use Rattle.octets.specs.Bytes.{Bytes, all, has, same}
 use Rattle.kinds.specs.Kind.{Kind, text, number◌to◌, Y/N, time, day, decimal, among}
 use Rattle.kinds.specs.Judged.{meaning}
 use Rattle.kinds.proofs.Values.{same_true}

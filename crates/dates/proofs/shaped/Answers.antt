@@ -9,7 +9,7 @@ loop-k-preserved c =
     let a = c.args in
     let x = c.stands_for in
     let n : c.if-not-stands_for.fits ≡ (c.loop-k.fits && x.result) = elim c.if-not-stands_for.branch [
-      then-not-stands_for w ↦ flag_down c.loop-k.fits x.result c.if-not-stands_for.fits w.if-not-stands_for.true w.fits-is
+      | then-not-stands_for w ↦ flag_down c.loop-k.fits x.result c.if-not-stands_for.fits w.if-not-stands_for.true w.fits-is
       | else-not-stands_for w ↦ flag-kept c.loop-k.fits x.result c.if-not-stands_for.fits w.if-not-stands_for.false w.fits-is
     ] in
     (omega arith, flag_next a.shape.now a.v.now a.at c.loop-k.k c.loop-k.fits x.result c.if-not-stands_for.fits c.loop-k-test.true c.requires c.loop-k.invariant.1 x.ensures n)

@@ -1,5 +1,4 @@
 -- `row_of`: up to the place at hand all are digits, and their number is kept.
-use Prim.Native.Nat.{◌-◌}
 use Rattle.decimals.proofs.Reading.{row_starts, row_whole, row_low, row_high, row_next}
 use borrow.Author.Rules.{rules}
 use Rattle.decimals.proofs.row_of.Goals as goal

@@ -57,7 +57,7 @@ returns c =
     record {
       yes = λ e.
           is_filled a.place.now a.at a.n c₁.if-n-at.false (omega arith) (seen _ c₂.stands_at.ensures c₂.if-not-stands_at.false)
-          (sym c₃.is_stamp.ensures ∙ not-false _ c₃.if-not-is_stamp.false)
+          (sym c₃.is_stamp.ensures ∙ c₃.if-not-is_stamp.false)
           c₄.if-place-at-ne1.false
           (c₅.is_listed.ensures.yes c₅.if-not-is_listed.false)
           (seen _ c₆.is_summed.ensures c₆.if-not-is_summed.false)

@@ -1,10 +1,8 @@
 -- `same`: what is left to compare is the same as the whole.
 use native.Mathlib.Omega.{arith}
-use Prim.Native.Nat.{◌-◌}
 use mathlib.Core.Path.{refl, sym, ◌∙◌}
 use lib.ListN.{drop_of_length-le}
 use borrow.Author.Tests.{eq-eqb, ne_eqb}
-use Rattle.octets.specs.Bytes.{same}
 use Rattle.kinds.proofs.Values.{same_next, same-long}
 use Rattle.kinds.proofs.same.Goals as goal
 

@@ -18,7 +18,7 @@ say-requires c =
     let a = c.args in
     let S = sends_by (session_of a.r) _ _ c.own_gate-gate.ensures c.in-Open.is in
     let R = ready_to a.r S in
-    let F = asked_fit a.time _ a.id.now (ample a.r R) (sym c.is_test_id.ensures ∙ not-false _ c.if-not-is_test_id.false) (λ i. omega (arith, c.shared_slice_known-1.given i)) in
+    let F = asked_fit a.time _ a.id.now (ample a.r R) (sym c.is_test_id.ensures ∙ c.if-not-is_test_id.false) (λ i. omega (arith, c.shared_slice_known-1.given i)) in
     let e = asked-plan (session_of a.r) a.id.now c.saying-p.ensures in
     (R, (omega (arith, S.roomy), S.timed, plan-fits a.time (session_of a.r) a.id.now c.saying-p.result (asked a.id.now) e F, plan-says (session_of a.r) a.id.now c.saying-p.result (asked a.id.now) e tt))
 

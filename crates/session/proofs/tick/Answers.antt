@@ -22,14 +22,14 @@ pub returns-then-is_spent : goal.returns-then-is_spent
 returns-then-is_spent c = tick_5 c.args.r c.args.time c.args.buf.now c.in_range.ensures c.if-not-in_range.false c.if-time-ge253402300800000000.false c.if-buf-lt600.false c.is_active.ensures c.if-not-is_active.false c.is_spent.ensures c.if-is_spent.true c.refused-then-is_spent.ensures
 
 pub is_due-requires : goal.is_due-requires
-is_due-requires c = (ranged_is _ (sym c.in_range.ensures ∙ not-false _ c.if-not-in_range.false)).heartbeat.1
+is_due-requires c = (ranged_is _ (sym c.in_range.ensures ∙ c.if-not-in_range.false)).heartbeat.1
 
 pub returns-then-not-is_due : goal.returns-then-not-is_due
 returns-then-not-is_due c = tick_early c.args.r c.args.time c.args.buf.now c.in_range.ensures c.if-not-in_range.false c.if-time-ge253402300800000000.false c.if-buf-lt600.false c.is_active.ensures c.if-not-is_active.false c.is_spent.ensures c.if-is_spent.false c.is_due.ensures c.if-not-is_due.true c.unchanged-then-not-is_due.ensures
 
 pub beating-requires : goal.beating-requires
 beating-requires c =
-    let R = ready_by c.args.r (sym c.in_range.ensures ∙ not-false _ c.if-not-in_range.false) (sym c.is_spent.ensures ∙ c.if-is_spent.false) in
+    let R = ready_by c.args.r (sym c.in_range.ensures ∙ c.if-not-in_range.false) (sym c.is_spent.ensures ∙ c.if-is_spent.false) in
     (R, omega (arith, c.if-buf-lt600.false), c.if-time-ge253402300800000000.false)
 
 pub returns : goal.returns

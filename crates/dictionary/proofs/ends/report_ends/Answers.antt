@@ -10,4 +10,4 @@ pub returns-in-End : goal.returns-in-End
 returns-in-End c = body-ends c.in-End.is c.report_lacks.ensures
 
 pub returns-in_default : goal.returns-in_default
-returns-in_default c = record { is = λ over. other_ends _ c.in_default.is }
+returns-in_default c = record { is = λ over. other_ends _ c.in_default.not-Malformed c.in_default.not-End }

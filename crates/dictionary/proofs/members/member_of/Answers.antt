@@ -5,7 +5,7 @@ use Rattle.dictionary.proofs.Reported.{at_29, at_33, at_40, at_41, at_42, at_50,
 use Rattle.dictionary.proofs.members.member_of.Goals as goal
 
 pub returns-in_default : goal.returns-in_default
-returns-in_default c = head_none _ c.in_default.is
+returns-in_default c = head_none _ c.in_default.not-Field
 
 pub returns-in-54 : goal.returns-in-54
 returns-in-54 c = head-here _ 29 c.in-Field.is c.table-t.ensures (omega arith) (at_29 ∙ sym c.in-54.is) c.head_of.ensures
@@ -27,5 +27,4 @@ returns-in-1427 c = head-here _ 50 c.in-Field.is c.table-t.ensures (omega arith)
 
 pub returns-in_default-tag : goal.returns-in_default-tag
 returns-in_default-tag c =
-    let r = c.in_default-tag.rest in
-    head_other c.in-Field.is r.0.0.0.0.0.1 r.0.0.0.0.1 r.0.0.0.1 r.0.0.1 r.0.1 r.1
+    head_other c.in-Field.is (omega arith) (omega arith) (omega arith) (omega arith) (omega arith) (omega arith)

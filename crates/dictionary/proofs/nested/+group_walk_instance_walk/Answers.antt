@@ -5,7 +5,7 @@ use Rattle.dictionary.proofs.TwoWalks.{marks_long, group-starts, group_ends, gro
 use Rattle.dictionary.proofs.nested.+group_walk_instance_walk.Goals as goal
 
 pub group_walk-loop-e-init : goal.group_walk-loop-e-init
-group_walk-loop-e-init t c = let P = c.requires.1 in group-starts P.1 c.item_at-item.ensures P.2
+group_walk-loop-e-init t c = let P = c.requires in group-starts P.1 c.item_at-item.ensures P.2
 
 pub group_walk-returns-in_default : goal.group_walk-returns-in_default
 group_walk-returns-in_default t c = group_ends c.loop-e.invariant (the_other c.member_of.ensures c.in_default.is) c.group_closing.ensures c.on_from.ensures
@@ -29,10 +29,10 @@ pub group_walk-bounds-met-p : goal.group_walk-bounds-met-p
 group_walk-bounds-met-p t c = let M = the_member c.member_of.ensures c.in-Member.is in omega (arith, M.looked.small)
 
 pub group_walk-begun-st-requires : goal.group_walk-begun-st-requires
-group_walk-begun-st-requires t c = let W = c.loop-e.invariant in let M = the_member c.member_of.ensures c.in-Member.is in let l = member_lies W.cut M in let P = c.requires in omega (arith, W.few, l, P.1.0)
+group_walk-begun-st-requires t c = let W = c.loop-e.invariant in let M = the_member c.member_of.ensures c.in-Member.is in let l = member_lies W.cut M in let P = c.requires in omega (arith, W.few, l, P.0)
 
 pub group_walk-instance_walk-reached-requires : goal.group_walk-instance_walk-reached-requires
-group_walk-instance_walk-reached-requires t c = let W = c.loop-e.invariant in let M = the_member c.member_of.ensures c.in-Member.is in let l = member_lies W.cut M in let P = c.requires in (omega (arith, P.0, W.behind, l), (P.1.0, omega (arith, l), marks_long M))
+group_walk-instance_walk-reached-requires t c = let W = c.loop-e.invariant in let M = the_member c.member_of.ensures c.in-Member.is in let l = member_lies W.cut M in let P = c.requires in (omega (arith, W.behind, l), (P.0, omega (arith, l), marks_long M))
 
 pub group_walk-returns-in_default-reached : goal.group_walk-returns-in_default-reached
 group_walk-returns-in_default-reached t c = let W = c.loop-e.invariant in let M = the_member c.member_of.ensures c.in-Member.is in group_breaks W M c.of_member-said.ensures c.in-Nothing.is c.begun-st.ensures c.instance_walk-reached.ensures c.in_default-reached.is
@@ -44,7 +44,7 @@ pub group_walk-loop-e-preserved : goal.group_walk-loop-e-preserved
 group_walk-loop-e-preserved t c = let W = c.loop-e.invariant in let M = the_member c.member_of.ensures c.in-Member.is in group_again W M c.of_member-said.ensures c.in-Nothing.is c.begun-st.ensures c.instance_walk-reached.ensures c.in-To.is
 
 pub instance_walk-loop-e-init : goal.instance_walk-loop-e-init
-instance_walk-loop-e-init t c = let P = c.requires.1 in instance_starts P.1 c.item_at-item.ensures P.2
+instance_walk-loop-e-init t c = let P = c.requires in instance_starts P.1 c.item_at-item.ensures P.2
 
 pub instance_walk-returns-in_default : goal.instance_walk-returns-in_default
 instance_walk-returns-in_default t c = instance_ends c.loop-e.invariant (the_other c.member_of.ensures c.in_default.is)
@@ -89,7 +89,7 @@ pub instance_walk-loop-e-preserved-then-inner-eq0 : goal.instance_walk-loop-e-pr
 instance_walk-loop-e-preserved-then-inner-eq0 t c = let W = c.loop-e.invariant in let M = the_member c.member_of.ensures c.in-Member.is in instance_joins W M c.of_member-said.ensures c.in-Nothing.is c.if-e.false c.opened-inner.ensures c.if-inner-eq0.true c.item_at-item-then-inner-eq0.ensures
 
 pub instance_walk-group_walk-reached-requires : goal.instance_walk-group_walk-reached-requires
-instance_walk-group_walk-reached-requires t c = let W = c.loop-e.invariant in let M = the_member c.member_of.ensures c.in-Member.is in let l = member_lies W.cut M in let P = c.requires in (omega (arith, P.0, W.behind, l), (P.1.0, omega (arith, l), c.opened-inner.ensures.none))
+instance_walk-group_walk-reached-requires t c = let W = c.loop-e.invariant in let M = the_member c.member_of.ensures c.in-Member.is in let l = member_lies W.cut M in let P = c.requires in (omega (arith, W.behind, l), (P.0, omega (arith, l), c.opened-inner.ensures.none))
 
 pub instance_walk-returns-in_default-reached : goal.instance_walk-returns-in_default-reached
 instance_walk-returns-in_default-reached t c = let W = c.loop-e.invariant in let M = the_member c.member_of.ensures c.in-Member.is in instance_breaks W M c.of_member-said.ensures c.in-Nothing.is c.if-e.false c.opened-inner.ensures c.if-inner-eq0.false c.group_walk-reached.ensures c.in_default-reached.is

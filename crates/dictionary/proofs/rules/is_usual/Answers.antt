@@ -10,9 +10,9 @@ returns-then-not-st c h =
     record {
       some = a.if-empty.false;
       away = a.if-st-ne0.false;
-      own = sym a.is_in.ensures ∙ not-false _ a.if-not-is_in.false;
+      own = sym a.is_in.ensures ∙ a.if-not-is_in.false;
       new = a.if-again.false;
-      timely = λ o. absurd (false≢true (sym c.if-not-st.true ∙ o));
+      timely = λ o. absurd (false≢true (sym (not-true _ c.if-not-st.true) ∙ o));
     }
 
 pub returns : goal.returns
@@ -21,7 +21,7 @@ returns c h =
     record {
       some = a.if-empty.false;
       away = a.if-st-ne0.false;
-      own = sym a.is_in.ensures ∙ not-false _ a.if-not-is_in.false;
+      own = sym a.is_in.ensures ∙ a.if-not-is_in.false;
       new = a.if-again.false;
       timely = λ o. sym c.bit.ensures ∙ not-true _ h;
     }

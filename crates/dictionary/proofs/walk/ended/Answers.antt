@@ -13,4 +13,4 @@ pub returns-in-End : goal.returns-in-End
 returns-in-End c = rw c.in-End.is (record { is = c.finish.ensures.is })
 
 pub returns-in_default : goal.returns-in_default
-returns-in_default c = other_ends _ c.in_default.is
+returns-in_default c = other_ends _ c.in_default.not-Malformed c.in_default.not-End

@@ -1,4 +1,5 @@
 -- The types of one byte.
+use Rattle.std.proofs.Common.{arith}
 use mathlib.Core.Path.{ap}
 use Rattle.table.specs.Dictionary.{code35, type_of, named}
 use Rattle.dictionary.proofs.Types.{other_byte}
@@ -37,4 +38,4 @@ unfolding type_of code35
 returns-in-70 c = rw c.in-70.is
 
 pub returns-in_default : goal.returns-in_default
-returns-in_default c = ap named (other_byte _ c.in_default.rest.0.0.0.0.0.0.0.1 c.in_default.rest.0.0.0.0.0.0.1 c.in_default.rest.0.0.0.0.0.1 c.in_default.rest.0.0.0.0.1 c.in_default.rest.0.0.0.1 c.in_default.rest.0.0.1 c.in_default.rest.0.1 c.in_default.rest.1)
+returns-in_default c = ap named (other_byte _ (omega arith) (omega arith) (omega arith) (omega arith) (omega arith) (omega arith) (omega arith) (omega arith))

@@ -1,4 +1,5 @@
 -- The types of two bytes, AD and AE.
+use Rattle.std.proofs.Common.{arith}
 use mathlib.Core.Path.{ap}
 use Rattle.table.specs.Dictionary.{code35, type_of, named}
 use Rattle.dictionary.proofs.Types.{other_first, other_second}
@@ -16,4 +17,4 @@ unfolding type_of code35
 returns-in-69 c = rw (c.if-b-ne65.false, c.in-69.is)
 
 pub returns-in_default : goal.returns-in_default
-returns-in_default c = ap named (other_second _ _ c.in_default.rest.0.1 c.in_default.rest.1)
+returns-in_default c = ap named (other_second _ _ (omega arith) (omega arith))

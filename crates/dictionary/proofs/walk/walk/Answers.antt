@@ -15,7 +15,7 @@ loop-tag-init c = begins _ _ c.outside-st.ensures
 pub returns-in_default : goal.returns-in_default
 returns-in_default c =
     let a = c in
-    ends-here a.loop-tag.invariant a.item_at-item.ensures c.in_default.is c.ended.ensures
+    ends-here a.loop-tag.invariant a.item_at-item.ensures c.in_default.not-Field c.ended.ensures
 
 pub place_in-p-requires : goal.place_in-p-requires
 place_in-p-requires c =
@@ -23,7 +23,7 @@ place_in-p-requires c =
     a.requires.2
 
 pub bounds-t-p : goal.bounds-t-p
-bounds-t-p c = c.IsPlace-in.ensures.small
+bounds-t-p c = c.place_in-p.ensures.small
 
 -- a tag that is not in the dictionary
 pub returns-in_default-said : goal.returns-in_default-said
@@ -31,7 +31,7 @@ returns-in_default-said c =
     let p = c in
     let a = p in
     let A = a.loop-tag.invariant in
-    ends_with A (field_step a.item_at-item.ensures p.in-Field.is refl) (c.of_unknown-said.ensures.is A.past _ A.stands.stood (no_place _ a.table-t.ensures p.IsPlace-in.ensures (λ t. c.if-e-tag.true (ap (λ (e : Entry). e.tag) c.entry_of-e.ensures ∙ t)))) c.in_default-said.is c.finding.ensures
+    ends_with A (field_step a.item_at-item.ensures p.in-Field.is refl) (c.of_unknown-said.ensures.is A.past _ A.stands.stood (no_place _ a.table-t.ensures p.place_in-p.ensures (λ t. c.if-e-tag.true (ap (λ (e : Entry). e.tag) c.entry_of-e.ensures ∙ t)))) c.in_default-said.is c.finding.ensures
 
 pub loop-tag-smaller-then-e-tag : goal.loop-tag-smaller-then-e-tag
 loop-tag-smaller-then-e-tag c =
@@ -45,7 +45,7 @@ loop-tag-preserved-then-e-tag c =
     let a = p in
     let A = a.loop-tag.invariant in
     let l = field_lies a.item_at-item.ensures p.in-Field.is in
-    let u = no_place _ a.table-t.ensures p.IsPlace-in.ensures (λ t. c.if-e-tag.true (ap (λ (e : Entry). e.tag) c.entry_of-e.ensures ∙ t)) in
+    let u = no_place _ a.table-t.ensures p.place_in-p.ensures (λ t. c.if-e-tag.true (ap (λ (e : Entry). e.tag) c.entry_of-e.ensures ∙ t)) in
     let s = c.of_unknown-said.ensures.is A.past _ A.stands.stood u in
     let q = c.in-Nothing.is in
     goes_on A (field_step a.item_at-item.ensures p.in-Field.is refl) s q (skips _ _ _ A.stands u (sym s ∙ q) c.outside-st-then-e-tag.ensures) a.requires.1 (omega (arith, ap (λ (x : State). x.begun) c.outside-st-then-e-tag.ensures)) A.seen_long A.met_long
@@ -73,7 +73,7 @@ pub of_known-said-requires : goal.of_known-said-requires
 of_known-said-requires c =
     let p = c in
     let a = p in
-    line_looked _ a.table-t.ensures p.IsPlace-in.ensures.small c.entry_of-e.ensures
+    line_looked _ a.table-t.ensures p.place_in-p.ensures.small c.entry_of-e.ensures
 
 pub returns-in_default-said-2 : goal.returns-in_default-said-2
 returns-in_default-said-2 c =
@@ -89,7 +89,7 @@ remembered-st-requires c =
     let a = p in
     let A = a.loop-tag.invariant in
     let l = field_lies a.item_at-item.ensures p.in-Field.is in
-    (line_looked _ a.table-t.ensures p.IsPlace-in.ensures.small c.entry_of-e.ensures, A.seen_long, A.met_long, omega (arith, A.few, l, a.requires.0))
+    (line_looked _ a.table-t.ensures p.place_in-p.ensures.small c.entry_of-e.ensures, A.seen_long, A.met_long, omega (arith, A.few, l, a.requires.0))
 
 pub loop-tag-smaller : goal.loop-tag-smaller
 loop-tag-smaller c =

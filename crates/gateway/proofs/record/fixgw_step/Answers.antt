@@ -8,13 +8,13 @@ use Rattle.gateway.proofs.record.fixgw_step.Goals as goal
 pub returns-then-not-is_record : goal.returns-then-not-is_record
 returns-then-not-is_record c =
     let a = c.args in
-    step_unread a.ids.now a.words.now (no_record a.words.now a.ids.now (sym c.is_record.ensures ∙ not-true _ c.if-not-is_record.true)) a.frame.now a.time a.buf.now a.store.now
+    step_unread a.ids.now a.words.now (no_record a.words.now a.ids.now (sym c.is_record.ensures ∙ c.if-not-is_record.true)) a.frame.now a.time a.buf.now a.store.now
 
 pub load-requires : goal.load-requires
 load-requires c = sym c.is_record.ensures ∙ c.if-not-is_record.false
 
 pub leave-requires : goal.leave-requires
-leave-requires c = record_length c.args.words.now (sym c.is_record.ensures ∙ not-false _ c.if-not-is_record.false)
+leave-requires c = record_length c.args.words.now (sym c.is_record.ensures ∙ c.if-not-is_record.false)
 
 pub returns : goal.returns
 returns c =

@@ -16,7 +16,7 @@ pub returns-then-text-b : goal.returns-then-text-b
 returns-then-text-b c = (refused (part_beyond _ c.args.text.now _ _ c.if-b-a.false c.if-text-b.true), omega arith)
 
 pub returns-then-not-is_fit : goal.returns-then-not-is_fit
-returns-then-not-is_fit c = (refused (part_fit _ _ _ _ c.if-b-a.false c.if-text-b.false c.is_fit.ensures (not-true _ c.if-not-is_fit.true)), omega arith)
+returns-then-not-is_fit c = (refused (part_fit _ _ _ _ c.if-b-a.false c.if-text-b.false c.is_fit.ensures (c.if-not-is_fit.true)), omega arith)
 
 pub put_bytes-c-requires : goal.put_bytes-c-requires
 put_bytes-c-requires c =

@@ -1,12 +1,7 @@
 -- The finding on 828 by its list in a message.
-use Prim.Native.Nat.{ℕ}
-use types.Run.{OneOf, miss}
-use denote.Enum.Declared.{tag_of}
-use mathlib.Core.Path.{◌≡◌, subst}
-use mathlib.Core.List.{List, [], ◌∷◌}
+use mathlib.Core.Path.{◌≡◌}
 use mathlib.Core.Bool.{Bool, true, false, cond}
 use lib.Dec.{eqb}
-use Rattle.kinds.specs.contracts.Choice.{the_type}
 use Rattle.kinds.specs.declared.Choice.{Choice}
 use Rattle.kinds.specs.declared.Choice.TheVariants.{ZeroOr54, ZeroOr54Or99}
 use Rattle.table.specs.declared.MsgType.{MsgType}

@@ -1,7 +1,6 @@
 -- The search for a required tag that is not marked: up to the row at hand, the rows lack nothing.
 use borrow.Author.Rules.{rules}
 use native.Mathlib.Omega.{arith}
-use Prim.Native.Nat.{◌-◌}
 use mathlib.Core.Path.{refl, sym, ◌∙◌}
 use Rattle.table.proofs.Needs.{place_small, needed_met, needed_not, none_left}
 use Rattle.table.proofs.rows.lacking.Goals as goal
