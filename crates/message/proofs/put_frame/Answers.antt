@@ -12,5 +12,5 @@ pub returns : goal.returns
 unfolding framed
 returns c =
     let f = c.put_front-a.ensures in
-    let e = ap (λ (l : Bytes). trailer (sum l % 256)) (part_of f.0 (omega arith)) in
-    chain f.0 (reword (ap trailer c.checksum-sum.ensures ∙ e) c.put_trailer.ensures)
+    let e = ap (λ (l : Bytes). trailer (sum l % 256)) (part_of f.bytes (omega arith)) in
+    chain f.bytes (reword (ap trailer c.checksum-sum.ensures ∙ e) c.put_trailer.ensures)

@@ -29,4 +29,4 @@ returns c =
     let d = few_digits 3 s.args.k (omega (arith, s.requires.1)) in
     let f = ap (λ (n : ℕ). length (decimal n)) e in
     let w = c.put_frame.ensures in
-    (w, omega (arith, w.next, framed-length (take s.args.k s.args.body.now), e, f, d))
+    record { bytes = w; room = omega (arith, w.next, framed-length (take s.args.k s.args.body.now), e, f, d) }

@@ -11,4 +11,4 @@ returns c =
     let r = t in
     let q = r in
     let p = q in
-    (chain p.put_bytes-a.ensures (chain q.put_decimal-b.ensures (chain r.put_byte-c.ensures t.put_bytes.ensures)), omega arith)
+    record { bytes = chain p.put_bytes-a.ensures (chain q.put_decimal-b.ensures (chain r.put_byte-c.ensures t.put_bytes.ensures)); room = omega arith }

@@ -15,7 +15,4 @@ put_byte-requires c =
 
 pub returns : goal.returns
 returns c =
-    let s = c in (
-      chain (chain c.put_tag-a.ensures.0 c.put_decimal-b.ensures) c.put_byte.ensures,
-      omega (arith, few_digits 8 s.args.n (omega arith)),
-    )
+    let s = c in record { bytes = chain (chain c.put_tag-a.ensures.bytes c.put_decimal-b.ensures) c.put_byte.ensures; room = omega (arith, few_digits 8 s.args.n (omega arith)) }

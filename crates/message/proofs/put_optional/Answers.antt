@@ -4,7 +4,7 @@ use Rattle.message.proofs.Writes.{nothing}
 use Rattle.message.proofs.put_optional.Goals as goal
 
 pub returns-then-there : goal.returns-then-there
-returns-then-there c = (rw c.if-there.true c.put_text.ensures.0, omega arith)
+returns-then-there c = record { bytes = rw c.if-there.true c.put_text.ensures.bytes; room = omega arith }
 
 pub returns : goal.returns
-returns c = (rw c.if-there.false nothing, omega arith)
+returns c = record { bytes = rw c.if-there.false nothing; room = omega arith }

@@ -16,4 +16,4 @@ put_byte-requires c =
 pub returns : goal.returns
 returns c =
     let s = c in
-    (chain c.put_decimal-a.ensures c.put_byte.ensures, omega (arith, few_digits 4 s.args.tag (omega arith)))
+    record { bytes = chain c.put_decimal-a.ensures c.put_byte.ensures; room = omega (arith, few_digits 4 s.args.tag (omega arith)) }

@@ -5,7 +5,7 @@ use Rattle.message.proofs.Writes.{nothing}
 use Rattle.message.proofs.put_unless_zero.Goals as goal
 
 pub returns-then-n-eq0 : goal.returns-then-n-eq0
-returns-then-n-eq0 c = (rw (eq-eqb _ 0 c.if-n-eq0.true) nothing, omega arith)
+returns-then-n-eq0 c = record { bytes = rw (eq-eqb _ 0 c.if-n-eq0.true) nothing; room = omega arith }
 
 pub returns : goal.returns
-returns c = (rw (ne_eqb _ 0 c.if-n-eq0.false) c.put_number.ensures.0, omega arith)
+returns c = record { bytes = rw (ne_eqb _ 0 c.if-n-eq0.false) c.put_number.ensures.bytes; room = omega arith }
