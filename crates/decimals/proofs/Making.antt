@@ -146,3 +146,5 @@ module _ {v : Bytes} {k w : ℕ} (L : Leads v k w) where
           let x : value_from (value_from 0 (leading v)) (leading (drop (k + 1) v)) ≡ value (leading v ++ drop (k + 1) v) = ap (value_from (value_from 0 (leading v))) f.0 ∙ sym (value_from-append 0 (leading v) (drop (k + 1) v)) in
           h ∙ capped_ranged r.value _ (r.end - (k + 1)) K ∙ ap (λ (y : ℕ). ranged_of y (r.end - (k + 1))) x
           ∙ rw (L.plainly, there, eq-eqb (get_or v k 0) 46 p, ne_eqb (length (drop (k + 1) v)) 0 (λ y. z (omega (arith, long, R.behind))), f.1) (ap (ranged_of (value (leading v ++ drop (k + 1) v))) (sym m))
+
+pub ruleset zeros = (zero_leads, lone_zero)

@@ -55,6 +55,7 @@ fn row_of(v: &[u8], from: usize, before: u64) -> Run
 }
 
 // The decimal that the bytes write: digits without leading zero but a lone 0, then a point only if places follow.
+#[tactic(auto, using(crate::proofs::Making::zeros))]
 pub fn read_decimal(v: &[u8]) -> Decimal
     ensures { result ≡ decimal_of v.now }
 {

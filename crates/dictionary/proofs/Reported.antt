@@ -3,17 +3,15 @@ use Prim.Native.Nat.{ℕ, ◌<◌}
 use native.Mathlib.Omega.{arith}
 use borrow.Author.Tests.{eqb-true, eq-eqb, ne_eqb, not-true}
 use mathlib.Core.Path.{◌≡◌, refl, ap, sym, ◌∙◌, subst}
-use mathlib.Core.Logic.{◌⊎◌, inl, inr}
+use mathlib.Core.Logic.{inl, inr}
 use mathlib.Core.List.{List, [], ◌∷◌}
 use mathlib.Core.Bool.{Bool, true, false, cond, not, ◌&&◌, false≢true}
-use denote.Enum.Declared.{tag_of}
 use lib.Dec.{eqb}
 use lib.ListN.{get_or}
 use Rattle.octets.specs.Bytes.{Bytes, all, value}
 use Rattle.fields.specs.Field.{field}
 use Rattle.fields.specs.declared.Item.{Item}
 use Rattle.fields.specs.declared.Item.TheVariants.{Field, Malformed, End, NoBody}
-use Rattle.fields.specs.contracts.Item.{the_type}
 use Rattle.table.specs.Dictionary.{Row, Group, №453, №580, №552, header, fields, listed, groups_of, member, rows_of, frame_tag, in_dictionary}
 use Rattle.table.specs.code.Held.{tag_count, all_rows, tags, tag_at, entry_of, index, bit_of, Table, Three, Placed, Right, Looked}
 use Rattle.dictionary.specs.Verdict.{Open, ◌when◌, first_of, first_member, incomplete, rule1, rule4, rule5, rule6, rule7, rule8, rule9, rule10, left, said, opened}

@@ -12,7 +12,7 @@ use Rattle.octets.specs.Bytes.{Bytes, any, all, has}
 use Rattle.fields.specs.Field.{field, malformed}
 use Rattle.kinds.specs.Kind.{Kind, formed, allowed}
 use Rattle.kinds.specs.Judged.{meaning, judged}
-use Rattle.table.specs.Dictionary.{Row, Group, №453, №580, №552, the_ten, header, fields, code35, listed, kind_in, groups_of, member, rows_of, in_dictionary, administrative}
+use Rattle.table.specs.Dictionary.{Row, Group, №453, №580, №552, the_ten, header, fields, code35, listed, kind_in, groups_of, rows_of, in_dictionary, administrative}
 use Rattle.dictionary.specs.Verdict.{Open, Past, ◌when◌, first_of, first_member, rule1, rule2, rule3, rule4, rule5, rule6, rule7, rule8, rule9, rule10, left, skipped, rules4to10, said}
 use Rattle.table.specs.code.Held.{tag_count, all_rows, tags, tag_at, index, kind_for, Three, Right, Looked, Marked}
 use Rattle.dictionary.specs.code.Held.{Belongs, Stood, away, within, Rules9and10, rules_of_tag}

@@ -4,15 +4,12 @@ use native.Mathlib.Omega.{arith}
 use mathlib.Core.Path.{◌≡◌, refl, ap, sym, ◌∙◌, subst}
 use mathlib.Core.List.{List, [], ◌∷◌}
 use mathlib.Core.Bool.{Bool, true, false}
-use mathlib.Core.Logic.{◌⊎◌, inl, inr}
-use denote.Enum.Declared.{tag_of}
 use lib.ListN.{length, take, drop, set, replicate, length-set, length-replicate}
 use Rattle.octets.specs.Bytes.{Bytes, has}
 use Rattle.fields.specs.Field.{field, malformed, parts}
 use Rattle.fields.specs.Item.{Span, Cut}
 use Rattle.fields.specs.declared.Item.{Item}
 use Rattle.fields.specs.declared.Item.TheVariants.{Field, Malformed, End, NoBody}
-use Rattle.fields.specs.contracts.Item.{the_type}
 use Rattle.table.specs.Dictionary.{groups_of, administrative, code35}
 use Rattle.table.specs.code.Held.{tags, Looked, Marked}
 use Rattle.dictionary.specs.Verdict.{Open, Past, rule1, left, said, opened, after, verdict_by, walk, nothing_yet}

@@ -5,8 +5,7 @@ use borrow.Author.Tests.{eqb-true, eqb-false}
 use mathlib.Core.Path.{◌≡◌, refl, ap, sym, ◌∙◌, subst}
 use mathlib.Core.List.{List, [], ◌∷◌, ◌++◌}
 use mathlib.Core.Bool.{Bool, true, false, cond, not, ◌&&◌, ◌||◌, false≢true}
-use mathlib.Core.Logic.{◌⊎◌, inl, inr}
-use denote.Enum.Declared.{tag_of}
+use mathlib.Core.Logic.{inl, inr}
 use lib.Dec.{eqb}
 use lib.ListN.{length, get_or, take, drop, set, replicate, length-replicate, get_or-replicate}
 use lib.Seq.{get_or-set_same, get_or-set_other}
@@ -15,7 +14,6 @@ use Rattle.fields.specs.Field.{Part, field, malformed, parts}
 use Rattle.fields.specs.Item.{Span, Lies, Cut}
 use Rattle.fields.specs.declared.Item.{Item}
 use Rattle.fields.specs.declared.Item.TheVariants.{Field, Malformed, End, NoBody}
-use Rattle.fields.specs.contracts.Item.{the_type}
 use Rattle.fields.proofs.Rows.{Step, Stepped, parts-step}
 use Rattle.table.specs.Dictionary.{Row, Group, №453, №580, №552, header, fields, groups_of}
 use Rattle.dictionary.specs.Verdict.{Open, Past, first_of, first_member, ends, left, rule1, rule2, skipped, said, opened, joined, taken, after, verdict_by, walk, nothing_yet, missing}

@@ -1,7 +1,7 @@
 -- THE GAP between what a peer has sent and what has come (document 02, Q-5): what asks for it, what raises its highest number, what closes it.
-use Rattle.std.specs.Prelude.{ℕ, ◌-◌, max, Bool, not, ◌&&◌, ◌||◌}
+use Rattle.std.specs.Prelude.{ℕ, ◌-◌, max, Bool, not, ◌&&◌, ◌||◌, if◌then◌else◌}
 use Rattle.octets.specs.Bytes.{within}
-use Rattle.octets.specs.Tests.{◌=?◌, ◌<?◌, ◌≤?◌, if◌then◌else◌}
+use Rattle.octets.specs.Tests.{◌=?◌, ◌<?◌, ◌≤?◌}
 
 -- "The session record shall hold whether a gap is open, for which expected number, the highest number seen, and when it was last asked for."
 pub record Gap : Type 0 where

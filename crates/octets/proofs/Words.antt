@@ -1,5 +1,5 @@
 -- Eight bytes as one number: equal numbers, equal bytes. So 8 to 16 bytes are compared by two of them.
-use Rattle.std.proofs.Common.{◌≡◌, ℕ, zero, suc, ◌+◌, ◌-◌, ◌*◌, ◌<◌, ◌≤◌, Bool, true, false, length, get_or, sym, refl, ap, ◌∙◌, add-zero, add_assoc, zero-add, arith}
+use Rattle.std.proofs.Common.{◌≡◌, ℕ, zero, suc, ◌+◌, ◌-◌, ◌*◌, ◌<◌, ◌≤◌, length, get_or, sym, refl, ap, ◌∙◌, add-zero, add_assoc, zero-add, arith}
 use native.Mathlib.Decide.{dec_lt}
 use Rattle.octets.specs.Bytes.{Bytes, At}
 use Rattle.octets.specs.code.Leaf.{word_at, Matched}

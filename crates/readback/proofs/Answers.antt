@@ -65,13 +65,13 @@ module _ (body : Bytes) where
   unfolding read_back
   found e = ap (λ (o : Verdict). by_verdict o (msg_type body)) e
 
-  pub reads_other : {o : Verdict} {b : Bool} → o ≡ verdict body → o ≡ Found.Clean → b ≡ names_report body → not b ≡ true → Reads body (Finding 11 35) (replicate 82 0)
+  pub reads_other : {o : Verdict} {b : Bool} → o ≡ verdict body → o ≡ Found.Clean → b ≡ names_report body → b ≡ false → Reads body (Finding 11 35) (replicate 82 0)
   reads_other {b = b} e q n h =
-      given (sym (by_type body ∙ ap (λ (c : Bool). cond c Values (Finding 11 35)) (sym n ∙ not-true b h)) ∙ found (sym q ∙ e)) refl
+      given (sym (by_type body ∙ ap (λ (c : Bool). cond c Values (Finding 11 35)) (sym n ∙ h)) ∙ found (sym q ∙ e)) refl
 
-  pub reads_values : {o : Verdict} {b : Bool} {words : List ℕ} → o ≡ verdict body → o ≡ Found.Clean → b ≡ names_report body → not b ≡ false → words ≡ words_in body → Reads body Values words
+  pub reads_values : {o : Verdict} {b : Bool} {words : List ℕ} → o ≡ verdict body → o ≡ Found.Clean → b ≡ names_report body → b ≡ true → words ≡ words_in body → Reads body Values words
   reads_values {b = b} e q n h w =
-      given (sym (by_type body ∙ ap (λ (c : Bool). cond c Values (Finding 11 35)) (sym n ∙ not-false b h)) ∙ found (sym q ∙ e)) w
+      given (sym (by_type body ∙ ap (λ (c : Bool). cond c Values (Finding 11 35)) (sym n ∙ h)) ∙ found (sym q ∙ e)) w
 
   pub reads_finding : {o : Verdict} {r t : ℕ} → o ≡ verdict body → o ≡ Found.Finding r t → Reads body (Finding r t) (replicate 82 0)
   reads_finding e q = given (found (sym q ∙ e)) refl

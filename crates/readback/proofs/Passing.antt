@@ -196,13 +196,11 @@ sofar_end body at words had C S =
     }
 
 -- what is neither a field nor malformed is the end
-pub at_end : {body : Bytes} {at : ℕ} {i : Item} → Cut body at i → (tag_of the_type i ≡ 2) ⊎ (tag_of the_type i ≡ 3) → Cut body at End
-at_end {body} {at} {i} C K = go i C K
+pub at_end : {body : Bytes} {at : ℕ} {i : Item} → Cut body at i → ((t s e n : ℕ) → i ≡ Field t s e n → ⊥) → ((s e n : ℕ) → i ≡ Malformed s e n → ⊥) → Cut body at End
+at_end {body} {at} {i} C f m = go i C f m
   where
-    go : (j : Item) → Cut body at j → (tag_of the_type j ≡ 2) ⊎ (tag_of the_type j ≡ 3) → Cut body at End
-    go (Field t s e n) D (inl k) = absurd (omega arith)
-    go (Field t s e n) D (inr k) = absurd (omega arith)
-    go (Malformed s e n) D (inl k) = absurd (omega arith)
-    go (Malformed s e n) D (inr k) = absurd (omega arith)
-    go End D k = D
-    go NoBody D k = absurd D.lies
+    go : (j : Item) → Cut body at j → ((t s e n : ℕ) → j ≡ Field t s e n → ⊥) → ((s e n : ℕ) → j ≡ Malformed s e n → ⊥) → Cut body at End
+    go (Field t s e n) D f m = absurd (f t s e n refl)
+    go (Malformed s e n) D f m = absurd (m s e n refl)
+    go End D f m = D
+    go NoBody D f m = absurd D.lies

@@ -80,7 +80,7 @@ module _ (ours peers : Bytes) (n : ℕ) (stamp : Bytes) (S : Sendable ours peers
   unfolding administrative code35 rows_of header fields groups_of №453 №580 №552 kind_of
   heartbeat_promised there id T b =
       back Heartbeat refl (of_heartbeat ours peers n stamp (optional there id)) (heartbeat_fit ours peers n stamp S there id T)
-      (all_as Heartbeat (112 is optional there id ∷ []) (optional_as _ tt there id, tt) (tt, tt, tt))
+      (all_as Heartbeat (112 is optional there id ∷ []) (optional_as (kind_in (rows_of Heartbeat) 112) (tt {0}) there id, tt) (tt, tt, tt))
       (all_bytes (112 is optional there id ∷ []) (optional-bytes there id b, tt))
 
   pub test_request_promised : (id : Bytes) → TextOf 64 id → Byted id → ReadsBack TestRequest (of_test_request ours peers n stamp id)
@@ -93,7 +93,7 @@ module _ (ours peers : Bytes) (n : ℕ) (stamp : Bytes) (S : Sendable ours peers
   unfolding administrative code35 rows_of header fields groups_of №453 №580 №552 kind_of
   logon_promised seconds reset low high =
       back Logon refl (of_logon ours peers n stamp seconds (optional reset (fix "Y"))) (logon_fit ours peers n stamp S seconds reset low high)
-      (all_as Logon (98 is bytes (fix "0") ∷ 108 is number seconds ∷ 1137 is bytes (fix "9") ∷ 141 is optional reset (fix "Y") ∷ []) (tt, (tt, (tt, (optional_as _ tt reset (fix "Y"), tt)))) (tt, tt, tt))
+      (all_as Logon (98 is bytes (fix "0") ∷ 108 is number seconds ∷ 1137 is bytes (fix "9") ∷ 141 is optional reset (fix "Y") ∷ []) (tt, (tt, (tt, (optional_as (kind_in (rows_of Logon) 141) (tt {0}) reset (fix "Y"), tt)))) (tt, tt, tt))
       (all_bytes (98 is bytes (fix "0") ∷ 108 is number seconds ∷ 1137 is bytes (fix "9") ∷ 141 is optional reset (fix "Y") ∷ [])
       (small_bytes (fix "0") refl, (decimal-bytes seconds, (small_bytes (fix "9") refl, (optional-bytes reset (fix "Y") (small_bytes (fix "Y") refl), tt)))))
 
@@ -109,7 +109,7 @@ module _ (ours peers : Bytes) (n : ℕ) (stamp : Bytes) (S : Sendable ours peers
   unfolding administrative code35 rows_of header fields groups_of №453 №580 №552 kind_of
   reject_promised refused tag typed kind why low high small T b few =
       back Reject refl (of_reject ours peers n stamp refused tag (optional typed kind) why) (reject_fit ours peers n stamp S refused tag typed kind why low high small T few)
-      (all_as Reject (45 is number refused ∷ 371 is unless_zero tag ∷ 372 is optional typed kind ∷ 373 is number why ∷ []) (tt, (unless_zero_as _ tag, (optional_as _ tt typed kind, (tt, tt)))) (tt, tt, tt))
+      (all_as Reject (45 is number refused ∷ 371 is unless_zero tag ∷ 372 is optional typed kind ∷ 373 is number why ∷ []) (tt, (unless_zero_as (kind_in (rows_of Reject) 371) tag, (optional_as (kind_in (rows_of Reject) 372) (tt {0}) typed kind, (tt, tt)))) (tt, tt, tt))
       (all_bytes (45 is number refused ∷ 371 is unless_zero tag ∷ 372 is optional typed kind ∷ 373 is number why ∷ [])
       (decimal-bytes refused, (unless_zero-bytes tag, (optional-bytes typed kind b, (decimal-bytes why, tt)))))
 

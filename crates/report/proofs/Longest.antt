@@ -11,7 +11,7 @@ use Rattle.octets.proofs.Numerals.{within_is}
 use Rattle.octets.proofs.Decimals.{decimal-worth}
 use Rattle.kinds.specs.Kind.{Kind, kind_of, allowed}
 use Rattle.table.specs.declared.MsgType.TheVariants.{TradeCaptureReport}
-use Rattle.table.specs.Dictionary.{№453, №580, №552, header, fields, groups_of, rows_of}
+use Rattle.table.specs.Dictionary.{№453, №580, №552, header, fields, groups_of, rows_of, kind_in}
 use Rattle.message.specs.Message.{number, Field, ◌is◌, shown, tagged, row}
 use Rattle.message.specs.Unfit.{unfit}
 use Rattle.message.specs.code.Writable.{as_written}
@@ -79,7 +79,7 @@ module _ (v : Values) (h : takes v ≡ true) where
 
   own_as : AllAs TradeCaptureReport (own v)
   unfolding rows_of header fields groups_of №453 №580 №552 kind_of
-  own_as = (tt, (tt, (tt, (tt, (tt, (optional_as _ tt v.its64, (tt, (tt, (tt, (tt, (tt, (optional_as _ tt v.its1427, group_as v.parties))))))))))))
+  own_as = (tt, (tt, (tt, (tt, (tt, (optional_as (kind_in (rows_of TradeCaptureReport) 64) tt v.its64, (tt, (tt, (tt, (tt, (tt, (optional_as (kind_in (rows_of TradeCaptureReport) 1427) tt v.its1427, group_as v.parties))))))))))))
 
   pub own_long : length (row (own v)) ≤ 627
   own_long = omega (arith, row_short (own v) (all_fit v h) own_as, own_width, group-width v.parties few_parties)

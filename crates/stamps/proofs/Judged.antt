@@ -105,3 +105,5 @@ module _ (v : Bytes) (n : length v ≡ 24) (j : time_found v ≡ 0) where
         go : (t : Bool) → leb 55 (get_or v 2 0) ≡ t → t ≡ is_stamp v
         go true e = sym (from_1970 (omega (arith, leb-true 55 (get_or v 2 0) e, year_is)))
         go false e = no_stamp v (λ T. omega (arith, leb-false 55 (get_or v 2 0) e, T.year, year_is, digit_here 1 refl, digit_here 3 refl))
+
+pub ruleset tests = (time-judged, not_second, from_2000, in_1900s)

@@ -6,6 +6,7 @@ ghost use Rattle.stamps.specs.code.Stamp.{is_stamp};
 
 use kinds::{Kind, judge};
 
+#[tactic(auto, using(crate::proofs::Judged::tests))]
 pub fn is_stamp(v: &[u8]) -> bool
     ensures { result ≡ is_stamp v.now }
 {

@@ -17,7 +17,6 @@ use Rattle.table.specs.Dictionary.{code35, the_ten, type_among, type_of, rows_of
 use Rattle.table.specs.code.Held.{agree}
 use Rattle.table.proofs.Lists.{agree_true}
 use Rattle.dictionary.proofs.Types.{one_byte, type_coded}
-use Rattle.message.specs.Message.{own}
 use Rattle.writer.specs.Call.{if_administrative, admin}
 use Rattle.message.specs.Unfit.{required}
 use Rattle.writer.specs.declared.types.Admin.TheVariants.{Is, Other}

@@ -28,4 +28,4 @@ pub returns : goal.returns
 returns c =
     let l = c.loop-i in
     let a = c.args in
-    (all_digits _ _ a.at a.k a.n l.i l.rest (omega arith) l.invariant.1.1.0, rest_none l.i l.rest _ (omega arith) l.invariant.1.1.1)
+    record { bytes = all_digits _ _ a.at a.k a.n l.i l.rest (omega arith) l.invariant.1.1.0; rest = rest_none l.i l.rest _ (omega arith) l.invariant.1.1.1 }

@@ -4,22 +4,22 @@ use Rattle.octets.proofs.Rightmost.{width_1, width_2, width_3, width_4, width_5,
 use Rattle.amounts.proofs.short_width.Goals as goal
 
 pub returns-then-n-lt10 : goal.returns-then-n-lt10
-returns-then-n-lt10 c = (width_1 _ c.if-n-lt10.true, (omega arith, omega arith))
+returns-then-n-lt10 c = record { digits = width_1 _ c.if-n-lt10.true; room = (omega arith, omega arith) }
 
 pub returns-then-n-lt100 : goal.returns-then-n-lt100
-returns-then-n-lt100 c = (width_2 _ c.if-n-lt10.false c.if-n-lt100.true, (omega arith, omega arith))
+returns-then-n-lt100 c = record { digits = width_2 _ c.if-n-lt10.false c.if-n-lt100.true; room = (omega arith, omega arith) }
 
 pub returns-then-n-lt1000 : goal.returns-then-n-lt1000
-returns-then-n-lt1000 c = (width_3 _ c.if-n-lt100.false c.if-n-lt1000.true, (omega arith, omega arith))
+returns-then-n-lt1000 c = record { digits = width_3 _ c.if-n-lt100.false c.if-n-lt1000.true; room = (omega arith, omega arith) }
 
 pub returns-then-n-lt10000 : goal.returns-then-n-lt10000
-returns-then-n-lt10000 c = (width_4 _ c.if-n-lt1000.false c.if-n-lt10000.true, (omega arith, omega arith))
+returns-then-n-lt10000 c = record { digits = width_4 _ c.if-n-lt1000.false c.if-n-lt10000.true; room = (omega arith, omega arith) }
 
 pub returns-then-n-lt100000 : goal.returns-then-n-lt100000
-returns-then-n-lt100000 c = (width_5 _ c.if-n-lt10000.false c.if-n-lt100000.true, (omega arith, omega arith))
+returns-then-n-lt100000 c = record { digits = width_5 _ c.if-n-lt10000.false c.if-n-lt100000.true; room = (omega arith, omega arith) }
 
 pub returns-then-n-lt1000000 : goal.returns-then-n-lt1000000
-returns-then-n-lt1000000 c = (width_6 _ c.if-n-lt100000.false c.if-n-lt1000000.true, (omega arith, omega arith))
+returns-then-n-lt1000000 c = record { digits = width_6 _ c.if-n-lt100000.false c.if-n-lt1000000.true; room = (omega arith, omega arith) }
 
 pub returns : goal.returns
-returns c = (width_7 _ c.if-n-lt1000000.false (omega arith), (omega arith, omega arith))
+returns c = record { digits = width_7 _ c.if-n-lt1000000.false (omega arith); room = (omega arith, omega arith) }

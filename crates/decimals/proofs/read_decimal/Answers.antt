@@ -1,5 +1,5 @@
 -- `read_decimal`: no digits, zeros in front, or a plain number that leads.
-use Rattle.decimals.proofs.Making.{no_digits, zero_leads, lone_zero, no_zero}
+use Rattle.decimals.proofs.Making.{no_digits, no_zero}
 use borrow.Author.Rules.{rules}
 use Rattle.decimals.proofs.read_decimal.Goals as goal
 
@@ -11,12 +11,6 @@ returns-then-k-eq0 c = no_digits _ c.row_of-a.ensures c.if-k-eq0.true
 
 pub bounds-v-0 : goal.bounds-v-0
 bounds-v-0 c = search rules
-
-pub returns-then-k-ne1 : goal.returns-then-k-ne1
-returns-then-k-ne1 c = zero_leads _ c.row_of-a.ensures c.if-k-eq0.false c.if-v-eq48.true c.if-k-ne1.true
-
-pub places-requires : goal.places-requires
-places-requires c = lone_zero _ c.row_of-a.ensures c.if-k-eq0.false c.if-k-ne1.false
 
 pub returns-then-v-eq48 : goal.returns-then-v-eq48
 returns-then-v-eq48 c = c.places.ensures.is

@@ -9,7 +9,7 @@ returns-in_default c =
     let b = c in
     let N = c.number_in-refused.ensures in
     let e = repeats_none b.args.body.now c.in_default.is c.named_type-place.ensures in
-    let w = was_put b.requires.0 _ c.reject.ensures (is_rejectable (record { numbered = omega arith; tagged = omega arith; typed = omega arith; reasoned = omega arith })) (omega arith) (omega arith) in
+    let w = was_put b.requires.sending _ c.reject.ensures (is_rejectable (record { numbered = omega arith; tagged = omega arith; typed = omega arith; reasoned = omega arith })) (omega arith) (omega arith) in
     (rw (e, ← N.is) w.0, omega arith)
 
 pub slice_bounds-v-count : goal.slice_bounds-v-count
@@ -26,5 +26,5 @@ returns c =
     let b = c in
     let N = c.number_in-refused.ensures in
     let R = repeats_at b.args.body.now c.in-At.is c.named_type-place.ensures in
-    let w = was_put b.requires.0 _ c.reject-2.ensures (is_rejectable (record { numbered = omega arith; tagged = omega arith; typed = R.2; reasoned = omega arith })) (omega arith) (omega arith) in
+    let w = was_put b.requires.sending _ c.reject-2.ensures (is_rejectable (record { numbered = omega arith; tagged = omega arith; typed = R.2; reasoned = omega arith })) (omega arith) (omega arith) in
     (rw (R.3, ← N.is) w.0, omega arith)

@@ -13,43 +13,43 @@ use Rattle.possdup.proofs.put_again.Goals as goal
 pub overflow_add-at-2 : goal.overflow_add-at-2
 overflow_add-at-2 c =
     let s = c in
-    omega (arith, (comp_long s.args.us.now s.requires.0.1).1, (comp_long s.args.them.now s.requires.0.2).1)
+    omega (arith, (comp_long s.args.us.now s.requires.place_len.1).1, (comp_long s.args.them.now s.requires.place_len.2).1)
 
 pub width-requires : goal.width-requires
 width-requires c =
     let s = c in
-    number_fits s.args.us.now s.args.them.now s.args.place.now s.args.n s.requires.0.0 s.requires.1.0 s.requires.1.1
+    number_fits s.args.us.now s.args.them.now s.args.place.now s.args.n s.requires.place_len.0 s.requires.le_n.0 s.requires.le_n.1
 
 pub overflow_add-at-3 : goal.overflow_add-at-3
 overflow_add-at-3 c =
     let s = c in
-    omega (arith, (comp_long s.args.us.now s.requires.0.1).1, (comp_long s.args.them.now s.requires.0.2).1, (few_digits 8 s.args.n (number_fits s.args.us.now s.args.them.now s.args.place.now s.args.n s.requires.0.0 s.requires.1.0 s.requires.1.1)).1, c.width.ensures)
+    omega (arith, (comp_long s.args.us.now s.requires.place_len.1).1, (comp_long s.args.them.now s.requires.place_len.2).1, (few_digits 8 s.args.n (number_fits s.args.us.now s.args.them.now s.args.place.now s.args.n s.requires.place_len.0 s.requires.le_n.0 s.requires.le_n.1)).1, c.width.ensures)
 
 pub overflow_add-end : goal.overflow_add-end
 overflow_add-end c =
     let s = c in
-    omega (arith, (within s.args.us.now s.args.them.now s.args.place.now s.args.n s.requires.0.0 s.requires.1.0 s.requires.1.1 c.number-length.result.value c.number-length.result.count c.number-length.ensures).1)
+    omega (arith, (within s.args.us.now s.args.them.now s.args.place.now s.args.n s.requires.place_len.0 s.requires.le_n.0 s.requires.le_n.1 c.number-length.result.value c.number-length.result.count c.number-length.ensures).1)
 
 pub put_body-k-requires : goal.put_body-k-requires
 put_body-k-requires c =
     let s = c in
     let e = c.number-length in
-    let W = within s.args.us.now s.args.them.now s.args.place.now s.args.n s.requires.0.0 s.requires.1.0 s.requires.1.1 e.result.value e.result.count e.ensures in
+    let W = within s.args.us.now s.args.them.now s.args.place.now s.args.n s.requires.place_len.0 s.requires.le_n.0 s.requires.le_n.1 e.result.value e.result.count e.ensures in
     let w = c.width.ensures in
-    (refl, s.requires.0.0, omega arith, omega (arith, W.0, w), omega (arith, W.1), search rules)
+    (refl, s.requires.place_len.0, omega arith, omega (arith, W.0, w), omega (arith, W.1), search rules)
 
 pub slice_bounds-body-end : goal.slice_bounds-body-end
-slice_bounds-body-end c = omega (arith, c.put_body-k.ensures.1)
+slice_bounds-body-end c = omega (arith, c.put_body-k.ensures.room)
 
 pub slice_bounds-put_frame-end : goal.slice_bounds-put_frame-end
-slice_bounds-put_frame-end c = sym (length-take-le _ _ (omega (arith, c.put_body-k.ensures.1)))
+slice_bounds-put_frame-end c = sym (length-take-le _ _ (omega (arith, c.put_body-k.ensures.room)))
 
 pub put_frame-requires : goal.put_frame-requires
 put_frame-requires c =
     let s = c in
     let p = c.put_body-k in
     let e = length-take-le p.result p.new.0 (omega (arith, p.ensures.1)) in
-    frame-fits (length (take p.result p.new.0)) (length s.args.buf.now) (omega (arith, e, p.ensures.1)) s.requires.0.4
+    frame-fits (length (take p.result p.new.0)) (length s.args.buf.now) (omega (arith, e, p.ensures.1)) s.requires.place_len.4
 
 pub returns : goal.returns
 returns c =
@@ -58,4 +58,4 @@ returns c =
     let u = c.utc-stamp in
     let w = c.width in
     let e = c.number-length in
-    again_put s.args.us.now s.args.them.now s.args.place.now s.args.n s.requires.0.0 s.requires.1.0 s.requires.1.1 e.result.value e.result.count e.ensures s.args.time w.result u.result (take p.result p.new.0) w.ensures (u.ensures ∙ utc_before _ s.requires.0.3) (front_of p.ensures.0 (omega (arith, p.ensures.1))) c.put_frame.ensures
+    again_put s.args.us.now s.args.them.now s.args.place.now s.args.n s.requires.place_len.0 s.requires.le_n.0 s.requires.le_n.1 e.result.value e.result.count e.ensures s.args.time w.result u.result (take p.result p.new.0) w.ensures (u.ensures ∙ utc_before _ s.requires.place_len.3) (front_of p.ensures.0 (omega (arith, p.ensures.1))) c.put_frame.ensures

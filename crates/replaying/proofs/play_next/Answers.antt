@@ -69,7 +69,7 @@ moved_on-requires c = let s = c in let P = plays s.args.r s.requires.0 s.require
 pub returns-then-i-lt64 : goal.returns-then-i-lt64
 returns-then-i-lt64 c =
     let s = c in
-    play_again s.args.r s.args.time s.args.buf.now (plays s.args.r s.requires.0 s.requires.1) s.args.store.now c.place_of-i.ensures c.if-i-lt64.true c.put_again-len.ensures.0 (omega (arith, c.put_again-len.ensures.1, s.requires.4)) c.moved_on.ensures
+    play_again s.args.r s.args.time s.args.buf.now (plays s.args.r s.requires.0 s.requires.1) s.args.store.now c.place_of-i.ensures c.if-i-lt64.true c.put_again-len.ensures.bytes (omega (arith, c.put_again-len.ensures.room, s.requires.4)) c.moved_on.ensures
 
 pub run_to-e-requires : goal.run_to-e-requires
 run_to-e-requires c = let s = c in let P = plays s.args.r s.requires.0 s.requires.1 in (s.requires.2, P.ours.right, P.peer.right, c.peeked-numbers.ensures)

@@ -1,4 +1,6 @@
 -- `logon`: nothing where its values do not fit, else the frame around its fields.
+use mathlib.Core.Bool.{not}
+use mathlib.Core.Path.{ap}
 use borrow.Author.Rules.{rules}
 use borrow.Author.Tests.{lt-leb, le-leb}
 use native.Mathlib.Omega.{arith}
@@ -11,21 +13,21 @@ use Rattle.replies.proofs.Replied.{passed, unsendable, unfit_own, put, framed_pu
 use Rattle.replies.proofs.logon.Goals as goal
 
 pub returns-then-not-sendable : goal.returns-then-not-sendable
-returns-then-not-sendable c = unsendable c.sendable.ensures _ c.if-not-sendable.true
+returns-then-not-sendable c = unsendable c.sendable.ensures _ (ap not c.if-not-sendable.true)
 
 pub returns-then-seconds-gt999999999 : goal.returns-then-seconds-gt999999999
-returns-then-seconds-gt999999999 c = unfit_own c.sendable.ensures c.if-not-sendable.false (lt-leb _ _ c.if-seconds-gt999999999.true)
+returns-then-seconds-gt999999999 c = unfit_own c.sendable.ensures (ap not c.if-not-sendable.false) (lt-leb _ _ c.if-seconds-gt999999999.true)
 
 pub put_head-a-requires : goal.put_head-a-requires
-put_head-a-requires c = let P = passed c.sendable.ensures c.if-not-sendable.false in search rules
+put_head-a-requires c = let P = passed c.sendable.ensures (ap not c.if-not-sendable.false) in search rules
 
 pub put_framed-requires : goal.put_framed-requires
-put_framed-requires c = let P = passed c.sendable.ensures c.if-not-sendable.false in search rules
+put_framed-requires c = let P = passed c.sendable.ensures (ap not c.if-not-sendable.false) in search rules
 
 pub returns : goal.returns
 unfolding logon written order own fields code35
 returns c =
     let s = c.args in
-    put c.sendable.ensures c.if-not-sendable.false (le-leb _ _ c.if-seconds-gt999999999.false)
-    (framed_put (headed 65 s.ours.now s.peers.now s.n s.time.now) (own_of_logon s.seconds (optional s.reset (fix "Y"))) c.put_head-a.ensures.0 c.logon_fields-k.ensures.0 (omega arith) c.put_framed.ensures.0)
+    put c.sendable.ensures (ap not c.if-not-sendable.false) (le-leb _ _ c.if-seconds-gt999999999.false)
+    (framed_put (headed 65 s.ours.now s.peers.now s.n s.time.now) (own_of_logon s.seconds (optional s.reset (fix "Y"))) c.put_head-a.ensures.bytes c.logon_fields-k.ensures.bytes (omega arith) c.put_framed.ensures.bytes)
     (omega arith)

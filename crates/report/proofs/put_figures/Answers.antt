@@ -13,10 +13,10 @@ pub returns : goal.returns
 returns c =
     let a = c.args in
     let w = a.values.now in
-    let s = a.text.now in (
-      three_put (32 is bytes (amount_text (amount_at w s 3))) (31 is bytes (amount_text (amount_at w s 4))) (64 is optional (may_be w s 5))
-          (field_put 32 Kind.decimal (amount_text (amount_at w s 3)) has_32 c.put_label-a.ensures.0 c.put_figure-b.ensures.0)
-          (field_put 31 Kind.decimal (amount_text (amount_at w s 4)) has_31 c.put_label-c.ensures.0 c.put_figure-d.ensures.0)
-          (c.put_optional.ensures.0 has_64),
-      omega arith,
-    )
+    let s = a.text.now in record {
+      bytes = three_put (32 is bytes (amount_text (amount_at w s 3))) (31 is bytes (amount_text (amount_at w s 4))) (64 is optional (may_be w s 5))
+          (field_put 32 Kind.decimal (amount_text (amount_at w s 3)) has_32 c.put_label-a.ensures.bytes c.put_figure-b.ensures.bytes)
+          (field_put 31 Kind.decimal (amount_text (amount_at w s 4)) has_31 c.put_label-c.ensures.bytes c.put_figure-d.ensures.bytes)
+          (c.put_optional.ensures.bytes has_64);
+      room = omega arith;
+    }

@@ -12,10 +12,10 @@ use Rattle.report.proofs.put_instrument.Goals as goal
 pub returns : goal.returns
 returns c =
     let a = c.args in
-    let v = needed a.values.now a.text.now in (
-      three_put (574 is bytes (v 6)) (48 is bytes (v 7)) (22 is bytes (v 8))
-          (field_put 574 (among (choices Matches)) (v 6) has_574 c.put_label-a.ensures.0 c.put_needed-b.ensures.0)
-          (field_put 48 (text 32) (v 7) has_48 c.put_label-c.ensures.0 c.put_needed-d.ensures.0)
-          (field_put 22 (among (choices Eight)) (v 8) has_22 c.put_label-e.ensures.0 c.put_needed.ensures.0),
-      omega arith,
-    )
+    let v = needed a.values.now a.text.now in record {
+      bytes = three_put (574 is bytes (v 6)) (48 is bytes (v 7)) (22 is bytes (v 8))
+          (field_put 574 (among (choices Matches)) (v 6) has_574 c.put_label-a.ensures.bytes c.put_needed-b.ensures.bytes)
+          (field_put 48 (text 32) (v 7) has_48 c.put_label-c.ensures.bytes c.put_needed-d.ensures.bytes)
+          (field_put 22 (among (choices Eight)) (v 8) has_22 c.put_label-e.ensures.bytes c.put_needed.ensures.bytes);
+      room = omega arith;
+    }

@@ -5,7 +5,7 @@ use Rattle.report.proofs.Sides.{once_fit}
 use Rattle.report.proofs.put_once.Goals as goal
 
 pub returns-then-at-eq0 : goal.returns-then-at-eq0
-returns-then-at-eq0 c = (nowhere c.if-at-eq0.true, omega arith)
+returns-then-at-eq0 c = record { bytes = nowhere c.if-at-eq0.true; room = omega arith }
 
 pub returns : goal.returns
-returns c = (field-number 552 1 once_fit c.if-at-eq0.false c.put_number.ensures.0, omega arith)
+returns c = record { bytes = field-number 552 1 once_fit c.if-at-eq0.false c.put_number.ensures.bytes; room = omega arith }

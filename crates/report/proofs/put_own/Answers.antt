@@ -6,4 +6,4 @@ use Rattle.report.proofs.put_own.Goals as goal
 pub returns : goal.returns
 returns c =
     let s = c in
-    own_put s.args.values.now s.args.text.now s.requires.0 (omega arith) c.put_trade-a.ensures.0 c.put_figures-b.ensures.0 c.put_instrument-c.ensures.0 c.put_side-d.ensures.0 c.put_parties.ensures.0
+    own_put s.args.values.now s.args.text.now s.requires.0 (omega arith) c.put_trade-a.ensures.bytes c.put_figures-b.ensures.bytes c.put_instrument-c.ensures.bytes c.put_side-d.ensures.bytes c.put_parties.ensures.bytes

@@ -14,9 +14,9 @@ pub returns : goal.returns
 returns c =
     let a = c.args in
     let w = a.values.now in
-    let s = a.text.now in (
-      three_put (552 is number 1) (54 is bytes (needed w s 9)) (1427 is optional (may_be w s 10)) c.put_once-a.ensures.0
-          (field_put 54 (among (choices OneOrTwo)) (needed w s 9) has_54 c.put_label-b.ensures.0 c.put_needed-c.ensures.0)
-          (c.put_optional.ensures.0 has_1427),
-      omega arith,
-    )
+    let s = a.text.now in record {
+      bytes = three_put (552 is number 1) (54 is bytes (needed w s 9)) (1427 is optional (may_be w s 10)) c.put_once-a.ensures.bytes
+          (field_put 54 (among (choices OneOrTwo)) (needed w s 9) has_54 c.put_label-b.ensures.bytes c.put_needed-c.ensures.bytes)
+          (c.put_optional.ensures.bytes has_1427);
+      room = omega arith;
+    }

@@ -5,6 +5,6 @@ use Rattle.reporting.proofs.put_head.Goals as goal
 
 pub returns : goal.returns
 returns c = (
-  chain c.put_text-a.ensures.0 (chain c.put_text-b.ensures.0 (chain c.put_text-c.ensures.0 (chain c.put_number-d.ensures.0 (chain c.put_text.ensures.0 nothing)))),
+  chain c.put_text-a.ensures.bytes (chain c.put_text-b.ensures.bytes (chain c.put_text-c.ensures.bytes (chain c.put_number-d.ensures.bytes (chain c.put_text.ensures.bytes nothing)))),
   omega arith,
 )

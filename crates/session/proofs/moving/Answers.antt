@@ -17,14 +17,14 @@ pub logging_on-requires : goal.logging_on-requires
 logging_on-requires c =
     let u = c in
     let st = c.in-Waiting.is in
-    ((u.requires.0.0, u.requires.0.1, st, let_in (session_of u.args.r) u.args.body.now st c.logon_gate-gate.ensures c.in-Open.is), u.requires.1)
+    ((u.requires.ready.0, u.requires.ready.1, st, let_in (session_of u.args.r) u.args.body.now st c.logon_gate-gate.ensures c.in-Open.is), u.requires.in_bounds)
 
 pub play-requires : goal.play-requires
 play-requires c =
     let u = c in
     let a = u.args in
-    let f = active_fit a.time (session_of a.r) a.body.now (ample a.r u.requires.0.0) (λ i. omega (arith, c.shared_slice_known-1.given i)) c.in-Active.is in
-    (u.requires.0.0, (omega (arith, u.requires.1.0), u.requires.1.1, settled_fits a.time (session_of a.r) a.body.now c.active.result (active (session_of a.r) a.body.now a.time) c.settled-p.ensures c.active.ensures f))
+    let f = active_fit a.time (session_of a.r) a.body.now (ample a.r u.requires.ready.0) (λ i. omega (arith, c.shared_slice_known-1.given i)) c.in-Active.is in
+    (u.requires.ready.0, (omega (arith, u.requires.in_bounds.0), u.requires.in_bounds.1, settled_fits a.time (session_of a.r) a.body.now c.active.result (active (session_of a.r) a.body.now a.time) c.settled-p.ensures c.active.ensures f))
 
 pub returns-in-Shut : goal.returns-in-Shut
 returns-in-Shut c =
@@ -42,4 +42,4 @@ returns-in-Active c =
 pub returns-in-Closed : goal.returns-in-Closed
 returns-in-Closed c =
     let u = c in
-    absurd (false≢true (sym u.requires.0.2 ∙ ap (λ (x : Status). x equals Closed) c.in-Closed.is))
+    absurd (false≢true (sym u.requires.ready.2 ∙ ap (λ (x : Status). x equals Closed) c.in-Closed.is))

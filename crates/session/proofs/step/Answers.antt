@@ -35,6 +35,6 @@ returns-in-Open c =
     let i = body_in_lem _ _ (λ i. omega (arith, b.shared_slice_known-1.given i)) b.body_of-body.ensures (sym o ∙ P.framed) in
     let e = step_moves (session_of a.r) a.frame.now a.buf.now a.store.now a.time b.is_store_lem.ensures o b.step_gate-gate.ensures i q in
     record {
-      leaves = made_by a.r (sym e) c.moving.ensures.0;
-      stored = after_as (session_of a.r) a.frame.now a.time a.buf.now a.store.now i e c.moving.ensures.1;
+      leaves = made_by a.r (sym e) c.moving.ensures.moved;
+      stored = after_as (session_of a.r) a.frame.now a.time a.buf.now a.store.now i e c.moving.ensures.stored;
     }

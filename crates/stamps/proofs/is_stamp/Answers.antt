@@ -1,6 +1,6 @@
 -- `is_stamp`: each test by the law that says what it means of the bytes.
 use mathlib.Core.Path.{sym, ◌∙◌}
-use Rattle.stamps.proofs.Judged.{time-judged, not_long, not_time, not_second, from_2000, before_1000, before_1900, in_1900s}
+use Rattle.stamps.proofs.Judged.{time-judged, not_long, not_time, before_1000, before_1900}
 use Rattle.stamps.proofs.is_stamp.Goals as goal
 
 pub returns-then-v-ne24 : goal.returns-then-v-ne24
@@ -8,16 +8,6 @@ returns-then-v-ne24 c = not_long _ c.if-v-ne24.true
 
 pub returns-then-judge-ne0 : goal.returns-then-judge-ne0
 returns-then-judge-ne0 c = not_time _ (λ e. c.if-judge-ne0.true (c.judge.ensures ∙ time-judged _ ∙ e))
-
-pub returns-then-v-ge54 : goal.returns-then-v-ge54
-returns-then-v-ge54 c =
-    let d = c in
-    not_second _ d.if-v-ne24.false (sym (d.judge.ensures ∙ time-judged _) ∙ d.if-judge-ne0.false) c.if-v-ge54.true
-
-pub returns-then-v-ge50 : goal.returns-then-v-ge50
-returns-then-v-ge50 c =
-    let d = c in
-    from_2000 _ d.if-v-ne24.false (sym (d.judge.ensures ∙ time-judged _) ∙ d.if-judge-ne0.false) c.if-v-ge54.false c.if-v-ge50.true
 
 pub returns-then-v-lt49 : goal.returns-then-v-lt49
 returns-then-v-lt49 c =
@@ -28,8 +18,3 @@ pub returns-then-v-lt57 : goal.returns-then-v-lt57
 returns-then-v-lt57 c =
     let d = c in
     before_1900 _ d.if-v-ne24.false (sym (d.judge.ensures ∙ time-judged _) ∙ d.if-judge-ne0.false) c.if-v-ge50.false c.if-v-lt57.true
-
-pub returns : goal.returns
-returns c =
-    let d = c in
-    in_1900s _ d.if-v-ne24.false (sym (d.judge.ensures ∙ time-judged _) ∙ d.if-judge-ne0.false) c.if-v-ge54.false c.if-v-ge50.false c.if-v-lt49.false c.if-v-lt57.false

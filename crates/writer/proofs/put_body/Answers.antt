@@ -22,4 +22,4 @@ returns c =
     let s = c in
     let p = c.put_values in
     let t = c.put_text-at in
-    body_put s.args.m s.requires.0 (value_in s.args.values s.args.text.now) s.args.code.now s.args.body.now t.new.0 p.new.0 t.result s.requires.1 t.ensures.0 p.result p.ensures
+    body_put s.args.m s.requires.0 (value_in s.args.values s.args.text.now) s.args.code.now s.args.body.now t.new.buf p.new.buf t.result s.requires.1 t.ensures.bytes p.result p.ensures

@@ -1,5 +1,5 @@
 -- The group walk and the instance walk: the bytes that are left, and where each stands before the part at a place.
-use Rattle.std.proofs.Common.{ℕ, ◌+◌, ◌-◌, length}
+use Rattle.std.proofs.Common.{◌+◌, ◌-◌, length}
 use Rattle.dictionary.proofs.TwoWalks.{InGroupWalk, InInstanceWalk}
 use Rattle.dictionary.proofs.nested.+group_walk_instance_walk.Given as goal
 

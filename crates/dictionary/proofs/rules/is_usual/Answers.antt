@@ -1,5 +1,5 @@
 -- What is asked of a usual field, one after the other.
-use borrow.Author.Tests.{not-true, not-false}
+use borrow.Author.Tests.{not-true}
 use mathlib.Core.Bool.{false≢true}
 use mathlib.Core.Path.{sym, ◌∙◌}
 use Rattle.dictionary.proofs.rules.is_usual.Goals as goal

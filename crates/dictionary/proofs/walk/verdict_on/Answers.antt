@@ -1,6 +1,5 @@
 -- The verdict: no body, another type, or the walk.
 use mathlib.Core.Bool.{not}
-use borrow.Author.Tests.{not-false}
 use mathlib.Core.Path.{ap, sym, ◌∙◌}
 use Rattle.table.specs.declared.Named.TheVariants.{Of}
 use Rattle.dictionary.proofs.Types.{is_body_lem, verdict_nobody, verdict_other, verdict_walked, report_is}

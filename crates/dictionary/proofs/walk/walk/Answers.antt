@@ -1,6 +1,5 @@
 -- The walk: before each part the code stands where the words stand (At), and each way that a part can go is one turn of theirs.
 use native.Mathlib.Omega.{arith}
-use Prim.Native.Nat.{◌-◌}
 use mathlib.Core.Path.{refl, ap, sym, ◌∙◌}
 use Rattle.table.specs.declared.lines.Entry.{Entry}
 use Rattle.table.proofs.Places.{no_place, line_looked}

@@ -1,5 +1,5 @@
 -- `matched`: every byte passed is the literal's.
-use Rattle.std.proofs.Common.{◌-◌, arith, below_more}
+use Rattle.std.proofs.Common.{arith, below_more}
 use Rattle.octets.proofs.compare.matched.Goals as goal
 
 pub loop-i-preserved : goal.loop-i-preserved

@@ -1,5 +1,5 @@
 -- `stands`: the first eight bytes and the last eight as two numbers.
-use Rattle.std.proofs.Common.{◌-◌, ◌≤◌, T, length, sym, ◌∙◌, subst, arith, eqb-true}
+use Rattle.std.proofs.Common.{◌≤◌, T, length, sym, ◌∙◌, subst, arith, eqb-true}
 use borrow.Author.Tests.{eqb-false}
 use Rattle.octets.proofs.Words.{at_words, words_first, words_last}
 use Rattle.octets.proofs.compare.stands.Goals as goal

@@ -1,5 +1,5 @@
 -- `byte_from`: no byte passed is x.
-use Rattle.std.proofs.Common.{◌+◌, ◌-◌, refl, arith}
+use Rattle.std.proofs.Common.{◌+◌, refl, arith}
 use Rattle.octets.proofs.Search.{none_one}
 use Rattle.octets.proofs.find.byte_from.Goals as goal
 

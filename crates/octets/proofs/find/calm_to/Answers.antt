@@ -1,5 +1,5 @@
 -- `calm_to`: x stands nowhere in what was stepped over.
-use Rattle.std.proofs.Common.{◌-◌, arith}
+use Rattle.std.proofs.Common.{arith}
 use Rattle.octets.proofs.Search.{none_further}
 use Rattle.octets.proofs.find.calm_to.Goals as goal
 

@@ -1,5 +1,5 @@
 -- `find_byte`: x stands nowhere in what was stepped over.
-use Rattle.std.proofs.Common.{◌≡◌, ℕ, ◌+◌, ◌-◌, ◌<◌, ◌≤◌, get_or, arith}
+use Rattle.std.proofs.Common.{◌≡◌, ℕ, ◌+◌, ◌<◌, ◌≤◌, get_or, arith}
 use Rattle.octets.specs.Bytes.{Bytes}
 use Rattle.octets.specs.code.Leaf.{CalmTo}
 use Rattle.octets.proofs.Search.{none_further, none_to_end, first-further, free_tail}

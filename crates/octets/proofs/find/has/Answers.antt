@@ -1,5 +1,5 @@
 -- `has`: the byte is not among those passed.
-use Rattle.std.proofs.Common.{◌-◌, sym, refl, ◌∙◌, arith}
+use Rattle.std.proofs.Common.{sym, refl, ◌∙◌, arith}
 use Rattle.octets.proofs.Tests.{has_here, has_next, has_end}
 use Rattle.octets.proofs.find.has.Goals as goal
 

@@ -1,5 +1,5 @@
 -- `holds`: the literal stands nowhere with its fifth byte in what was stepped over.
-use Rattle.std.proofs.Common.{◌-◌, ◌≤◌, length, refl, arith}
+use Rattle.std.proofs.Common.{◌≤◌, length, refl, arith}
 use Rattle.octets.proofs.Search.{none_to, none_past, none_end}
 use Rattle.octets.proofs.find.holds.Goals as goal
 

@@ -1,5 +1,5 @@
 -- `checksum`: thirty-two eights at a time, the front is a multiple of 256; then each part leaves fewer bytes than it has, and the last seven are all.
-use Rattle.std.proofs.Common.{◌-◌, ◌≤◌, length, ap, arith, take_all}
+use Rattle.std.proofs.Common.{◌≤◌, length, ap, arith, take_all}
 use Rattle.octets.specs.Bytes.{sum}
 use Rattle.octets.proofs.Parts.{sum_last}
 use Rattle.octets.proofs.sums.checksum.Goals as goal

@@ -1,5 +1,5 @@
 -- `sum_of`: t is the sum of the bytes passed, and each of them is at most 255.
-use Rattle.std.proofs.Common.{◌≡◌, ℕ, ◌-◌, take, drop, ap, ◌∙◌, arith}
+use Rattle.std.proofs.Common.{◌≡◌, ℕ, take, drop, ap, ◌∙◌, arith}
 use Rattle.octets.specs.Bytes.{sum}
 use Rattle.octets.proofs.Parts.{sum_more}
 use Rattle.octets.proofs.sums.sum_of.Goals as goal

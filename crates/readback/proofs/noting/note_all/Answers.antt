@@ -25,7 +25,7 @@ pub loop-tag-preserved : goal.loop-tag-preserved
 loop-tag-preserved c = sofar_malformed _ _ _ _ (subst (Cut c.args.body.now c.loop-tag.at) c.in-Malformed.is c.item_at.ensures) c.loop-tag.invariant
 
 pub finish-requires : goal.finish-requires
-finish-requires c = sofar_end _ _ _ _ (at_end c.item_at.ensures c.in_default.is) c.loop-tag.invariant
+finish-requires c = sofar_end _ _ _ _ (at_end c.item_at.ensures c.in_default.not-Field c.in_default.not-Malformed) c.loop-tag.invariant
 
 pub returns-in_default : goal.returns-in_default
 returns-in_default c = c.finish.ensures

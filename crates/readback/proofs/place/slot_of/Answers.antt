@@ -1,4 +1,5 @@
 -- The place of a tag among the eleven.
+use native.Mathlib.Omega.{arith}
 use borrow.Author.Tests.{ne_eqb}
 use Rattle.readback.specs.code.Pass.{slot_of}
 use Rattle.readback.proofs.place.slot_of.Goals as goal
@@ -49,4 +50,6 @@ returns-in-1427 c = rw c.in-1427.is
 
 pub returns-in_default : goal.returns-in_default
 unfolding slot_of
-returns-in_default c = let t = c.args.tag in rw (ne_eqb t 571 c.in_default.rest.0.0.0.0.0.0.0.0.0.0.1, ne_eqb t 828 c.in_default.rest.0.0.0.0.0.0.0.0.0.1, ne_eqb t 60 c.in_default.rest.0.0.0.0.0.0.0.0.1, ne_eqb t 32 c.in_default.rest.0.0.0.0.0.0.0.1, ne_eqb t 31 c.in_default.rest.0.0.0.0.0.0.1, ne_eqb t 64 c.in_default.rest.0.0.0.0.0.1, ne_eqb t 574 c.in_default.rest.0.0.0.0.1, ne_eqb t 48 c.in_default.rest.0.0.0.1, ne_eqb t 22 c.in_default.rest.0.0.1, ne_eqb t 54 c.in_default.rest.0.1, ne_eqb t 1427 c.in_default.rest.1)
+returns-in_default c =
+    let t = c.args.tag in
+    rw (ne_eqb t 571 (λ e. omega (arith, e)), ne_eqb t 828 (λ e. omega (arith, e)), ne_eqb t 60 (λ e. omega (arith, e)), ne_eqb t 32 (λ e. omega (arith, e)), ne_eqb t 31 (λ e. omega (arith, e)), ne_eqb t 64 (λ e. omega (arith, e)), ne_eqb t 574 (λ e. omega (arith, e)), ne_eqb t 48 (λ e. omega (arith, e)), ne_eqb t 22 (λ e. omega (arith, e)), ne_eqb t 54 (λ e. omega (arith, e)), ne_eqb t 1427 (λ e. omega (arith, e)))

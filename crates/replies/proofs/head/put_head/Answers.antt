@@ -8,7 +8,4 @@ use Rattle.replies.proofs.head.put_head.Goals as goal
 
 pub returns : goal.returns
 returns c =
-    let s = c.args in (
-      more (ids s.code s.ours.now s.peers.now s.n) (52 is bytes s.time.now ∷ []) c.put_ids-a.ensures.0 (chain c.put_text.ensures.0 nothing),
-      omega arith,
-    )
+    let s = c.args in record { bytes = more (ids s.code s.ours.now s.peers.now s.n) (52 is bytes s.time.now ∷ []) c.put_ids-a.ensures.bytes (chain c.put_text.ensures.bytes nothing); room = omega arith }

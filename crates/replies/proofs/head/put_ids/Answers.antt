@@ -9,7 +9,4 @@ returns c =
     let r = t in
     let q = r in
     let p = q in
-    let s = p in (
-      chain p.put_char-a.ensures.0 (chain q.put_text-b.ensures.0 (chain r.put_text-c.ensures.0 (chain t.put_number.ensures.0 nothing))),
-      omega (arith, s.requires.0, s.requires.1, p.put_char-a.ensures.1, q.put_text-b.ensures.1, r.put_text-c.ensures.1, t.put_number.ensures.1),
-    )
+    let s = p in record { bytes = chain p.put_char-a.ensures.bytes (chain q.put_text-b.ensures.bytes (chain r.put_text-c.ensures.bytes (chain t.put_number.ensures.bytes nothing))); room = omega (arith, s.requires.ranged, s.requires.in_bounds, p.put_char-a.ensures.room, q.put_text-b.ensures.room, r.put_text-c.ensures.room, t.put_number.ensures.room) }

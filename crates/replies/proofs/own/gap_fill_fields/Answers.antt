@@ -4,4 +4,4 @@ use Rattle.message.proofs.Writes.{chain, nothing}
 use Rattle.replies.proofs.own.gap_fill_fields.Goals as goal
 
 pub returns : goal.returns
-returns c = (chain c.put_char-a.ensures.0 (chain c.put_text-b.ensures.0 (chain c.put_text-c.ensures.0 (chain c.put_char-d.ensures.0 (chain c.put_number.ensures.0 nothing)))), omega arith)
+returns c = record { bytes = chain c.put_char-a.ensures.bytes (chain c.put_text-b.ensures.bytes (chain c.put_text-c.ensures.bytes (chain c.put_char-d.ensures.bytes (chain c.put_number.ensures.bytes nothing)))); room = omega arith }

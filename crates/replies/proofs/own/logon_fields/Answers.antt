@@ -4,7 +4,7 @@ use Rattle.message.proofs.Writes.{chain, nothing}
 use Rattle.replies.proofs.own.logon_fields.Goals as goal
 
 pub returns-then-reset : goal.returns-then-reset
-returns-then-reset c = (rw c.if-reset.true (chain c.put_char-a.ensures.0 (chain c.put_number-b.ensures.0 (chain c.put_char-c.ensures.0 (chain c.put_char.ensures.0 nothing)))), omega arith)
+returns-then-reset c = record { bytes = rw c.if-reset.true (chain c.put_char-a.ensures.bytes (chain c.put_number-b.ensures.bytes (chain c.put_char-c.ensures.bytes (chain c.put_char.ensures.bytes nothing)))); room = omega arith }
 
 pub returns : goal.returns
-returns c = (rw c.if-reset.false (chain c.put_char-a.ensures.0 (chain c.put_number-b.ensures.0 (chain c.put_char-c.ensures.0 nothing))), omega arith)
+returns c = record { bytes = rw c.if-reset.false (chain c.put_char-a.ensures.bytes (chain c.put_number-b.ensures.bytes (chain c.put_char-c.ensures.bytes nothing))); room = omega arith }

@@ -4,4 +4,4 @@ use Rattle.message.proofs.Writes.{chain, nothing}
 use Rattle.replies.proofs.own.reject_fields.Goals as goal
 
 pub returns : goal.returns
-returns c = (chain c.put_number-a.ensures.0 (chain c.put_unless_zero-b.ensures.0 (chain c.put_optional-c.ensures.0 (chain c.put_number.ensures.0 nothing))), omega arith)
+returns c = record { bytes = chain c.put_number-a.ensures.bytes (chain c.put_unless_zero-b.ensures.bytes (chain c.put_optional-c.ensures.bytes (chain c.put_number.ensures.bytes nothing))); room = omega arith }

@@ -8,13 +8,13 @@ use Rattle.report.proofs.Sides.{party_more, all_parties, no_parties, many_partie
 use Rattle.report.proofs.parties.put_parties.Goals as goal
 
 pub returns-then-at-eq0 : goal.returns-then-at-eq0
-returns-then-at-eq0 c = (nowhere c.if-at-eq0.true, omega arith)
+returns-then-at-eq0 c = record { bytes = nowhere c.if-at-eq0.true; room = omega arith }
 
 pub returns-then-n-eq0 : goal.returns-then-n-eq0
-returns-then-n-eq0 c = (no_parties c.args.values.now c.args.text.now _ c.if-n-eq0.true, omega arith)
+returns-then-n-eq0 c = record { bytes = no_parties c.args.values.now c.args.text.now _ c.if-n-eq0.true; room = omega arith }
 
 pub returns-then-n-gt8 : goal.returns-then-n-gt8
-returns-then-n-gt8 c = (many_parties c.args.values.now c.args.text.now _ c.if-n-gt8.true, omega arith)
+returns-then-n-gt8 c = record { bytes = many_parties c.args.values.now c.args.text.now _ c.if-n-gt8.true; room = omega arith }
 
 pub loop-i-init : goal.loop-i-init
 loop-i-init c = (omega arith, (refl, (omega arith, none_put)))
@@ -23,7 +23,7 @@ pub put_party-to-requires : goal.put_party-to-requires
 put_party-to-requires c =
     let l = c.loop-i in
     let s = c in
-    (omega (arith, c.if-n-gt8.false, c.loop-i-test.true), omega (arith, l.invariant.1.0, l.invariant.1.1.0, c.if-n-gt8.false, c.loop-i-test.true, c.put_number-to.ensures.1, c.put_number-to.auto, s.requires))
+    (omega (arith, c.if-n-gt8.false, c.loop-i-test.true), omega (arith, l.invariant.1.0, l.invariant.1.1.0, c.if-n-gt8.false, c.loop-i-test.true, c.put_number-to.ensures.room, c.put_number-to.auto, s.requires))
 
 pub loop-i-preserved : goal.loop-i-preserved
 loop-i-preserved c =
@@ -31,13 +31,10 @@ loop-i-preserved c =
     let a = c.args in
     let p = c.put_party-to in (
       omega (arith, c.loop-i-test.true),
-      (omega (arith, p.auto, l.invariant.1.0), (omega (arith, p.ensures.1, l.invariant.1.1.0), party_more a.values.now a.text.now l.i l.invariant.1.1.1 p.ensures.0)),
+      (omega (arith, p.auto, l.invariant.1.0), (omega (arith, p.ensures.room, l.invariant.1.1.0), party_more a.values.now a.text.now l.i l.invariant.1.1.1 p.ensures.bytes)),
     )
 
 pub returns : goal.returns
 returns c =
     let l = c.loop-i in
-    let a = c.args in (
-      all_parties a.values.now a.text.now (get_or a.values.now 33 0) l.i c.if-n-eq0.false c.if-n-gt8.false (omega (arith, c.loop-i-test.false, l.invariant.0)) c.if-at-eq0.false c.put_number-to.ensures.0 l.invariant.1.1.1,
-      omega (arith, l.invariant.0, l.invariant.1.1.0, c.if-n-gt8.false, c.put_number-to.ensures.1),
-    )
+    let a = c.args in record { bytes = all_parties a.values.now a.text.now (get_or a.values.now 33 0) l.i c.if-n-eq0.false c.if-n-gt8.false (omega (arith, c.loop-i-test.false, l.invariant.0)) c.if-at-eq0.false c.put_number-to.ensures.bytes l.invariant.1.1.1; room = omega (arith, l.invariant.0, l.invariant.1.1.0, c.if-n-gt8.false, c.put_number-to.ensures.room) }

@@ -15,10 +15,10 @@ returns c =
     let a = c.args in
     let w = a.values.now in
     let s = a.text.now in
-    let i = a.i in (
-      three_put (448 is bytes (party_part w s i 0)) (447 is bytes (party_part w s i 1)) (452 is bytes (party_part w s i 2))
-          (field_put 448 (text 32) (party_part w s i 0) has_448 c.put_label-a.ensures.0 (party_at w s (text 32) i 0 (34 + 6 * i) (34 + 6 * i + 1) (omega arith) (omega arith) c.put_value-b.ensures.0))
-          (field_put 447 (among (choices D)) (party_part w s i 1) has_447 c.put_label-c.ensures.0 (party_at w s (among (choices D)) i 1 (34 + 6 * i + 2) (34 + 6 * i + 3) (omega arith) (omega arith) c.put_value-d.ensures.0))
-          (field_put 452 (among (choices Roles)) (party_part w s i 2) has_452 c.put_label-e.ensures.0 (party_at w s (among (choices Roles)) i 2 (34 + 6 * i + 4) (34 + 6 * i + 5) (omega arith) (omega arith) c.put_value.ensures.0)),
-      omega (arith, c.put_value.ensures.1, c.put_label-e.ensures.1, c.put_value-d.ensures.1, c.put_label-c.ensures.1, c.put_value-b.ensures.1, c.put_label-a.ensures.1),
-    )
+    let i = a.i in record {
+      bytes = three_put (448 is bytes (party_part w s i 0)) (447 is bytes (party_part w s i 1)) (452 is bytes (party_part w s i 2))
+          (field_put 448 (text 32) (party_part w s i 0) has_448 c.put_label-a.ensures.bytes (party_at w s (text 32) i 0 (34 + 6 * i) (34 + 6 * i + 1) (omega arith) (omega arith) c.put_value-b.ensures.bytes))
+          (field_put 447 (among (choices D)) (party_part w s i 1) has_447 c.put_label-c.ensures.bytes (party_at w s (among (choices D)) i 1 (34 + 6 * i + 2) (34 + 6 * i + 3) (omega arith) (omega arith) c.put_value-d.ensures.bytes))
+          (field_put 452 (among (choices Roles)) (party_part w s i 2) has_452 c.put_label-e.ensures.bytes (party_at w s (among (choices Roles)) i 2 (34 + 6 * i + 4) (34 + 6 * i + 5) (omega arith) (omega arith) c.put_value.ensures.bytes));
+      room = omega (arith, c.put_value.ensures.room, c.put_label-e.ensures.room, c.put_value-d.ensures.room, c.put_label-c.ensures.room, c.put_value-b.ensures.room, c.put_label-a.ensures.room);
+    }

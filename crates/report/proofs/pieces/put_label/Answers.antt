@@ -5,10 +5,10 @@ use Rattle.report.proofs.Putting.{nowhere, placed, label_short}
 use Rattle.report.proofs.pieces.put_label.Goals as goal
 
 pub returns-then-at-eq0 : goal.returns-then-at-eq0
-returns-then-at-eq0 c = (nowhere c.if-at-eq0.true, omega arith)
+returns-then-at-eq0 c = record { bytes = nowhere c.if-at-eq0.true; room = omega arith }
 
 pub returns : goal.returns
 returns c =
     let s = c in
-    let w = c.put_tag.ensures.0 in
-    (placed c.if-at-eq0.false refl w, omega (arith, w.next, label_short s.args.tag s.requires.0))
+    let w = c.put_tag.ensures.bytes in
+    record { bytes = placed c.if-at-eq0.false refl w; room = omega (arith, w.next, label_short s.args.tag s.requires.0) }

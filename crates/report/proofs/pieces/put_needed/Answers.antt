@@ -7,9 +7,9 @@ use Rattle.report.proofs.pieces.put_needed.Goals as goal
 pub returns-then-values-w-eq0 : goal.returns-then-values-w-eq0
 returns-then-values-w-eq0 c =
     let a = c.args in
-    (needed_absent a.values.now a.text.now a.k (meaning a.kind) c.if-values-w-eq0.true, omega arith)
+    record { bytes = needed_absent a.values.now a.text.now a.k (meaning a.kind) c.if-values-w-eq0.true; room = omega arith }
 
 pub returns : goal.returns
 returns c =
     let a = c.args in
-    (needed_put a.values.now a.text.now a.k (meaning a.kind) c.if-values-w-eq0.false c.put_value.ensures.0, omega arith)
+    record { bytes = needed_put a.values.now a.text.now a.k (meaning a.kind) c.if-values-w-eq0.false c.put_value.ensures.bytes; room = omega arith }

@@ -7,14 +7,11 @@ use Rattle.report.proofs.pieces.put_optional.Goals as goal
 pub returns-then-values-w-eq0 : goal.returns-then-values-w-eq0
 returns-then-values-w-eq0 c =
     let a = c.args in
-    ((λ O. optional_absent a.values.now a.text.now a.k a.tag (meaning a.kind) O c.if-values-w-eq0.true), omega arith)
+    record { bytes = (λ O. optional_absent a.values.now a.text.now a.k a.tag (meaning a.kind) O c.if-values-w-eq0.true); room = omega arith }
 
 pub put_value-requires : goal.put_value-requires
 put_value-requires c = omega (arith, label_most c.args.tag)
 
 pub returns : goal.returns
 returns c =
-    let a = c.args in (
-      (λ O. optional_put a.values.now a.text.now a.k a.tag (meaning a.kind) O c.if-values-w-eq0.false c.put_label-a.ensures.0 c.put_value.ensures.0),
-      omega arith,
-    )
+    let a = c.args in record { bytes = (λ O. optional_put a.values.now a.text.now a.k a.tag (meaning a.kind) O c.if-values-w-eq0.false c.put_label-a.ensures.bytes c.put_value.ensures.bytes); room = omega arith }

@@ -7,16 +7,16 @@ use Rattle.report.proofs.Putting.{nowhere, refused, placed, part_inside, part_ba
 use Rattle.report.proofs.pieces.put_value.Goals as goal
 
 pub returns-then-at-eq0 : goal.returns-then-at-eq0
-returns-then-at-eq0 c = (nowhere c.if-at-eq0.true, omega arith)
+returns-then-at-eq0 c = record { bytes = nowhere c.if-at-eq0.true; room = omega arith }
 
 pub returns-then-b-a : goal.returns-then-b-a
-returns-then-b-a c = (refused (part_backwards _ c.args.text.now _ _ c.if-b-a.true), omega arith)
+returns-then-b-a c = record { bytes = refused (part_backwards _ c.args.text.now _ _ c.if-b-a.true); room = omega arith }
 
 pub returns-then-text-b : goal.returns-then-text-b
-returns-then-text-b c = (refused (part_beyond _ c.args.text.now _ _ c.if-b-a.false c.if-text-b.true), omega arith)
+returns-then-text-b c = record { bytes = refused (part_beyond _ c.args.text.now _ _ c.if-b-a.false c.if-text-b.true); room = omega arith }
 
 pub returns-then-not-is_fit : goal.returns-then-not-is_fit
-returns-then-not-is_fit c = (refused (part_fit _ _ _ _ c.if-b-a.false c.if-text-b.false c.is_fit.ensures (c.if-not-is_fit.true)), omega arith)
+returns-then-not-is_fit c = record { bytes = refused (part_fit _ _ _ _ c.if-b-a.false c.if-text-b.false c.is_fit.ensures (c.if-not-is_fit.true)); room = omega arith }
 
 pub put_bytes-c-requires : goal.put_bytes-c-requires
 put_bytes-c-requires c =
@@ -34,7 +34,4 @@ returns c =
     let f = c.is_fit.ensures in
     let t = c.if-not-is_fit.false in
     let l = fit_short _ _ f t in
-    let e = part_inside s.args.text.now s.args.start s.args.end c.if-b-a.false c.if-text-b.false in (
-      placed c.if-at-eq0.false (part_fit _ _ _ _ c.if-b-a.false c.if-text-b.false f t) (chain (reword (sym e) c.put_bytes-c.ensures) c.put_byte.ensures),
-      omega (arith, l, c.put_bytes-c.ensures.next, c.put_byte.ensures.next),
-    )
+    let e = part_inside s.args.text.now s.args.start s.args.end c.if-b-a.false c.if-text-b.false in record { bytes = placed c.if-at-eq0.false (part_fit _ _ _ _ c.if-b-a.false c.if-text-b.false f t) (chain (reword (sym e) c.put_bytes-c.ensures) c.put_byte.ensures); room = omega (arith, l, c.put_bytes-c.ensures.next, c.put_byte.ensures.next) }

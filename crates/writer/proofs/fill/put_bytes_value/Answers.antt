@@ -12,7 +12,7 @@ put_text-requires c =
     (omega arith, omega (arith, l))
 
 pub returns-then-is_fit : goal.returns-then-is_fit
-returns-then-is_fit c = (not-true _ (sym c.is_fit.ensures ∙ c.if-is_fit.true), c.put_text.ensures.0)
+returns-then-is_fit c = (not-true _ (sym c.is_fit.ensures ∙ c.if-is_fit.true), c.put_text.ensures.bytes)
 
 pub returns : goal.returns
 returns c = not-false _ (sym c.is_fit.ensures ∙ c.if-is_fit.false)

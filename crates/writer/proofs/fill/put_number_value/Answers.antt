@@ -26,7 +26,7 @@ pub slice_bounds-put_bytes_value-end : goal.slice_bounds-put_bytes_value-end
 slice_bounds-put_bytes_value-end c =
     let s = c in
     let p = c.put_decimal-k in
-    sym (length-take-le p.result p.new.0 (omega (arith, few_digits 8 s.args.n (omega arith))))
+    sym (length-take-le p.result p.new.buf (omega (arith, few_digits 8 s.args.n (omega arith))))
 
 pub returns : goal.returns
 returns c =
@@ -34,4 +34,4 @@ returns c =
     let p = c.put_decimal-k in
     let e = front_of p.ensures (omega (arith, few_digits 8 s.args.n (omega arith))) in
     let q = c.put_bytes_value in
-    subst (λ (v : Bytes). PutText (meaning s.args.kind) s.args.tag v s.args.buf.now q.new.0 s.args.at q.result) e q.ensures
+    subst (λ (v : Bytes). PutText (meaning s.args.kind) s.args.tag v s.args.buf.now q.new.buf s.args.at q.result) e q.ensures

@@ -1,6 +1,6 @@
 -- `put_values`: up to place k the values are fit and their fields stand one behind the other.
 use native.Mathlib.Omega.{arith}
-use Prim.Native.Nat.{◌-◌, ◌<◌}
+use Prim.Native.Nat.{◌<◌}
 use mathlib.Core.Path.{refl, sym, ap, ◌∙◌}
 use Rattle.octets.specs.Bytes.{any}
 use Rattle.message.specs.Message.{row, valued}
@@ -20,28 +20,28 @@ put_entry-requires c =
     let s = c in
     let l = c.loop-k in
     let k : l.k < 21 = omega arith in
-    let vs = value_in s.args.t4 s.args.text.now in
+    let vs = value_in s.args.values s.args.text.now in
     let M = c.marks_of-marks.ensures in
     let S = c.slots-table in
     let t = slot_bounds S.result S.ensures l.k k in
     let f = first_short s.args.m s.requires.0 vs l.k (l.invariant.1.1.1 s.args.m s.requires.0 M) in
-    ((t.0, t.1, omega (arith, f, l.invariant.1.1.0.next, l.invariant.1.0, s.requires.1)), t.2)
+    record { tag_bound = (t.0, t.1, omega (arith, f, l.invariant.1.1.0.next, l.invariant.1.0, s.requires.1)); kind_value = t.2 }
 
 pub returns-in-Unfit : goal.returns-in-Unfit
 returns-in-Unfit c =
     let s = c in
     let l = c.loop-k in
     let k : l.k < 21 = omega arith in
-    let vs = value_in s.args.t4 s.args.text.now in
+    let vs = value_in s.args.values s.args.text.now in
     let M = c.marks_of-marks.ensures in
     let S = c.slots-table in
     let p = c.put_entry in
     let one = c.bit in
     let two = c.bit-in-loop-k in
     let here =
-    put_here S.result S.ensures l.k k s.args.t4 s.args.text.now c.marks_of-marks.result one.result two.result one.ensures two.ensures l.buf
-    p.new.0 l.to p.result p.ensures in
-    let r = told c.in-Unfit.is (tag_at l.k) (vs (tag_at l.k)) l.buf p.new.0 l.to c.marks_of-marks.result here in
+    put_here S.result S.ensures l.k k s.args.values s.args.text.now c.marks_of-marks.result one.result two.result one.ensures two.ensures l.buf
+    p.new.buf l.to p.result p.ensures in
+    let r = told c.in-Unfit.is (tag_at l.k) (vs (tag_at l.k)) l.buf p.new.buf l.to c.marks_of-marks.result here in
     unfit-here s.args.m vs l.k k (r s.args.m s.requires.0 M)
 
 pub loop-k-preserved : goal.loop-k-preserved
@@ -49,16 +49,16 @@ loop-k-preserved c =
     let s = c in
     let l = c.loop-k in
     let k : l.k < 21 = omega arith in
-    let vs = value_in s.args.t4 s.args.text.now in
+    let vs = value_in s.args.values s.args.text.now in
     let M = c.marks_of-marks.ensures in
     let S = c.slots-table in
     let p = c.put_entry in
     let one = c.bit in
     let two = c.bit-in-loop-k in
     let here =
-    put_here S.result S.ensures l.k k s.args.t4 s.args.text.now c.marks_of-marks.result one.result two.result one.ensures two.ensures l.buf
-    p.new.0 l.to p.result p.ensures in
-    let at = told c.in-At.is (tag_at l.k) (vs (tag_at l.k)) l.buf p.new.0 l.to c.marks_of-marks.result here in (
+    put_here S.result S.ensures l.k k s.args.values s.args.text.now c.marks_of-marks.result one.result two.result one.ensures two.ensures l.buf
+    p.new.buf l.to p.result p.ensures in
+    let at = told c.in-At.is (tag_at l.k) (vs (tag_at l.k)) l.buf p.new.buf l.to c.marks_of-marks.result here in (
       omega arith,
       (
         omega (arith, p.auto, l.invariant.1.0),
@@ -74,7 +74,7 @@ unfolding refused8
 returns c =
     let s = c in
     let l = c.loop-k in
-    let vs = value_in s.args.t4 s.args.text.now in
+    let vs = value_in s.args.values s.args.text.now in
     let e = ap (valued vs) (all_put l.k (omega arith)) in (
       ap (any (unfit s.args.m)) (sym e) ∙ l.invariant.1.1.1 s.args.m s.requires.0 c.marks_of-marks.ensures,
       reword (ap row e) l.invariant.1.1.0,
