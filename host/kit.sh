@@ -1,15 +1,14 @@
 # How the scripts of host/, tests/ and bench/ compile, link and run a C program with the Rattle kit alone: nothing else
-# is installed or looked for. Programs are x86-64; on aarch64 they run under the kit's emulator. To be sourced.
+# is installed or looked for. Programs are x86-64, as the kit is. To be sourced.
 
 die() { printf '%s: %s\n' "${0##*/}" "$*" >&2; exit 1; }
 
-# Sets kit, the folder of the kit's compiler and C library, and emulator, empty where none is needed.
+# Sets home, the kit's folder, and kit, that of its compiler and C library.
 kit_find() {
     command -v rt >/dev/null || die "rt, the command of the Rattle kit, is not on the PATH"
-    kit=${RATTLE_HOME:-$(dirname "$(rt doc)")/..}/on/$(uname -m)/toolchain
+    home=$(dirname "$(rt doc)")
+    kit=$home/toolchain
     [ -x "$kit/bin/clang" ] || die "the kit has no compiler at $kit/bin/clang"
-    emulator=
-    [ "$(uname -m)" = x86_64 ] || emulator=$kit/bin/qemu-x86_64
 }
 
 # kit_compile SOURCE.c OBJECT FLAGS.., in the repository's folder
@@ -33,6 +32,5 @@ kit_link() {
 
 # kit_run PROGRAM ARGUMENTS..: in place of the calling shell.
 kit_run() {
-    # shellcheck disable=SC2086
-    exec $emulator "$kit/lib/ld-linux-x86-64.so.2" --library-path "$kit/lib" "$@"
+    exec "$kit/lib/ld-linux-x86-64.so.2" --library-path "$kit/lib" "$@"
 }

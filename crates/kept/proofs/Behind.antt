@@ -6,7 +6,6 @@ use native.Mathlib.Omega.{arith}
 use mathlib.Core.Path.{◌≡◌, refl, sym, ap, ap₂, ◌∙◌}
 use mathlib.Core.List.{◌++◌}
 use mathlib.Core.Bool.{Bool, true, false, not, false≢true}
-use borrow.Author.Tests.{not-true, not-false}
 use lib.ListN.{length, take, drop, get_or, length-append, get_or-append}
 use lib.Seq.{take-length, take-add, drop-drop, get_or-append-add}
 use Rattle.octets.specs.Bytes.{Bytes, At}
@@ -44,11 +43,11 @@ pub all_at : (s l : Bytes) → At s 0 l → length s ≡ length l → s ≡ l
 all_at s l A e = sym (take-length s) ∙ ap (λ (k : ℕ). take k s) e ∙ A.1
 
 -- a test that was passed, and one that was not
-pub seen : {s l : Bytes} {p : ℕ} (b : Bool) → Standing s p l b → not b ≡ false → At s p l
-seen b S e = S.found (not-false b e)
+pub seen : {s l : Bytes} {p : ℕ} (b : Bool) → Standing s p l b → b ≡ true → At s p l
+seen b S e = S.found e
 
-pub missed : {s l : Bytes} {p : ℕ} (b : Bool) → Standing s p l b → not b ≡ true → At s p l → ⊥
-missed b S e = S.none (not-true b e)
+pub missed : {s l : Bytes} {p : ℕ} (b : Bool) → Standing s p l b → b ≡ false → At s p l → ⊥
+missed b S e = S.none e
 
 pub stood : {s l : Bytes} {p : ℕ} (b : Bool) → Standing s p l b → At s p l → b ≡ true
 stood true S A = refl

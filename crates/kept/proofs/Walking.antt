@@ -4,10 +4,9 @@ use Prim.Native.Nat.{ℕ, ◌+◌, ◌-◌, ◌≤◌, ◌<◌}
 use native.Mathlib.Nat.{add-zero}
 use native.Mathlib.Omega.{arith}
 use mathlib.Core.Path.{◌≡◌, refl, sym, ap, ◌∙◌, subst}
-use mathlib.Core.Bool.{Bool, true, not, false≢true}
+use mathlib.Core.Bool.{false, Bool, true, false≢true}
 use mathlib.Core.Option.{Option, none, some}
 use lib.ListN.{length, get_or}
-use borrow.Author.Tests.{not-true}
 use Rattle.octets.specs.Bytes.{Bytes, decimal}
 use Rattle.octets.specs.code.Leaf.{Number}
 use Rattle.octets.proofs.Lists.{at_byte}
@@ -31,8 +30,8 @@ module _ (us them s : Bytes) (long : length s ≡ 512) where
       go none e = refl
       go (some r) e = absurd (n r (held_is us them s r long e))
 
-  pub unheaded : (b : Bool) → Tells (Headed us them s) b → not b ≡ true → 0 ≡ number_of (held us them s)
-  unheaded b T e = unheld (λ r H. false≢true (sym (not-true b e) ∙ T.no (laid us them s r long H).headed))
+  pub unheaded : (b : Bool) → Tells (Headed us them s) b → b ≡ false → 0 ≡ number_of (held us them s)
+  unheaded b T e = unheld (λ r H. false≢true (sym e ∙ T.no (laid us them s r long H).headed))
 
   abbrev at : ℕ
   at = 34 + length us + length them
@@ -59,14 +58,14 @@ module _ (us them s : Bytes) (long : length s ≡ 512) where
     too_high h = unheld (λ r H. let S = sendable_is us them r H.sends in absurd (omega (arith, S.high, (reads r H).1)))
 
     module _ (n : ℕ) (E : Ended s n) where
-      pub unfilled : (b : Bool) → Tells (Filled s (at + c) n) b → not b ≡ true → 0 ≡ number_of (held us them s)
+      pub unfilled : (b : Bool) → Tells (Filled s (at + c) n) b → b ≡ false → 0 ≡ number_of (held us them s)
       unfilled b T e =
           unheld
           (λ r H. let L = laid us them s r long H in
           let m = size us them s r long H in
           let k : n ≡ m = omega (arith, E.only (m - 24) (omega (arith, L.low)) (omega (arith, L.high)) L.sized, L.low) in
           false≢true
-          (sym (not-true b e)
+          (sym e
           ∙ T.no (subst (λ (j : ℕ). Filled s (at + j) n) (sym (reads r H).0) (subst (λ (j : ℕ). Filled s (at + length (decimal r.number)) j) (sym k) L.filled))))
 
       pub kept_is : Headed us them s → comp_id us ≡ true → comp_id them ≡ true → (v ≡ 0 → ⊥) → (get_or s at 0 ≡ 48 → ⊥) → v ≤ 999_999_990 → Filled s (at + c) n

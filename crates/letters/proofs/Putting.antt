@@ -111,7 +111,7 @@ module _ (body : Bytes) (n : ℕ) (l : Letter) (A : AllPut (letters_of body n l)
   echo_carried e v q = (subst (λ (o : Option Bytes). FitId (repeated o)) q (subst (λ (y : Letter). AllPut (letters_of body n y)) e A).1).short
 
   pub reject_carried : {reason tag : ℕ} → l ≡ Reject reason tag → (reason < 1_000_000_000) × (tag < 1_000_000_000)
-  reject_carried e = let F = subst (λ (y : Letter). AllPut (letters_of body n y)) e A in (omega (arith, F.1.reason_fits), omega (arith, F.1.tag-Fits))
+  reject_carried e = let F = subst (λ (y : Letter). AllPut (letters_of body n y)) e A in (omega (arith, F.1.reason_fits), omega (arith, F.1.tag_fits))
 
 -- TWO MESSAGES
 pub sending_at : {ours peers stamp d d' : Bytes} {n : ℕ} (k at : ℕ) → Sending ours peers n reply_room stamp d → k ≤ 999_999_999 → at + reply_room ≤ length d' → Sending ours peers k at stamp d'

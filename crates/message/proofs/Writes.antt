@@ -7,7 +7,7 @@ use mathlib.Core.Path.{◌≡◌, refl, sym, ap, ◌∙◌}
 use mathlib.Core.List.{List, [], ◌∷◌, ◌++◌, append_assoc}
 use lib.ListN.{length, take, drop, get_or, set, length-append}
 use lib.Seq.{sets, sets-eq, take-suc, drop_at, length-take-le, take-append_seam}
-use Rattle.octets.specs.Bytes.{Bytes, all, decimal}
+use Rattle.octets.specs.Bytes.{Bytes, decimal}
 use Rattle.octets.proofs.Decimals.{decimal-written}
 use Rattle.octets.proofs.Rightmost.{length_small, length-step}
 use Rattle.message.specs.Message.{Field, field, row}

@@ -2,9 +2,10 @@
 use native.Mathlib.Omega.{arith}
 use Prim.Native.Nat.{ℕ, ◌-◌}
 use mathlib.Core.Path.{◌≡◌, refl, subst}
-use mathlib.Core.Logic.{inl, inr, ⊎_elim}
+use mathlib.Core.Logic.{inl, inr}
 use lib.ListN.{length}
 use Rattle.kept.proofs.Zeros.{Zeros, zeros_more, zeros_stand}
+use Rattle.kept.proofs.is_zero_from.Goals.{then-place-i-ne0, else-place-i-ne0}
 use Rattle.kept.proofs.is_zero_from.Goals as goal
 
 pub loop-i-init : goal.loop-i-init
@@ -16,7 +17,7 @@ loop-i-preserved c =
     let l = c.loop-i in (
       (omega arith, omega arith),
       zeros_more a.place.now a.n l.i l.zeros c.if-place-i-ne0.zeros l.invariant.0.0 l.invariant.1
-          (⊎_elim (λ w. inl (w.0.taken, w.1)) (λ w. inr (w.0.left, w.1)) c.if-place-i-ne0.branch),
+          (elim c.if-place-i-ne0.branch [ then-place-i-ne0 w ↦ inl (w.if-place-i-ne0.true, w.zeros-is) | else-place-i-ne0 w ↦ inr (w.if-place-i-ne0.false, w.zeros-is) ]),
     )
 
 pub returns : goal.returns

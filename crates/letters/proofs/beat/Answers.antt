@@ -26,4 +26,5 @@ returns c =
     let r = s.args.r in
     let e : length c.args.r.ours ≡ 11 = search rules in
     let f : length c.args.r.peer ≡ 11 = search rules in
-    beat_put r s.requires.0 e f s.args.time (c.utc-stamp.ensures ∙ utc_before _ s.requires.2) s.requires.1 c.heartbeat.ensures
+    let w = beat_put r s.requires.0 e f s.args.time (c.utc-stamp.ensures ∙ utc_before _ s.requires.2) s.requires.1 c.heartbeat.ensures in
+    record { bytes = w.0; room = w.1 }

@@ -8,21 +8,21 @@ put-a-requires c =
     let s = c in
     let a = s.args in
     let S = s.requires.n_bound.1 in
-    (sending_at a.n 0 S S.number (omega (arith, S.room)), first_put a.body.now a.n a.first a.second s.requires.all_put)
+    record { sending = sending_at a.n 0 S S.number (omega (arith, S.room)); all_put = first_put a.body.now a.n a.first a.second s.requires.all_put }
 
 pub returns-then-is_nothing : goal.returns-then-is_nothing
 returns-then-is_nothing c =
     let a = c.args in
-    (first_alone a.us.now a.them.now a.stamp.now a.body.now a.n a.first a.second c.is_nothing.ensures c.if-is_nothing.true c.put-a.ensures.bytes, omega arith)
+    record { bytes = first_alone a.us.now a.them.now a.stamp.now a.body.now a.n a.first a.second c.is_nothing.ensures c.if-is_nothing.true c.put-a.ensures.bytes; room = omega arith }
 
 pub put-requires : goal.put-requires
 put-requires c =
     let s = c in
     let a = s.args in
     let S = s.requires.n_bound.1 in
-    (sending_at c.next_after-m.result c.put-a.result S (omega arith) (omega (arith, S.room)), second_put a.body.now a.n a.first a.second c.next_after-m.ensures.is s.requires.all_put)
+    record { sending = sending_at c.next_after-m.result c.put-a.result S (omega arith) (omega (arith, S.room)); all_put = second_put a.body.now a.n a.first a.second c.next_after-m.ensures.is s.requires.all_put }
 
 pub returns : goal.returns
 returns c =
     let a = c.args in
-    (both_letters a.us.now a.them.now a.stamp.now a.body.now a.n a.first a.second c.next_after-m.ensures.is c.put-a.ensures.bytes c.put.ensures.bytes, omega arith)
+    record { bytes = both_letters a.us.now a.them.now a.stamp.now a.body.now a.n a.first a.second c.next_after-m.ensures.is c.put-a.ensures.bytes c.put.ensures.bytes; room = omega arith }

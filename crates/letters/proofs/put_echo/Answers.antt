@@ -9,7 +9,7 @@ use Rattle.letters.proofs.put_echo.Goals as goal
 pub returns-in_default : goal.returns-in_default
 returns-in_default c =
     let w = was_put c.requires.sending _ c.heartbeat.ensures refl (omega arith) (omega arith) in
-    (rw (echo_none c.first_field.ensures c.in_default.is) w.0, omega arith)
+    record { bytes = rw (echo_none c.first_field.ensures c.in_default.is) w.0; room = omega arith }
 
 pub slice_bounds-heartbeat-count : goal.slice_bounds-heartbeat-count
 slice_bounds-heartbeat-count c = omega (arith, place_inside c.first_field.ensures c.in-At.is)
@@ -25,4 +25,4 @@ returns c =
     let F = c.first_field.ensures in
     let e = c.in-At.is in
     let w = was_put c.requires.sending _ c.heartbeat-2.ensures (le-leb _ _ (echo_short F e c.requires.v_len_bound)) (omega arith) (omega arith) in
-    (rw (echo_is F e) w.0, omega arith)
+    record { bytes = rw (echo_is F e) w.0; room = omega arith }

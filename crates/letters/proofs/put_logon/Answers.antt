@@ -7,10 +7,10 @@ pub returns-then-reset : goal.returns-then-reset
 returns-then-reset c =
     let N = c.number_in-seconds in
     let w = was_put c.requires _ c.logon.ensures (le-leb N.result 999_999_999 (omega arith)) (omega arith) (omega arith) in
-    (rw (c.if-reset.true, ← N.ensures.is) w.0, omega arith)
+    record { bytes = rw (c.if-reset.true, ← N.ensures.is) w.0; room = omega arith }
 
 pub returns : goal.returns
 returns c =
     let N = c.number_in-seconds in
     let w = was_put c.requires _ c.logon-2.ensures (le-leb N.result 999_999_999 (omega arith)) (omega arith) (omega arith) in
-    (rw (c.if-reset.false, ← N.ensures.is) w.0, omega arith)
+    record { bytes = rw (c.if-reset.false, ← N.ensures.is) w.0; room = omega arith }

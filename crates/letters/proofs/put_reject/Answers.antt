@@ -10,7 +10,7 @@ returns-in_default c =
     let N = c.number_in-refused.ensures in
     let e = repeats_none b.args.body.now c.in_default.is c.named_type-place.ensures in
     let w = was_put b.requires.sending _ c.reject.ensures (is_rejectable (record { numbered = omega arith; tagged = omega arith; typed = omega arith; reasoned = omega arith })) (omega arith) (omega arith) in
-    (rw (e, ← N.is) w.0, omega arith)
+    record { bytes = rw (e, ← N.is) w.0; room = omega arith }
 
 pub slice_bounds-v-count : goal.slice_bounds-v-count
 slice_bounds-v-count c = let R = repeats_at c.args.body.now c.in-At.is c.named_type-place.ensures in omega (arith, R.0, R.1)
@@ -27,4 +27,4 @@ returns c =
     let N = c.number_in-refused.ensures in
     let R = repeats_at b.args.body.now c.in-At.is c.named_type-place.ensures in
     let w = was_put b.requires.sending _ c.reject-2.ensures (is_rejectable (record { numbered = omega arith; tagged = omega arith; typed = R.2; reasoned = omega arith })) (omega arith) (omega arith) in
-    (rw (R.3, ← N.is) w.0, omega arith)
+    record { bytes = rw (R.3, ← N.is) w.0; room = omega arith }

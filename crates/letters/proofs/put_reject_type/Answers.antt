@@ -8,4 +8,4 @@ pub returns : goal.returns
 returns c =
     let N = c.number_in-refused.ensures in
     let w = was_put c.requires _ c.reject.ensures (is_rejectable (record { numbered = omega arith; tagged = omega arith; typed = omega arith; reasoned = omega arith })) (omega arith) (omega arith) in
-    (rw (← N.is) w.0, omega arith)
+    record { bytes = rw (← N.is) w.0; room = omega arith }

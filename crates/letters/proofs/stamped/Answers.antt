@@ -23,7 +23,7 @@ pub slice_bounds-put_both-end-2 : goal.slice_bounds-put_both-end-2
 slice_bounds-put_both-end-2 c = let e : length c.args.r.peer ≡ 11 = search rules in sym (length-take-le _ _ (omega arith))
 
 pub put_both-requires : goal.put_both-requires
-put_both-requires c = let e : length c.args.r.ours ≡ 11 = search rules in let f : length c.args.r.peer ≡ 11 = search rules in let g : length c.utc-stamp.result ≡ 24 = search rules in ((c.requires.ready.next, sending c.args.r c.requires.ready e f _ _ g c.requires.in_bounds.0), c.requires.in_bounds.2)
+put_both-requires c = let e : length c.args.r.ours ≡ 11 = search rules in let f : length c.args.r.peer ≡ 11 = search rules in let g : length c.utc-stamp.result ≡ 24 = search rules in record { n_bound = (c.requires.ready.next, sending c.args.r c.requires.ready e f _ _ g c.requires.in_bounds.0); all_put = c.requires.in_bounds.2 }
 
 pub returns : goal.returns
-returns c = (at_time (take c.args.r.oursLen c.args.r.ours) (take c.args.r.peerLen c.args.r.peer) (letters_of c.args.body.now c.args.r.next c.args.first ++ letters_of c.args.body.now (behind c.args.r.next c.args.first) c.args.second) c.args.time (c.utc-stamp.ensures ∙ utc_before _ c.requires.in_bounds.1) c.put_both.ensures.bytes, omega arith)
+returns c = record { bytes = at_time (take c.args.r.oursLen c.args.r.ours) (take c.args.r.peerLen c.args.r.peer) (letters_of c.args.body.now c.args.r.next c.args.first ++ letters_of c.args.body.now (behind c.args.r.next c.args.first) c.args.second) c.args.time (c.utc-stamp.ensures ∙ utc_before _ c.requires.in_bounds.1) c.put_both.ensures.bytes; room = omega arith }

@@ -1,8 +1,7 @@
 -- `put_bytes`: the first i bytes stand there.
 use native.Mathlib.Omega.{arith}
-use Prim.Native.Nat.{◌-◌}
 use mathlib.Core.Path.{refl}
-use lib.ListN.{length, length-set}
+use lib.ListN.{length-set}
 use lib.Seq.{take_all}
 use Rattle.message.proofs.Writes.{nothing, reword, byte_more}
 use Rattle.message.proofs.put_bytes.Goals as goal

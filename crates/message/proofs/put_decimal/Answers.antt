@@ -1,8 +1,7 @@
 -- `put_decimal`: the digits from the right; those that are still to come are the digits of what is left of the number.
 use native.Mathlib.Omega.{arith}
-use Prim.Native.Nat.{◌-◌}
 use mathlib.Core.Path.{refl}
-use lib.ListN.{length, length-set}
+use lib.ListN.{length-set}
 use Rattle.octets.specs.Bytes.{decimal}
 use Rattle.message.proofs.Leftward.{left_all, left_more, left_none}
 use Rattle.message.proofs.put_decimal.Goals as goal

@@ -10,4 +10,4 @@ pub returns-then-strange_at-ne0 : goal.returns-then-strange_at-ne0
 returns-then-strange_at-ne0 c = not_ours _ _ c.number_at.ensures (λ e. omega arith) c.strange_at.ensures (λ e. omega arith)
 
 pub returns : goal.returns
-returns c = by_verdict _ _ c.number_at.ensures (λ e. omega arith) c.strange_at.ensures (omega arith) c.verdict_on.ensures c.is_clean_lem.ensures
+returns c = by_verdict _ _ c.number_at.ensures (λ e. omega arith) c.strange_at.ensures (omega arith) c.verdict_on.ensures c.is_clean.ensures

@@ -19,7 +19,7 @@ returns-in-Shut c =
     let b = c in
     let a = b.args in
     let o = framed_is _ _ (λ i. omega (arith, b.shared_slice_known-1.given i)) b.body_of-body.ensures in
-    let e = step_refused (session_of a.r) a.frame.now a.buf.now a.store.now a.time b.is_store_lem.ensures o b.step_gate-gate.ensures c.in-Shut.is in
+    let e = step_refused (session_of a.r) a.frame.now a.buf.now a.store.now a.time b.is_store.ensures o b.step_gate-gate.ensures c.in-Shut.is in
     record {
       leaves = made_by a.r (sym e) (record { answered = c.refused.ensures; buffer = refl });
       stored = after_as (session_of a.r) a.frame.now a.time a.buf.now a.store.now refl e (refusal_stays (session_of a.r) _ a.buf.now a.store.now refl);
@@ -33,7 +33,7 @@ returns-in-Open c =
     let q = c.in-Open.is in
     let P = passes (session_of a.r) _ _ _ _ (sym b.step_gate-gate.ensures ∙ ap shut q) in
     let i = body_in_lem _ _ (λ i. omega (arith, b.shared_slice_known-1.given i)) b.body_of-body.ensures (sym o ∙ P.framed) in
-    let e = step_moves (session_of a.r) a.frame.now a.buf.now a.store.now a.time b.is_store_lem.ensures o b.step_gate-gate.ensures i q in
+    let e = step_moves (session_of a.r) a.frame.now a.buf.now a.store.now a.time b.is_store.ensures o b.step_gate-gate.ensures i q in
     record {
       leaves = made_by a.r (sym e) c.moving.ensures.moved;
       stored = after_as (session_of a.r) a.frame.now a.time a.buf.now a.store.now i e c.moving.ensures.stored;

@@ -2,7 +2,7 @@
 use Rattle.border.proofs.record.leave.Goals as goal
 
 pub returns : goal.returns
-returns c = (c.number_of_lem.ensures, c.save.ensures)
+returns c = (c.number_of.ensures, c.save.ensures)
 
 pub save-requires : goal.save-requires
 save-requires c = c.requires

@@ -11,7 +11,7 @@ save_new-requires c = (c.if-words-ne24.false, new_short _ _ c.new-left.ensures)
 pub returns : goal.returns
 returns c =
     let saved = c.save_new.ensures in
-    new_left _ _ _ _ c.if-words-ne24.false c.new-left.ensures c.number_of_lem.ensures saved.0 saved.1
+    new_left _ _ _ _ c.if-words-ne24.false c.new-left.ensures c.number_of.ensures saved.0 saved.1
 
 pub new-left-requires : goal.new-left-requires
 new-left-requires c = tt

@@ -1,44 +1,42 @@
 -- `rule_5`: one law for each of the seven ways through it.
+use mathlib.Core.Bool.{not}
 use Rattle.rulebook.proofs.Deciding.{low_first, low_without, low_unsent, low_bad_sending, low_bad_original, low_later, low_ignored}
-use types.Run.{OneOf, miss}
-use denote.Enum.Declared.{tag_of}
 use mathlib.Core.Path.{◌≡◌, refl, ap}
-use mathlib.Core.List.{[], ◌∷◌}
 use mathlib.Core.Option.{none}
-use Rattle.moves.specs.contracts.times.TimeIn.{the_type}
+use Rattle.calendar.specs.declared.moments.Moment.{Moment}
 use Rattle.moves.specs.declared.times.TimeIn.{TimeIn}
 use Rattle.moves.specs.declared.times.TimeIn.TheVariants.{Missing, Bad, Is}
 use Rattle.moves.specs.code.Reads.{moment_by}
 use Rattle.rulebook.proofs.low.rule_5.Goals as goal
 
 -- a time that is not read names no moment
-unread : (x : TimeIn) → OneOf (0 ∷ 1 ∷ []) (tag_of the_type x) → moment_by x ≡ none
+unread : (x : TimeIn) → ((a : Moment) → x ≡ Is a → ⊥) → moment_by x ≡ none
 unread Missing o = refl
 unread Bad o = refl
-unread (Is a) o = absurd (miss (0 ∷ 1 ∷ []) 2 tt o)
+unread (Is a) o = absurd (o a refl)
 
 pub returns-in_default : goal.returns-in_default
 returns-in_default c =
     let b = c in
     let s = b in
     let o = s in
-    low_bad_sending _ _ o.holds.ensures o.if-not-holds.false o.time_in-original.ensures s.is_missing.ensures s.if-is_missing.false s.time_in-sending.ensures b.is_missing-2.ensures b.if-is_missing-2.false
-    (unread s.time_in-sending.result c.in_default.is) c.rejecting_duplicate-in_default.ensures
+    low_bad_sending _ _ o.holds.ensures (ap not o.if-not-holds.false) o.time_in-original.ensures s.is_missing.ensures s.if-is_missing.false s.time_in-sending.ensures b.is_missing-2.ensures b.if-is_missing-2.false
+    (unread s.time_in-sending.result c.in_default.not-Is) c.rejecting_duplicate-in_default.ensures
 
 pub returns-in_default-original : goal.returns-in_default-original
 returns-in_default-original c =
     let b = c in
     let s = b in
     let o = s in
-    low_bad_original _ _ o.holds.ensures o.if-not-holds.false o.time_in-original.ensures s.is_missing.ensures s.if-is_missing.false s.time_in-sending.ensures b.is_missing-2.ensures b.if-is_missing-2.false
-    (ap moment_by c.in-Is.is) (unread o.time_in-original.result c.in_default-original.is) c.rejecting_duplicate-in_default-original.ensures
+    low_bad_original _ _ o.holds.ensures (ap not o.if-not-holds.false) o.time_in-original.ensures s.is_missing.ensures s.if-is_missing.false s.time_in-sending.ensures b.is_missing-2.ensures b.if-is_missing-2.false
+    (ap moment_by c.in-Is.is) (unread o.time_in-original.result c.in_default-original.not-Is) c.rejecting_duplicate-in_default-original.ensures
 
 pub returns-then-is_later : goal.returns-then-is_later
 returns-then-is_later c =
     let b = c in
     let s = b in
     let o = s in
-    low_later _ _ o.holds.ensures o.if-not-holds.false o.time_in-original.ensures s.is_missing.ensures s.if-is_missing.false s.time_in-sending.ensures b.is_missing-2.ensures b.if-is_missing-2.false
+    low_later _ _ o.holds.ensures (ap not o.if-not-holds.false) o.time_in-original.ensures s.is_missing.ensures s.if-is_missing.false s.time_in-sending.ensures b.is_missing-2.ensures b.if-is_missing-2.false
     (ap moment_by c.in-Is.is) (ap moment_by c.in-Is-original.is) c.is_later.ensures c.if-is_later.true c.rejecting_duplicate-then-is_later.ensures
 
 pub returns : goal.returns
@@ -46,7 +44,7 @@ returns c =
     let b = c in
     let s = b in
     let o = s in
-    low_ignored _ _ o.holds.ensures o.if-not-holds.false o.time_in-original.ensures s.is_missing.ensures s.if-is_missing.false s.time_in-sending.ensures b.is_missing-2.ensures b.if-is_missing-2.false
+    low_ignored _ _ o.holds.ensures (ap not o.if-not-holds.false) o.time_in-original.ensures s.is_missing.ensures s.if-is_missing.false s.time_in-sending.ensures b.is_missing-2.ensures b.if-is_missing-2.false
     (ap moment_by c.in-Is.is) (ap moment_by c.in-Is-original.is) c.is_later.ensures c.if-is_later.false c.saying.ensures
 
 pub returns-then-not-holds : goal.returns-then-not-holds
