@@ -6,7 +6,7 @@ import typing
 ROOT = pathlib.Path(__file__).resolve().parent.parent
 BITS = {"u8": 8, "u16": 16, "u32": 32, "u64": 64, "usize": 64, "bool": 8}
 
-MARKED = re.compile(r'#\[unsafe\(no_mangle\)\]\s*pub extern "C" fn (\w+)\s*\(([^)]*)\)\s*(?:->\s*(\w+))?')
+MARKED = re.compile(r'#\[unsafe\(no_mangle\)\]\s*(?:#\[[^]]*\]\s*)*pub extern "C" fn (\w+)\s*\(([^)]*)\)\s*(?:->\s*(\w+))?')
 PARAMETER = re.compile(r"\s*(\w+):\s*(?:(?P<value>\w+)|&\s*(?P<mut>mut\s+)?\[(?P<element>\w+)(?:;\s*(?P<length>\w+))?\])\s*")
 
 

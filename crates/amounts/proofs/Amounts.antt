@@ -17,7 +17,6 @@ use Rattle.octets.proofs.Decimals.{decimal-worth, decimal-written, written-decim
 use Rattle.decimals.specs.Decimal.{leading, trailing, plain, pointed, is_decimal, places_of, whole_of, in_range, ranged_of, decimal_of}
 use Rattle.decimals.specs.declared.Decimal.TheVariants.{Is, OutOfRange, Bad}
 use Rattle.kinds.specs.Kind.{Kind, formed, allowed}
-use Rattle.kinds.specs.Kind as Kind
 use Rattle.calendar.proofs.Texts.{padded_from}
 use Rattle.message.proofs.Pointed.{leading-digits, decimal-length}
 use Rattle.message.proofs.Cutting.{below_power, decimal-digits}

@@ -1,12 +1,11 @@
 -- The text of an amount as the code puts it: the last digits first, then the point, then the digits before it.
-use Prim.Native.Nat.{ℕ, zero, suc, ◌+◌, ◌-◌, ◌/◌, ◌%◌, ◌≤◌, ◌<◌}
+use Prim.Native.Nat.{ℕ, zero, suc, ◌+◌, ◌-◌, ◌/◌, ◌≤◌, ◌<◌}
 use native.Mathlib.Decide.{dec_lt}
 use native.Mathlib.Omega.{arith}
 use mathlib.Core.Path.{◌≡◌, refl, sym, ap, ◌∙◌, subst}
 use mathlib.Core.List.{[], ◌∷◌, ◌++◌}
-use mathlib.Core.Bool.{true}
-use lib.ListN.{length, set, length-append, drop_of_length-le, get_or-append}
-use lib.Seq.{sets, set_comm, take_all}
+use lib.ListN.{length, set, drop_of_length-le}
+use lib.Seq.{sets, take_all}
 use Rattle.octets.specs.Bytes.{Bytes, decimal, padded}
 use Rattle.octets.proofs.Decimals.{some_digit}
 use Rattle.octets.proofs.Rightmost.{length_small, length-step, padded-length, all_padded}

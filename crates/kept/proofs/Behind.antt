@@ -5,7 +5,7 @@ use native.Mathlib.Nat.{add_assoc}
 use native.Mathlib.Omega.{arith}
 use mathlib.Core.Path.{◌≡◌, refl, sym, ap, ap₂, ◌∙◌}
 use mathlib.Core.List.{◌++◌}
-use mathlib.Core.Bool.{Bool, true, false, not, false≢true}
+use mathlib.Core.Bool.{Bool, true, false, false≢true}
 use lib.ListN.{length, take, drop, get_or, length-append, get_or-append}
 use lib.Seq.{take-length, take-add, drop-drop, get_or-append-add}
 use Rattle.octets.specs.Bytes.{Bytes, At}

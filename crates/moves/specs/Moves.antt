@@ -1,12 +1,11 @@
 -- "The session's moves": what a session does with the body of a good frame, rule by rule.
-use Rattle.std.specs.Prelude.{ℕ, ◌+◌, ◌-◌, min, ◌≡◌, List, [], ◌∷◌, ◌++◌, Bool, not, ◌&&◌, ◌||◌, if◌then◌else◌}
+use Rattle.std.specs.Prelude.{ℕ, ◌-◌, min, ◌≡◌, List, [], ◌∷◌, ◌++◌, Bool, not, ◌&&◌, ◌||◌, if◌then◌else◌}
 use Prim.Native.String.{String}
 use Rattle.std.proofs.Math.Option.{Option, some}
 use Rattle.octets.specs.Bytes.{Bytes, fix}
 use Rattle.fields.specs.Field.{first_field}
 use Rattle.calendar.specs.declared.moments.Moment.{Moment}
 use Rattle.table.specs.declared.MsgType.{MsgType}
-use Rattle.table.specs.declared.MsgType.TheVariants as MsgType
 use Rattle.dictionary.specs.Verdict.{verdict, msg_type}
 use Rattle.message.specs.Message.{Value, number, absent, bytes, ◌is◌, written}
 use Rattle.replies.specs.Reply as Reply

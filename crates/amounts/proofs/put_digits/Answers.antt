@@ -2,7 +2,7 @@
 use native.Mathlib.Omega.{arith}
 use Prim.Native.Nat.{◌-◌}
 use mathlib.Core.Path.{refl}
-use lib.ListN.{length, length-set}
+use lib.ListN.{length-set}
 use Rattle.octets.specs.Bytes.{padded}
 use Rattle.message.proofs.Leftward.{left_more}
 use Rattle.amounts.proofs.Placing.{left-digits, all_digits, rest_more, rest_none}

@@ -1,5 +1,5 @@
 -- `put_digits`: the digits from the right; those that are still to come are the last ones of what is left of the number.
-use Prim.Native.Nat.{◌-◌, ◌≤◌}
+use Prim.Native.Nat.{◌≤◌}
 use mathlib.Core.Path.{◌≡◌}
 use lib.ListN.{length}
 use Rattle.octets.specs.Bytes.{padded}

@@ -3,7 +3,6 @@ use native.Mathlib.Omega.{arith}
 use Prim.Native.Nat.{◌-◌}
 use mathlib.Core.Path.{sym, ◌∙◌}
 use mathlib.Core.Bool.{false≢true}
-use borrow.Author.Tests.{not-true, not-false}
 use lib.Seq.{length-take-le}
 use Rattle.kept.proofs.Behind.{seen, missed, stood, refuted}
 use Rattle.kept.proofs.Fillings.{filled_long, filled_label, filled_stamp, filled_bar, filled_listed, is_filled}

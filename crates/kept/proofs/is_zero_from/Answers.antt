@@ -1,6 +1,6 @@
 -- `is_zero_from`: the answer so far is yes exactly if every byte passed is zero.
 use native.Mathlib.Omega.{arith}
-use Prim.Native.Nat.{ℕ, ◌-◌}
+use Prim.Native.Nat.{ℕ}
 use mathlib.Core.Path.{◌≡◌, refl, subst}
 use mathlib.Core.Logic.{inl, inr}
 use lib.ListN.{length}

@@ -1,7 +1,6 @@
 -- `stands_at`: every byte passed is the label's.
 use borrow.Author.Count.{below_more}
 use native.Mathlib.Omega.{arith}
-use Prim.Native.Nat.{◌-◌}
 use mathlib.Core.Path.{sym}
 use mathlib.Core.Bool.{false≢true}
 use Rattle.octets.proofs.Lists.{at_byte, bytes_at}

@@ -4,7 +4,6 @@ use Rattle.std.proofs.Math.Option.{Option, none, some}
 use Rattle.octets.specs.Bytes.{Bytes, fix}
 use Rattle.fields.specs.Field.{first_field}
 use Rattle.table.specs.declared.MsgType.{MsgType}
-use Rattle.table.specs.declared.MsgType.TheVariants as MsgType
 use Rattle.dictionary.specs.declared.Verdict.{Verdict}
 use Rattle.dictionary.specs.Verdict.{msg_type}
 use Rattle.message.specs.Message.{absent}
@@ -12,7 +11,7 @@ use Rattle.replies.specs.Reply.{optional}
 use Rattle.gap.specs.Gap.{Gap, no_gap, asks, asked_for, seen, unless_past, bounded}
 use Rattle.gap.specs.Held.{gap_of, held_gap}
 use Rattle.gap.specs.declared.Gap as Code
-use Rattle.moves.specs.Words.{first, ◌otherwise◌, speaks}
+use Rattle.moves.specs.Words.{◌otherwise◌, speaks}
 use Rattle.moves.specs.Session.{Session, Replay, no_replay}
 use Rattle.moves.specs.Seen.{is_it, repeated, number_in, code_of, reason_of, tag_of}
 use Rattle.moves.specs.Moves as Words

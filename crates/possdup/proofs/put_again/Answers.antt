@@ -48,8 +48,8 @@ pub put_frame-requires : goal.put_frame-requires
 put_frame-requires c =
     let s = c in
     let p = c.put_body-k in
-    let e = length-take-le p.result p.new.0 (omega (arith, p.ensures.1)) in
-    frame-fits (length (take p.result p.new.0)) (length s.args.buf.now) (omega (arith, e, p.ensures.1)) s.requires.place_len.4
+    let e = length-take-le p.result p.new.body (omega (arith, p.ensures.room)) in
+    frame-fits (length (take p.result p.new.body)) (length s.args.buf.now) (omega (arith, e, p.ensures.room)) s.requires.place_len.4
 
 pub returns : goal.returns
 returns c =
@@ -58,4 +58,5 @@ returns c =
     let u = c.utc-stamp in
     let w = c.width in
     let e = c.number-length in
-    again_put s.args.us.now s.args.them.now s.args.place.now s.args.n s.requires.place_len.0 s.requires.le_n.0 s.requires.le_n.1 e.result.value e.result.count e.ensures s.args.time w.result u.result (take p.result p.new.0) w.ensures (u.ensures ∙ utc_before _ s.requires.place_len.3) (front_of p.ensures.0 (omega (arith, p.ensures.1))) c.put_frame.ensures
+    let W = again_put s.args.us.now s.args.them.now s.args.place.now s.args.n s.requires.place_len.0 s.requires.le_n.0 s.requires.le_n.1 e.result.value e.result.count e.ensures s.args.time w.result u.result (take p.result p.new.body) w.ensures (u.ensures ∙ utc_before _ s.requires.place_len.3) (front_of p.ensures.bytes (omega (arith, p.ensures.room))) c.put_frame.ensures in
+    record { bytes = W.0; room = W.1 }

@@ -14,4 +14,4 @@ returns c =
     let p3 = c.put_bytes-c.ensures in
     let p4 = c.put_bytes-d.ensures in
     let p5 = c.put_bytes.ensures in
-    (chain p1 (chain p2 (chain p3 (chain p4 p5))), omega (arith, p1.next, p2.next, p3.next, p4.next, p5.next, s.requires, part_length a.place.now 17 (a.at - 17) (omega (arith, s.requires)), part_length a.place.now (a.at + 3) (a.end - (a.at + 3)) (omega (arith, s.requires))))
+    record { bytes = chain p1 (chain p2 (chain p3 (chain p4 p5))); room = omega (arith, p1.next, p2.next, p3.next, p4.next, p5.next, s.requires, part_length a.place.now 17 (a.at - 17) (omega (arith, s.requires)), part_length a.place.now (a.at + 3) (a.end - (a.at + 3)) (omega (arith, s.requires))) }

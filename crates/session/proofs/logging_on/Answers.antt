@@ -1,4 +1,6 @@
 -- `logging_on`: the answer to the logon; the store is zeroed where it is accepted and asks for it.
+use mathlib.Core.Bool.{not}
+use mathlib.Core.Path.{ap}
 use native.Mathlib.Omega.{arith}
 use Rattle.moves.specs.Moves.{waiting}
 use Rattle.moves.specs.Held.{session_of}
@@ -18,7 +20,7 @@ say-left-requires c =
     let e = c.waiting.ensures in
     let p = c.waiting.result in
     let ds = waiting (session_of a.r) a.body.now a.time in
-    (u.requires.ready.0, (omega (arith, u.requires.in_bounds.0), u.requires.in_bounds.1, settled_fits a.time (session_of a.r) a.body.now p ds w e f, settled_says a.time (session_of a.r) a.body.now p ds w e (waiting-speaks (session_of a.r) a.body.now a.time)))
+    record { ready = u.requires.ready.0; in_bounds = (omega (arith, u.requires.in_bounds.0), u.requires.in_bounds.1, settled_fits a.time (session_of a.r) a.body.now p ds w e f, settled_says a.time (session_of a.r) a.body.now p ds w e (waiting-speaks (session_of a.r) a.body.now a.time)) }
 
 pub returns-then-not-is_active : goal.returns-then-not-is_active
 returns-then-not-is_active c =
@@ -27,7 +29,7 @@ returns-then-not-is_active c =
     let a = u.args in
     let l = wait_open a.r a.body.now a.time a.buf.now u.requires.ready.2 u.requires.ready.3
     (settled_makes a.time (session_of a.r) a.body.now b.waiting.result (waiting (session_of a.r) a.body.now a.time) b.settled-p.ensures b.waiting.ensures a.buf.now) b.say-left.ensures in
-    (l, unaccepted_stays a.r a.body.now a.store.now u.requires.ready.2 l c.is_active.ensures c.if-not-is_active.true)
+    record { moved = l; stored = unaccepted_stays a.r a.body.now a.store.now u.requires.ready.2 l c.is_active.ensures (ap not c.if-not-is_active.true) }
 
 pub returns-then-not-holds : goal.returns-then-not-holds
 returns-then-not-holds c =
@@ -36,7 +38,7 @@ returns-then-not-holds c =
     let a = u.args in
     let l = wait_open a.r a.body.now a.time a.buf.now u.requires.ready.2 u.requires.ready.3
     (settled_makes a.time (session_of a.r) a.body.now b.waiting.result (waiting (session_of a.r) a.body.now a.time) b.settled-p.ensures b.waiting.ensures a.buf.now) b.say-left.ensures in
-    (l, unasked_stays a.r a.body.now a.store.now u.requires.ready.2 l c.is_active.ensures c.if-not-is_active.false c.holds.ensures c.if-not-holds.true)
+    record { moved = l; stored = unasked_stays a.r a.body.now a.store.now u.requires.ready.2 l c.is_active.ensures (ap not c.if-not-is_active.false) c.holds.ensures (ap not c.if-not-holds.true) }
 
 pub returns : goal.returns
 returns c =
@@ -45,4 +47,4 @@ returns c =
     let a = u.args in
     let l = wait_open a.r a.body.now a.time a.buf.now u.requires.ready.2 u.requires.ready.3
     (settled_makes a.time (session_of a.r) a.body.now b.waiting.result (waiting (session_of a.r) a.body.now a.time) b.settled-p.ensures b.waiting.ensures a.buf.now) b.say-left.ensures in
-    (l, asked_zeroes a.r a.body.now a.store.now u.requires.ready.2 l c.is_active.ensures c.if-not-is_active.false c.holds.ensures c.if-not-holds.false c.zero_store.ensures)
+    record { moved = l; stored = asked_zeroes a.r a.body.now a.store.now u.requires.ready.2 l c.is_active.ensures (ap not c.if-not-is_active.false) c.holds.ensures (ap not c.if-not-holds.false) c.zero_store.ensures }

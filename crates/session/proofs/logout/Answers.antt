@@ -15,7 +15,7 @@ say-requires c =
     let S = sends_by (session_of a.r) _ _ c.own_gate-gate.ensures c.in-Open.is in
     let R = ready_to a.r S in
     let e = farewell-plan (session_of a.r) c.closing-p.ensures in
-    (R, (omega (arith, S.roomy), S.timed, plan-fits a.time (session_of a.r) [] c.closing-p.result farewell e (farewell_fit a.time _ (ample a.r R)), plan-says (session_of a.r) [] c.closing-p.result farewell e tt))
+    record { ready = R; in_bounds = (omega (arith, S.roomy), S.timed, plan-fits a.time (session_of a.r) [] c.closing-p.result farewell e (farewell_fit a.time _ (ample a.r R)), plan-says (session_of a.r) [] c.closing-p.result farewell e tt) }
 
 pub returns-in-Shut : goal.returns-in-Shut
 unfolding logout

@@ -17,27 +17,27 @@ pub logging_on-requires : goal.logging_on-requires
 logging_on-requires c =
     let u = c in
     let st = c.in-Waiting.is in
-    ((u.requires.ready.0, u.requires.ready.1, st, let_in (session_of u.args.r) u.args.body.now st c.logon_gate-gate.ensures c.in-Open.is), u.requires.in_bounds)
+    record { ready = (u.requires.ready.0, u.requires.ready.1, st, let_in (session_of u.args.r) u.args.body.now st c.logon_gate-gate.ensures c.in-Open.is); in_bounds = u.requires.in_bounds }
 
 pub play-requires : goal.play-requires
 play-requires c =
     let u = c in
     let a = u.args in
     let f = active_fit a.time (session_of a.r) a.body.now (ample a.r u.requires.ready.0) (λ i. omega (arith, c.shared_slice_known-1.given i)) c.in-Active.is in
-    (u.requires.ready.0, (omega (arith, u.requires.in_bounds.0), u.requires.in_bounds.1, settled_fits a.time (session_of a.r) a.body.now c.active.result (active (session_of a.r) a.body.now a.time) c.settled-p.ensures c.active.ensures f))
+    record { ready = u.requires.ready.0; in_bounds = (omega (arith, u.requires.in_bounds.0), u.requires.in_bounds.1, settled_fits a.time (session_of a.r) a.body.now c.active.result (active (session_of a.r) a.body.now a.time) c.settled-p.ensures c.active.ensures f) }
 
 pub returns-in-Shut : goal.returns-in-Shut
 returns-in-Shut c =
     let a = c.args in
     let e = wait_shut (session_of a.r) a.body.now a.time a.buf.now c.in-Waiting.is c.logon_gate-gate.ensures c.in-Shut.is in
-    (made_by a.r (sym e) (record { answered = c.refused.ensures; buffer = refl }), refusal_stays (session_of a.r) a.body.now a.buf.now a.store.now e)
+    record { moved = made_by a.r (sym e) (record { answered = c.refused.ensures; buffer = refl }); stored = refusal_stays (session_of a.r) a.body.now a.buf.now a.store.now e }
 
 pub returns-in-Active : goal.returns-in-Active
 returns-in-Active c =
     let a = c.args in
     let st = c.in-Active.is in
     let w = settled_makes a.time (session_of a.r) a.body.now c.active.result (active (session_of a.r) a.body.now a.time) c.settled-p.ensures c.active.ensures a.buf.now in
-    (act a.r a.body.now a.time a.buf.now st w c.play.ensures, awake_stays (session_of a.r) a.body.now _ a.store.now Active refl st)
+    record { moved = act a.r a.body.now a.time a.buf.now st w c.play.ensures; stored = awake_stays (session_of a.r) a.body.now _ a.store.now Active refl st }
 
 pub returns-in-Closed : goal.returns-in-Closed
 returns-in-Closed c =

@@ -12,7 +12,7 @@ pub moving-requires : goal.moving-requires
 moving-requires c =
     let r = c.args.r in
     let P = passes (session_of r) _ _ _ _ (sym c.step_gate-gate.ensures ∙ ap shut c.in-Open.is) in
-    ((ready_of r P, P.ranged, P.not_closed), (P.roomy, P.timed))
+    record { ready = (ready_of r P, P.ranged, P.not_closed); in_bounds = (P.roomy, P.timed) }
 
 pub returns-in-Shut : goal.returns-in-Shut
 returns-in-Shut c =

@@ -1,4 +1,6 @@
 -- `test_request`: a refusal, or our Test Request and nothing else.
+use mathlib.Core.Bool.{not}
+use mathlib.Core.Path.{ap}
 use native.Mathlib.Omega.{arith}
 use mathlib.Core.Path.{sym, ◌∙◌}
 use borrow.Author.Tests.{not-false}
@@ -11,7 +13,7 @@ use Rattle.session.proofs.test_request.Goals as goal
 pub returns-then-not-is_test_id : goal.returns-then-not-is_test_id
 returns-then-not-is_test_id c =
     let a = c.args in
-    test_8 a.r a.id.now a.time a.buf.now c.own_gate-gate.ensures c.in-Open.is c.is_test_id.ensures c.if-not-is_test_id.true c.refused-then-not-is_test_id.ensures
+    test_8 a.r a.id.now a.time a.buf.now c.own_gate-gate.ensures c.in-Open.is c.is_test_id.ensures (ap not c.if-not-is_test_id.true) c.refused-then-not-is_test_id.ensures
 
 pub say-requires : goal.say-requires
 say-requires c =
@@ -20,7 +22,7 @@ say-requires c =
     let R = ready_to a.r S in
     let F = asked_fit a.time _ a.id.now (ample a.r R) (sym c.is_test_id.ensures ∙ c.if-not-is_test_id.false) (λ i. omega (arith, c.shared_slice_known-1.given i)) in
     let e = asked-plan (session_of a.r) a.id.now c.saying-p.ensures in
-    (R, (omega (arith, S.roomy), S.timed, plan-fits a.time (session_of a.r) a.id.now c.saying-p.result (asked a.id.now) e F, plan-says (session_of a.r) a.id.now c.saying-p.result (asked a.id.now) e tt))
+    record { ready = R; in_bounds = (omega (arith, S.roomy), S.timed, plan-fits a.time (session_of a.r) a.id.now c.saying-p.result (asked a.id.now) e F, plan-says (session_of a.r) a.id.now c.saying-p.result (asked a.id.now) e tt) }
 
 pub returns-in-Shut : goal.returns-in-Shut
 returns-in-Shut c =
@@ -30,5 +32,5 @@ returns-in-Shut c =
 pub returns-else-not-is_test_id : goal.returns-else-not-is_test_id
 returns-else-not-is_test_id c =
     let a = c.args in
-    test_made a.r a.id.now a.time a.buf.now c.own_gate-gate.ensures c.in-Open.is c.is_test_id.ensures c.if-not-is_test_id.false
+    test_made a.r a.id.now a.time a.buf.now c.own_gate-gate.ensures c.in-Open.is c.is_test_id.ensures (ap not c.if-not-is_test_id.false)
     (plan_makes a.time (session_of a.r) a.id.now c.saying-p.result (asked a.id.now) a.buf.now (asked-plan (session_of a.r) a.id.now c.saying-p.ensures)) c.say.ensures

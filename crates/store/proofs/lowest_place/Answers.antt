@@ -6,6 +6,7 @@ use mathlib.Core.Logic.{⊎_elim}
 use Rattle.store.specs.code.Lowest.{LowestOf}
 use Rattle.store.proofs.Free.{lowest_one, lower, not_lower}
 use Rattle.store.proofs.lowest_place.Goals as goal
+use Rattle.store.proofs.lowest_place.Goals.{then-numbers-i, else-numbers-i}
 
 pub loop-i-init : goal.loop-i-init
 loop-i-init c = (omega arith, lowest_one _)
@@ -18,10 +19,10 @@ loop-i-preserved c =
     let a = c.args in
     let l = c.loop-i in (
       omega arith,
-      ⊎_elim
-          (λ w. subst (λ (k : ℕ). LowestOf a.numbers.now (l.i + 1) k) (sym w.1) (lower _ _ _ l.invariant.1 w.0.taken))
-          (λ w. subst (λ (k : ℕ). LowestOf a.numbers.now (l.i + 1) k) (sym w.1) (not_lower _ _ _ l.invariant.1 w.0.left))
-          c.if-numbers-i.branch,
+      elim c.if-numbers-i.branch [
+        | then-numbers-i w ↦ subst (λ (k : ℕ). LowestOf a.numbers.now (l.i + 1) k) (sym w.at-is) (lower _ _ _ l.invariant.1 w.if-numbers-i.true)
+        | else-numbers-i w ↦ subst (λ (k : ℕ). LowestOf a.numbers.now (l.i + 1) k) (sym w.at-is) (not_lower _ _ _ l.invariant.1 w.if-numbers-i.false)
+      ],
     )
 
 pub returns : goal.returns

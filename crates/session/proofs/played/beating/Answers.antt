@@ -7,4 +7,4 @@ returns c =
     let u = c in
     let a = u.args in
     let w = c.beat-len.ensures in
-    beat-played a.r a.time a.buf.now u.requires.0 c.changed-after.ensures u.requires.1 w.1 w.0
+    beat-played a.r a.time a.buf.now u.requires.0 c.changed-after.ensures u.requires.1 w.room w.bytes

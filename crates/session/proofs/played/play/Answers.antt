@@ -12,7 +12,7 @@ pub say-requires : goal.say-requires
 say-requires c =
     let u = c in
     let a = u.args in
-    (u.requires.ready, (u.requires.in_bounds.0, u.requires.in_bounds.1, u.requires.in_bounds.2, plan_speaks (session_of a.r) a.body.now a.p c.is_quiet.ensures c.if-is_quiet.false))
+    record { ready = u.requires.ready; in_bounds = (u.requires.in_bounds.0, u.requires.in_bounds.1, u.requires.in_bounds.2, plan_speaks (session_of a.r) a.body.now a.p c.is_quiet.ensures c.if-is_quiet.false) }
 
 pub returns : goal.returns
 returns c = c.say.ensures
