@@ -12,7 +12,6 @@ use Rattle.octets.specs.Bytes.{Bytes, fix, any, has, decimal}
 use Rattle.octets.proofs.Tests.{neither, any_append}
 use Rattle.decimals.specs.Decimal.{is_decimal, whole_of, places_of}
 use Rattle.kinds.specs.Kind.{Kind, formed, allowed}
-use Rattle.kinds.specs.Kind as Kind
 use Rattle.table.specs.declared.MsgType.TheVariants.{TradeCaptureReport}
 use Rattle.message.specs.Message.{bytes, Field, ◌is◌, row}
 use Rattle.message.specs.Unfit.{unfit}

@@ -4,8 +4,6 @@ use native.Mathlib.Omega.{arith}
 use mathlib.Core.Path.{◌≡◌, refl, sym, ap, ◌∙◌, subst}
 use mathlib.Core.List.{List, [], ◌∷◌, ◌++◌, append-nil}
 use mathlib.Core.Bool.{Bool, true, false, cond}
-use mathlib.Core.Logic.{◌⊎◌, inl, inr}
-use denote.Enum.Declared.{tag_of}
 use lib.Dec.{eqb}
 use lib.ListN.{length, get_or, replicate, get_or-replicate}
 use borrow.Author.Tests.{eqb-true, eqb-false}
@@ -16,7 +14,6 @@ use Rattle.fields.specs.declared.Item.{Item}
 use Rattle.fields.specs.declared.Item.TheVariants.{Field, Malformed, End, NoBody}
 use Rattle.fields.specs.declared.Place.{Place}
 use Rattle.fields.specs.declared.Place.TheVariants.{At, Absent}
-use Rattle.fields.specs.contracts.Item.{the_type}
 use Rattle.fields.proofs.Firsts.{place_from, first_found, first_passed, first_malformed, first_end, first_from}
 use Rattle.readback.specs.Back.{every_place}
 use Rattle.readback.specs.code.Pass.{slot_of, tag_at, pair_in, slot_noted, value_noted, words_at, three, part_at, Parts, Noted, an_id, a_source, a_role, a_value, Gathered}

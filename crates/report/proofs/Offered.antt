@@ -9,7 +9,6 @@ use lib.Dec.{ltb}
 use borrow.Author.Tests.{eq-eqb, ne_eqb}
 use Rattle.octets.specs.Bytes.{Bytes, fix}
 use Rattle.kinds.specs.Kind.{Kind}
-use Rattle.kinds.specs.Kind as Kind
 use Rattle.message.specs.Message.{◌is◌}
 use Rattle.message.specs.Wrote.{Wrote}
 use Rattle.message.proofs.Fitness.{fit_empty}

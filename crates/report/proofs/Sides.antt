@@ -13,7 +13,6 @@ use Rattle.octets.specs.Bytes.{Bytes, any, has, writes, decimal}
 use Rattle.octets.proofs.Tests.{all_below, at_below, or_last}
 use Rattle.octets.proofs.Decimals.{decimal-worth}
 use Rattle.kinds.specs.Kind.{Kind, text, time, day, among, kind_of, is_number, formed, allowed}
-use Rattle.kinds.specs.Kind as Kind
 use Rattle.kinds.specs.Judged.{choices}
 use Rattle.kinds.specs.declared.Choice.TheVariants.{Eight, D, OneOrTwo, ZeroOr54Or99, Matches, Roles}
 use Rattle.table.specs.declared.MsgType.TheVariants.{TradeCaptureReport}

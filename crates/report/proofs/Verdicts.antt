@@ -18,7 +18,7 @@ use Rattle.table.specs.declared.MsgType.TheVariants.{TradeCaptureReport}
 use Rattle.dictionary.specs.declared.Verdict.TheVariants.{Clean}
 use Rattle.table.specs.Dictionary.{№453, №580, №552, header, code35, fields, groups_of, rows_of, type_of}
 use Rattle.dictionary.specs.Verdict.{verdict, walk, nothing_yet}
-use Rattle.message.specs.Message.{number, bytes, Field, ◌is◌, tagged, row}
+use Rattle.message.specs.Message.{bytes, Field, ◌is◌, tagged, row}
 use Rattle.message.proofs.Cutting.{parts_of}
 use Rattle.message.proofs.Frames.{begins_35, row_ends, framed-length}
 use Rattle.message.proofs.Wholes.{body_true}

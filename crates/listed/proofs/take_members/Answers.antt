@@ -1,6 +1,5 @@
 -- `take_members`: whatever the other parties are, those passed stand in front of them.
 use native.Mathlib.Omega.{arith}
-use Prim.Native.Nat.{◌-◌}
 use Rattle.listed.proofs.Members.{first-party, next_party, last_party}
 use Rattle.listed.proofs.take_members.Goals as goal
 

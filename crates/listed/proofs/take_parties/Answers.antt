@@ -17,9 +17,9 @@ pub returns-then-n-lt49 : goal.returns-then-n-lt49
 returns-then-n-lt49 c = group_took (omega arith) c.take_label-a.ensures (count_low (omega arith) c.if-n-lt49.true)
 
 pub returns-then-n-gt56 : goal.returns-then-n-gt56
-returns-then-n-gt56 c = group_took (omega arith) c.take_label-a.ensures (count_high (omega arith) c.if-n-gt56.true)
+returns-then-n-gt56 c = group_took (omega arith) c.take_label-a.ensures (count_high (omega arith) (omega arith))
 
 pub returns : goal.returns
 returns c =
     group_took (omega arith) c.take_label-a.ensures
-    (count_took c.if-a-eq0.false (omega arith) c.if-n-lt49.false c.if-n-gt56.false c.take_label-b.ensures c.take_members.ensures)
+    (count_took c.if-a-eq0.false (omega arith) c.if-n-lt49.false (omega arith) c.take_label-b.ensures c.take_members.ensures)

@@ -36,11 +36,11 @@ pub put_own-requires : goal.put_own-requires
 put_own-requires c =
     let h = c.put_head-a.ensures in
     let r = c.args.r in
-    (omega (arith, h.0.next, head_some (take r.oursLen r.ours) (take r.peerLen r.peer) r.next c.utc-stamp.result), omega (arith, h.1), search rules)
+    (omega (arith, h.bytes.next, head_some (take r.oursLen r.ours) (take r.peerLen r.peer) r.next c.utc-stamp.result), omega (arith, h.room), search rules)
 
 pub returns : goal.returns
 returns c =
     let a = c.args in
     let P = c.requires in
     let h = c.put_head-a.ensures in
-    body_put (session_of a.r) (values_given a.values.now a.text.now) a.time (sym (held_is a.r.oursLen a.r.ours P.0.ours)) (sym (held_is a.r.peerLen a.r.peer P.0.peer)) (c.utc-stamp.ensures ∙ utc_before _ P.1) (omega (arith, h.0.next, head_some (take a.r.oursLen a.r.ours) (take a.r.peerLen a.r.peer) a.r.next c.utc-stamp.result)) h.0 c.put_own.ensures
+    body_put (session_of a.r) (values_given a.values.now a.text.now) a.time (sym (held_is a.r.oursLen a.r.ours P.0.ours)) (sym (held_is a.r.peerLen a.r.peer P.0.peer)) (c.utc-stamp.ensures ∙ utc_before _ P.1) (omega (arith, h.bytes.next, head_some (take a.r.oursLen a.r.ours) (take a.r.peerLen a.r.peer) a.r.next c.utc-stamp.result)) h.bytes c.put_own.ensures

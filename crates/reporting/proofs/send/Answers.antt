@@ -9,16 +9,16 @@ use Rattle.reporting.proofs.Sends.{frame-room, frame_end, send_8, send_12, send_
 use Rattle.reporting.proofs.send.Goals as goal
 
 pub returns-then-k-eq0 : goal.returns-then-k-eq0
-returns-then-k-eq0 c = let a = c.args in send_8 a.r (values_given a.values.now a.text.now) a.time a.buf.now a.store.now c.put_body-k.ensures c.if-k-eq0.true (refused_same a.r refl c.unchanged.ensures)
+returns-then-k-eq0 c = let a = c.args in let x = send_8 a.r (values_given a.values.now a.text.now) a.time a.buf.now a.store.now c.put_body-k.ensures c.if-k-eq0.true (refused_same a.r refl c.unchanged.ensures) in record { sent = x.0; kept = x.1 }
 
 pub frame_length-n-requires : goal.frame_length-n-requires
 frame_length-n-requires c = omega (arith, c.put_body-k.ensures.room)
 
 pub returns-then-n-gt512 : goal.returns-then-n-gt512
-returns-then-n-gt512 c = let a = c.args in send_12 a.r (values_given a.values.now a.text.now) a.time a.buf.now a.store.now c.put_body-k.ensures c.if-k-eq0.false (search rules) c.frame_length-n.ensures c.if-n-gt512.true (refused_same a.r refl c.unchanged-then-n-gt512.ensures)
+returns-then-n-gt512 c = let a = c.args in let x = send_12 a.r (values_given a.values.now a.text.now) a.time a.buf.now a.store.now c.put_body-k.ensures c.if-k-eq0.false (search rules) c.frame_length-n.ensures c.if-n-gt512.true (refused_same a.r refl c.unchanged-then-n-gt512.ensures) in record { sent = x.0; kept = x.1 }
 
 pub returns-then-buf-n : goal.returns-then-buf-n
-returns-then-buf-n c = let a = c.args in send_9 a.r (values_given a.values.now a.text.now) a.time a.buf.now a.store.now c.put_body-k.ensures c.if-k-eq0.false (search rules) c.frame_length-n.ensures c.if-n-gt512.false c.if-buf-n.true (refused_same a.r refl c.unchanged-then-buf-n.ensures)
+returns-then-buf-n c = let a = c.args in let x = send_9 a.r (values_given a.values.now a.text.now) a.time a.buf.now a.store.now c.put_body-k.ensures c.if-k-eq0.false (search rules) c.frame_length-n.ensures c.if-n-gt512.false c.if-buf-n.true (refused_same a.r refl c.unchanged-then-buf-n.ensures) in record { sent = x.0; kept = x.1 }
 
 pub slice_bounds-body-end : goal.slice_bounds-body-end
 slice_bounds-body-end c = omega (arith, c.put_body-k.ensures.room)
@@ -42,4 +42,4 @@ keep_report-requires c =
     (P.0, P.1, P.2, omega (arith, f.long, f.end, c.if-n-gt512.false))
 
 pub returns : goal.returns
-returns c = let a = c.args in send_done a.r (values_given a.values.now a.text.now) a.time a.buf.now a.store.now c.put_body-k.ensures c.if-k-eq0.false (search rules) c.frame_length-n.ensures c.if-n-gt512.false c.if-buf-n.false c.put_frame-len.ensures c.keep_report.ensures c.reported.ensures
+returns c = let a = c.args in let x = send_done a.r (values_given a.values.now a.text.now) a.time a.buf.now a.store.now c.put_body-k.ensures c.if-k-eq0.false (search rules) c.frame_length-n.ensures c.if-n-gt512.false c.if-buf-n.false c.put_frame-len.ensures c.keep_report.ensures c.reported.ensures in record { sent = x.0; kept = x.1 }

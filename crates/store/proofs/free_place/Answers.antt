@@ -1,8 +1,7 @@
 -- `free_place`: each place passed holds a report of another number.
 use native.Mathlib.Omega.{arith}
-use Prim.Native.Nat.{◌-◌}
 use mathlib.Core.Path.{◌≡◌, refl, ◌∙◌}
-use lib.ListN.{length, length-set}
+use lib.ListN.{length-set}
 use Rattle.places.proofs.Cuts.{store_is}
 use Rattle.store.proofs.Running.{slice-length}
 use Rattle.store.proofs.Filled.{filled_none, free_none, free_met, free_more, free_full}

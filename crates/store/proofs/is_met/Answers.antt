@@ -1,6 +1,5 @@
 -- `is_met`: whether x is among the numbers behind those passed.
 use native.Mathlib.Omega.{arith}
-use Prim.Native.Nat.{◌-◌}
 use mathlib.Core.Path.{refl, sym, ◌∙◌}
 use lib.ListN.{take}
 use lib.Seq.{get_or-take, length-take-le}

@@ -1,8 +1,7 @@
 -- `lowest_place`: of the numbers passed the lowest, and the first of these.
 use native.Mathlib.Omega.{arith}
-use Prim.Native.Nat.{ℕ, ◌+◌, ◌-◌}
+use Prim.Native.Nat.{ℕ, ◌+◌}
 use mathlib.Core.Path.{◌≡◌, sym, subst}
-use mathlib.Core.Logic.{⊎_elim}
 use Rattle.store.specs.code.Lowest.{LowestOf}
 use Rattle.store.proofs.Free.{lowest_one, lower, not_lower}
 use Rattle.store.proofs.lowest_place.Goals as goal

@@ -1,8 +1,7 @@
 -- `peeked`: the number of each place passed stands in the list.
 use native.Mathlib.Omega.{arith}
-use Prim.Native.Nat.{◌-◌}
 use mathlib.Core.Path.{refl, ◌∙◌}
-use lib.ListN.{length, length-set}
+use lib.ListN.{length-set}
 use Rattle.places.proofs.Cuts.{store_is}
 use Rattle.store.proofs.Running.{slice-length, peeked_more}
 use Rattle.store.proofs.peeked.Goals as goal

@@ -1,7 +1,6 @@
 -- `place_of`: no place passed holds the number.
 use borrow.Author.Count.{below_more}
 use native.Mathlib.Omega.{arith}
-use Prim.Native.Nat.{◌-◌}
 use mathlib.Core.Path.{◌≡◌}
 use Rattle.places.proofs.Cuts.{store_is}
 use Rattle.store.proofs.Running.{slice-length, peeked_other, is_there, not_there, stands_at}

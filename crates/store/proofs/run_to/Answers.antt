@@ -1,6 +1,5 @@
 -- `run_to`: what the places looked at have left of the run, and those behind make the rest of it.
 use native.Mathlib.Omega.{arith}
-use Prim.Native.Nat.{◌-◌}
 use mathlib.Core.Path.{refl, sym, ◌∙◌}
 use Rattle.places.proofs.Cuts.{store_is}
 use Rattle.store.proofs.Running.{slice-length, peeked_at, run_low, run_high, run_not, run_ends, run_all, run_past, run_kept}

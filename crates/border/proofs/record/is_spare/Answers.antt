@@ -2,7 +2,7 @@
 use native.Mathlib.Omega.{arith}
 use Prim.Native.Nat.{◌-◌}
 use mathlib.Core.Path.{sym}
-use mathlib.Core.Logic.{⊎_elim}
+use Rattle.border.proofs.record.is_spare.Goals.{then-words-i-ne0, else-words-i-ne0}
 use Rattle.border.proofs.Records.{spare_is, spare_stop, spare_next, spare_end}
 use Rattle.border.proofs.record.is_spare.Goals as goal
 
@@ -13,7 +13,10 @@ pub loop-i-preserved : goal.loop-i-preserved
 loop-i-preserved c =
     let l = c.loop-i in (
       omega arith,
-      ⊎_elim (λ w. spare_stop _ _ l.none l.invariant.1 c.loop-i-test.true w.0.taken w.1) (λ w. spare_next _ _ l.none l.invariant.1 c.loop-i-test.true w.0.left w.1) c.if-words-i-ne0.branch,
+      elim c.if-words-i-ne0.branch [
+        then-words-i-ne0 w ↦ spare_stop _ _ l.none l.invariant.1 c.loop-i-test.true w.if-words-i-ne0.true w.none-is
+        | else-words-i-ne0 w ↦ spare_next _ _ l.none l.invariant.1 c.loop-i-test.true w.if-words-i-ne0.false w.none-is
+      ],
     )
 
 pub returns : goal.returns

@@ -6,9 +6,3 @@ returns c = (c.number_of.ensures, c.save.ensures)
 
 pub save-requires : goal.save-requires
 save-requires c = c.requires
-
-pub number_of-requires : goal.number_of-requires
-number_of-requires c = tt
-
-pub shape_of-words : goal.shape_of-words
-shape_of-words c = c.words-1.given

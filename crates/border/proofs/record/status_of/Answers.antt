@@ -7,6 +7,3 @@ returns-in-0 c = rw c.in-0.is
 
 pub returns-in-1 : goal.returns-in-1
 returns-in-1 c = rw c.in-1.is
-
-pub returns-in_default : goal.returns-in_default
-returns-in_default c = third_status _ c.in_default.rest.0.1 c.in_default.rest.1

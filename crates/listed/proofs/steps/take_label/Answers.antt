@@ -1,7 +1,6 @@
 -- `take_label`: every byte passed is the label's.
 use native.Mathlib.Omega.{arith}
 use borrow.Author.Count.{below_more}
-use Prim.Native.Nat.{◌-◌}
 use Rattle.listed.proofs.Taking.{nowhere}
 use Rattle.listed.proofs.Pieces.{label_long, label_other, label_taken}
 use Rattle.listed.proofs.steps.take_label.Goals as goal

@@ -1,7 +1,5 @@
 -- `take_value`: no `|` among the bytes passed, and what they are when one is met.
 use native.Mathlib.Omega.{arith}
-use Prim.Native.Nat.{◌-◌}
-use mathlib.Core.Bool.{false}
 use Rattle.kinds.specs.Judged.{meaning}
 use Rattle.listed.proofs.Taking.{nowhere}
 use Rattle.listed.proofs.Pieces.{none_passed, one_passed, value_empty, value_unfit, value_taken, value_open}

@@ -1,6 +1,5 @@
 -- The number of parties, and the words behind theirs cleared one by one.
 use native.Mathlib.Omega.{arith}
-use Prim.Native.Nat.{◌-◌}
 use Rattle.readback.proofs.Clearing.{cleared_none, cleared_more, cleared_all, eight_parties, numbered_long}
 use Rattle.readback.proofs.noting.finish.Goals as goal
 

@@ -1,6 +1,5 @@
 -- The words hold the fields before the place reached; at the end they are those of the body.
 use native.Mathlib.Omega.{arith}
-use Prim.Native.Nat.{◌-◌}
 use mathlib.Core.Path.{subst}
 use Rattle.fields.specs.Item.{Cut}
 use Rattle.readback.proofs.Passing.{sofar_none, sofar_field, sofar_malformed, sofar_end, at_end}

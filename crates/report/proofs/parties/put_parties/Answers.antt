@@ -1,6 +1,5 @@
 -- `put_parties`: the count, and i of the parties behind it.
 use native.Mathlib.Omega.{arith}
-use Prim.Native.Nat.{◌-◌}
 use mathlib.Core.Path.{refl}
 use lib.ListN.{get_or}
 use Rattle.report.proofs.Putting.{nowhere, none_put}

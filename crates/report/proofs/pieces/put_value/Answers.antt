@@ -1,6 +1,5 @@
 -- `put_value`: nothing for a place that the text does not have or for bytes that are unfit, else the bytes and `|`.
 use native.Mathlib.Omega.{arith}
-use borrow.Author.Tests.{not-true, not-false}
 use mathlib.Core.Path.{sym}
 use Rattle.message.proofs.Writes.{chain, reword}
 use Rattle.report.proofs.Putting.{nowhere, refused, placed, part_inside, part_backwards, part_beyond, part_fit, fit_short}
