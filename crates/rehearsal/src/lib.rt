@@ -1,5 +1,7 @@
 // A session played line by line: what each call answers, the messages that it sends, and the record that it leaves.
 // `new OURS PEER`, `step TIME FRAME`, `tick TIME`, `replay TIME`, `reconnect`. A time is in microseconds since 1970.
+#![tactic(auto)]
+
 ghost use Rattle.std.specs.Prelude.{◌≤◌};
 
 use frame::Reading;
@@ -7,6 +9,7 @@ use gap::Gap;
 use moves::{Record, Status};
 use print::{begins, behind, find, print_bytes};
 use session::{Answer, Answered, refusal_number};
+use std::io;
 
 // What there is before the first new session: both CompIDs are empty, and a step is refusal 11.
 pub fn nobody() -> Record {
@@ -14,109 +17,98 @@ pub fn nobody() -> Record {
     none.after
 }
 
-fn print_number(text: &[u8], n: u64) {
-    io::write_all(1, text);
-    io::print_decimal(1, n);
+fn print_number(rt: &impl Print, text: &[u8], n: u64) -> io::Result<()> {
+    rt.write_all(text)?;
+    rt.print(n)
 }
 
-fn print_answer(answer: Answer) {
+fn print_answer(rt: &impl Print, answer: Answer) -> io::Result<()> {
     match answer {
-        Answer::Done => {
-            io::write_all(1, b"  done");
-        }
-        Answer::Delivered => {
-            io::write_all(1, b"  delivered");
-        }
-        Answer::NothingDue => {
-            io::write_all(1, b"  nothing due");
-        }
-        Answer::Refused(k) => print_number(b"  refusal ", refusal_number(k) as u64),
+        Answer::Done => rt.write_all(b"  done"),
+        Answer::Delivered => rt.write_all(b"  delivered"),
+        Answer::NothingDue => rt.write_all(b"  nothing due"),
+        Answer::Refused(k) => print_number(rt, b"  refusal ", refusal_number(k) as u64),
     }
 }
 
 // The messages of a reply, each on its line.
-fn print_messages(reply: &[u8]) {
+fn print_messages(rt: &impl Print, reply: &[u8]) -> io::Result<()> {
     let mut at = 0;
     while at < reply.len() {
         match frame::reading_of(&reply[at..]) {
             Reading::Frame { skip, len } => {
                 let start = at + skip;
                 let end = start + len;
-                io::write_all(1, b"\n  sends ");
-                print_bytes(&reply[start..end]);
+                rt.write_all(b"\n  sends ")?;
+                print_bytes(rt, &reply[start..end])?;
                 at = end;
             }
             Reading::NoFrame { drop: _ } => {
-                return;
+                return Ok(());
             }
         }
     }
+    Ok(())
 }
 
-fn print_reply(buf: &[u8], len: usize) {
+fn print_reply(rt: &impl Print, buf: &[u8], len: usize) -> io::Result<()> {
     if buf.len() < len {
-        return;
+        return Ok(());
     }
-    print_messages(&buf[..len]);
+    print_messages(rt, &buf[..len])
 }
 
-fn print_status(status: Status) {
+fn print_status(rt: &impl Print, status: Status) -> io::Result<()> {
     match status {
-        Status::Waiting => {
-            io::write_all(1, b"\n  Waiting");
-        }
-        Status::Active => {
-            io::write_all(1, b"\n  Active");
-        }
-        Status::Closed => {
-            io::write_all(1, b"\n  Closed");
-        }
+        Status::Waiting => rt.write_all(b"\n  Waiting"),
+        Status::Active => rt.write_all(b"\n  Active"),
+        Status::Closed => rt.write_all(b"\n  Closed"),
     }
 }
 
 // The place of a replay, if one is running.
-fn print_replay(at: u64, to: u64) {
+fn print_replay(rt: &impl Print, at: u64, to: u64) -> io::Result<()> {
     if at == 0 {
-        return;
+        return Ok(());
     }
-    print_number(b", replay from ", at);
-    print_number(b" to ", to);
+    print_number(rt, b", replay from ", at)?;
+    print_number(rt, b" to ", to)
 }
 
 // A gap, if one is open.
-fn print_gap(g: Gap) {
+fn print_gap(rt: &impl Print, g: Gap) -> io::Result<()> {
     if g.isOpen != 1 {
-        return;
+        return Ok(());
     }
-    print_number(b", a gap for ", g.expected);
-    print_number(b" up to ", g.highest);
-    io::write_all(1, b", asked ");
+    print_number(rt, b", a gap for ", g.expected)?;
+    print_number(rt, b" up to ", g.highest)?;
+    rt.write_all(b", asked ")?;
     let asked = calendar::utc(g.asked);
-    print_bytes(&asked);
+    print_bytes(rt, &asked)
 }
 
-fn print_record(r: Record) {
+fn print_record(rt: &impl Print, r: Record) -> io::Result<()> {
     let status = r.status;
-    print_status(status);
-    print_number(b", expected ", r.expected);
-    print_number(b", next out ", r.next);
-    print_number(b", heartbeat ", r.heartbeat);
-    io::write_all(1, b" s, last sent ");
+    print_status(rt, status)?;
+    print_number(rt, b", expected ", r.expected)?;
+    print_number(rt, b", next out ", r.next)?;
+    print_number(rt, b", heartbeat ", r.heartbeat)?;
+    rt.write_all(b" s, last sent ")?;
     let sent = calendar::utc(r.sent);
-    print_bytes(&sent);
-    print_replay(r.at, r.to);
-    print_gap(r.gap);
-    io::write_all(1, b"\n");
+    print_bytes(rt, &sent)?;
+    print_replay(rt, r.at, r.to)?;
+    print_gap(rt, r.gap)?;
+    rt.write_all(b"\n")
 }
 
 // A call's outcome in words, and the record to go on with.
-fn told(a: Answered, buf: &[u8]) -> Record {
+fn told(rt: &impl Print, a: Answered, buf: &[u8]) -> io::Result<Record> {
     let answer = a.answer;
-    print_answer(answer);
-    print_reply(buf, a.len);
+    print_answer(rt, answer)?;
+    print_reply(rt, buf, a.len)?;
     let after = a.after;
-    print_record(after);
-    after
+    print_record(rt, after)?;
+    Ok(after)
 }
 
 fn wide(x: u8) -> u64
@@ -148,46 +140,46 @@ fn time_of(s: &[u8]) -> u64 {
 }
 
 // A new session begins with a store of zeros.
-fn new(names: &[u8], store: &mut [u8]) -> Record {
+fn new(rt: &impl Print, names: &[u8], store: &mut [u8]) -> io::Result<Record> {
     let k = find(names, 0, b' ');
     places::zero_store(store);
-    told(session::new(&names[..k], behind(names)), b"")
+    told(rt, session::new(&names[..k], behind(names)), b"")
 }
 
-fn step(r: Record, words: &[u8], store: &mut [u8]) -> Record {
+fn step(rt: &impl Print, r: Record, words: &[u8], store: &mut [u8]) -> io::Result<Record> {
     let mut buf = [0u8; 600];
     let a = session::step(r, behind(words), time_of(words), &mut buf, store);
-    told(a, &buf)
+    told(rt, a, &buf)
 }
 
-fn tick(r: Record, words: &[u8]) -> Record {
+fn tick(rt: &impl Print, r: Record, words: &[u8]) -> io::Result<Record> {
     let mut buf = [0u8; 600];
     let a = session::tick(r, time_of(words), &mut buf);
-    told(a, &buf)
+    told(rt, a, &buf)
 }
 
-fn replay(r: Record, words: &[u8], store: &[u8]) -> Record {
+fn replay(rt: &impl Print, r: Record, words: &[u8], store: &[u8]) -> io::Result<Record> {
     let mut buf = [0u8; 600];
     let a = replaying::replay(r, time_of(words), &mut buf, store);
-    told(a, &buf)
+    told(rt, a, &buf)
 }
 
 // The line's call, made on the record and its store.
-pub fn play(r: Record, line: &[u8], store: &mut [u8]) -> Record {
+pub fn play(rt: &impl Print, r: Record, line: &[u8], store: &mut [u8]) -> io::Result<Record> {
     if begins(line, b"new ") {
-        return new(behind(line), store);
+        return new(rt, behind(line), store);
     }
     if begins(line, b"step ") {
-        return step(r, behind(line), store);
+        return step(rt, r, behind(line), store);
     }
     if begins(line, b"tick ") {
-        return tick(r, behind(line));
+        return tick(rt, r, behind(line));
     }
     if begins(line, b"replay ") {
-        return replay(r, behind(line), store);
+        return replay(rt, r, behind(line), store);
     }
     if begins(line, b"reconnect") {
-        return told(session::reconnect(r), b"");
+        return told(rt, session::reconnect(r), b"");
     }
-    r
+    Ok(r)
 }

@@ -61,7 +61,7 @@ put_again-len-requires c =
     let P = plays s.args.r s.requires.0 s.requires.1 in
     let i = c.place_of-i in
     let h = c.if-i-lt64.true in
-    ((place_long _ _ _ _ _ i.ensures s.requires.2 h, P.ours.right, P.peer.right, s.requires.3, s.requires.4), (P.low, place_number _ _ _ _ _ i.ensures h))
+    record { place_len = (place_long _ _ _ _ _ i.ensures s.requires.2 h, P.ours.right, P.peer.right, s.requires.3, s.requires.4); le_n = (P.low, place_number _ _ _ _ _ i.ensures h) }
 
 pub moved_on-requires : goal.moved_on-requires
 moved_on-requires c = let s = c in let P = plays s.args.r s.requires.0 s.requires.1 in omega (arith, P.ordered, P.high)
@@ -91,4 +91,4 @@ moved_on-requires-2 c =
 pub returns : goal.returns
 returns c =
     let s = c in
-    play_fill s.args.r s.args.time s.args.buf.now (plays s.args.r s.requires.0 s.requires.1) s.args.store.now c.place_of-i.ensures c.if-i-lt64.false c.run_to-e.ensures (c.utc-stamp.ensures ∙ utc_before _ s.requires.3) c.gap_filled.ensures s.requires.4 c.moved_on-2.ensures
+    play_fill s.args.r s.args.time s.args.buf.now (plays s.args.r s.requires.0 s.requires.1) s.args.store.now c.place_of-i.ensures c.if-i-lt64.false c.run_to-e.ensures (c.utc-stamp.ensures ∙ utc_before _ s.requires.3) c.gap_fill-len.ensures s.requires.4 c.moved_on-2.ensures

@@ -1,5 +1,4 @@
 -- `status_of`: the first two numbers, and all others.
-use Rattle.border.proofs.Records.{third_status}
 use Rattle.border.proofs.record.status_of.Goals as goal
 
 pub returns-in-0 : goal.returns-in-0

@@ -1,8 +1,6 @@
 -- `zero`: the words passed are zero, those to come are as they were.
 use native.Mathlib.Omega.{arith}
-use Prim.Native.Nat.{◌-◌}
 use mathlib.Core.Path.{refl, ◌∙◌}
-use lib.ListN.{length}
 use Rattle.border.proofs.Records.{zero_more, zero_all}
 use Prim.Native.Nat.{ℕ}
 use mathlib.Core.Path.{ap}

@@ -1,6 +1,5 @@
 -- `values_of`: the first k places hold what the words say of them.
 use mathlib.Core.Path.{◌≡◌}
-use Prim.Native.Nat.{◌-◌}
 use native.Mathlib.Omega.{arith}
 use Rattle.border.proofs.Filling.{none_filled, next_filled, all_filled}
 use Rattle.border.proofs.values.values_of.Goals as goal
