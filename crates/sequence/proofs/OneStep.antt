@@ -6,7 +6,7 @@ use mathlib.Core.Path.{◌≡◌, refl, sym, ap, ◌∙◌, subst}
 use mathlib.Core.Bool.{Bool, true, false, cond, not, ◌&&◌, ◌||◌, false≢true}
 use mathlib.Core.Logic.{◌⊎◌, inl, inr}
 use mathlib.Core.List.{[], ◌∷◌, ◌++◌}
-use mathlib.Core.Option.{some}
+use mathlib.Core.Option.{none, some}
 use lib.Dec.{eqb, ltb, leb}
 use borrow.Author.Tests.{eqb-true, ltb-true, not-true, eq-eqb, lt-ltb, le-leb}
 use Rattle.octets.specs.Bytes.{Bytes, fix}
@@ -193,7 +193,7 @@ module _ (s : Session) (body : Bytes) where
     unfolding in_turn code35
     fill_turn y = rw (type_is_lem SequenceReset (msg_type body) y) (go (is_clean (verdict body)))
       where
-        go : (c : Bool) → ◌≡◌ {A = Deeds} (first ((counted s body (rejection s body) when not c) ∷ some (filled s body) ∷ []) otherwise counted s body []) (cond c (filled s body) (counted s body (rejection s body)))
+        go : (c : Bool) → ◌≡◌ {A = Deeds} (first ((counted s body (rejection s body) when not c) ∷ none ∷ none ∷ some (filled s body) ∷ none ∷ none ∷ none ∷ []) otherwise counted s body []) (cond c (filled s body) (counted s body (rejection s body)))
         go true = refl
         go false = refl
 
