@@ -56,8 +56,8 @@ module _ (words : List ℕ) where
       go true = sym (strange (get_or words 1 0) h)
       go false = refl
 
-  pub by_spare : length words ≡ 24 → get_or words 0 0 ≡ 1 → get_or words 1 0 ≤ 2 → spare words ≡ found (status_in words)
-  by_spare e f h = go (spare words) ∙ ap found (status_is e f)
+  pub by_spare : {s : Bool} → s ≡ spare words → length words ≡ 24 → get_or words 0 0 ≡ 1 → get_or words 1 0 ≤ 2 → s ≡ found (status_in words)
+  by_spare g e f h = g ∙ go (spare words) ∙ ap found (status_is e f)
     where
       go : (b : Bool) → b ≡ found (status_if words b)
       go true = sym (known (get_or words 1 0) h)
@@ -65,6 +65,9 @@ module _ (words : List ℕ) where
 
   pub status_read : length words ≡ 24 → get_or words 0 0 ≡ 1 → spare words ≡ true → status_of (get_or words 1 0) ≡ status_in words
   status_read e f h = sym (ap (status_if words) h) ∙ status_is e f
+
+-- test by test, for the code
+pub ruleset tests = (other_length, other_version, other_status, by_spare)
 
 -- THE CODE'S LOOPS over the words: those kept for later are zero, and a new record's are made so
 abbrev pub zero_word : ℕ → Bool

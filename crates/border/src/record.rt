@@ -29,6 +29,7 @@ fn is_spare(words: &[u64]) -> bool
 }
 
 // Whether the words are a record's: 24, of this version, with a status, and zeros behind the twelve that are used.
+#[tactic(auto, using(crate::proofs::Records::tests))]
 pub fn is_record(words: &[u64]) -> bool
     ensures { result ≡ found (status_in words.now) }
 {

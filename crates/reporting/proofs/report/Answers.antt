@@ -2,7 +2,6 @@
 use mathlib.Core.Bool.{not}
 use mathlib.Core.Path.{ap}
 use mathlib.Core.Path.{sym, ◌∙◌}
-use borrow.Author.Tests.{not-false}
 use Rattle.report.specs.Layout.{values_given}
 use Rattle.reporting.proofs.Gates.{report_11, report_13, report_14, report_7, report_2, report_5, report_sent, ready}
 use Rattle.reporting.proofs.report.Goals as goal

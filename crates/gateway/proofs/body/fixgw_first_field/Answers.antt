@@ -19,8 +19,3 @@ is_body-requires c = tt
 pub first_field-requires : goal.first_field-requires
 first_field-requires c = tt
 
-pub enum_known-start : goal.enum_known-start
-enum_known-start c = c.in-At.is
-
-pub enum_told-1 : goal.enum_told-1
-enum_told-1 c = c.in-Absent.is

@@ -18,11 +18,3 @@ returns-in-NoBody c = verdict_is _ c.verdict_on.ensures c.in-NoBody.is
 pub verdict_on-requires : goal.verdict_on-requires
 verdict_on-requires c = tt
 
-pub enum_told-1 : goal.enum_told-1
-enum_told-1 c = c.in-Clean.is
-
-pub enum_known-reason : goal.enum_known-reason
-enum_known-reason c = c.in-Finding.is
-
-pub enum_told-in-NoBody : goal.enum_told-in-NoBody
-enum_told-in-NoBody c = c.in-NoBody.is

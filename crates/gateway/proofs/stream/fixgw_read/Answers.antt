@@ -11,8 +11,3 @@ returns-in-NoFrame c = read_none c.in-NoFrame.is c.reading_of.ensures
 pub reading_of-requires : goal.reading_of-requires
 reading_of-requires c = tt
 
-pub enum_known-skip : goal.enum_known-skip
-enum_known-skip c = c.in-Frame.is
-
-pub enum_known-drop : goal.enum_known-drop
-enum_known-drop c = c.in-NoFrame.is

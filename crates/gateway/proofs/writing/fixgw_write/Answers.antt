@@ -23,15 +23,6 @@ values_of-requires c = tt
 pub write-requires : goal.write-requires
 write-requires c = tt
 
-pub enum_known-len : goal.enum_known-len
-enum_known-len c = c.in-Message.is
-
-pub enum_told-1 : goal.enum_told-1
-enum_told-1 c = c.in-Unfit.is
-
-pub enum_told-in-Short : goal.enum_told-in-Short
-enum_told-in-Short c = c.in-Short.is
-
 pub shape_of-buf-in-Message : goal.shape_of-buf-in-Message
 shape_of-buf-in-Message c = c.buf-1.given
 
