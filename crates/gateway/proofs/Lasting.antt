@@ -30,7 +30,6 @@ use Rattle.replaying.specs.Call.{replay}
 use Rattle.reporting.proofs.Promise as Reporting
 use Rattle.moves.specs.declared.record.Record.{Record}
 use Rattle.session.specs.declared.Answer.{Answer}
-use Rattle.session.specs.declared.Answer.TheVariants as Answer
 use Rattle.session.specs.declared.Refusal.{Refusal}
 use Rattle.session.specs.declared.Refusal.TheVariants.{BadRecord}
 use Rattle.moves.specs.declared.record.Status.{Status}

@@ -1,5 +1,5 @@
 -- What a call on a record leaves, of every outcome of a session's call, of a report and of a replay call. Assumes nothing.
-use Prim.Native.Nat.{ℕ, ◌-◌}
+use Prim.Native.Nat.{ℕ}
 use mathlib.Core.Path.{◌≡◌, refl, sym, ap, ap₂, ◌∙◌, subst}
 use mathlib.Core.List.{List, [], ◌∷◌, append-nil}
 use mathlib.Core.Bool.{true, cond}
@@ -7,7 +7,7 @@ use mathlib.Core.Option.{none, some, some-injective, none-ne-some}
 use lib.ListN.{length, take, drop}
 use lib.Seq.{take-append_seam, drop-append_seam}
 use Rattle.octets.specs.Bytes.{Bytes, Byted, within}
-use Rattle.frame.specs.Frame.{fixt, front}
+use Rattle.frame.specs.Frame.{fixt}
 use Rattle.frame.specs.Stream.{Frames, joined}
 use Rattle.message.proofs.Joined.{joined_frames}
 use Rattle.moves.specs.Session.{Session, in_range}
@@ -23,7 +23,6 @@ use Rattle.replaying.specs.Run.{OurReplay}
 use Rattle.replaying.proofs.Promise as Replaying
 use Rattle.moves.specs.declared.record.Record.{Record}
 use Rattle.session.specs.declared.Answer.{Answer}
-use Rattle.session.specs.declared.Answer.TheVariants as Answer
 use Rattle.session.specs.declared.Refusal.{Refusal}
 use Rattle.session.specs.declared.Refusal.TheVariants.{SessionClosed, NotLogon, BadLogon, NumbersSpent, BufferShort, TimePast, BadValue, NoRoom, NotOneFrame, BadRecord, ReportTooLong, Replaying, BadStore}
 use Rattle.session.proofs.Promise as Session

@@ -1,12 +1,12 @@
 -- The whole promise, shown: each call has exactly one outcome, what a call on a record leaves is as the page says, and the promises of the layers below.
 -- Assumes nothing.
-use Prim.Native.Nat.{ℕ, ◌-◌}
+use Prim.Native.Nat.{ℕ}
 use mathlib.Core.Path.{◌≡◌, refl, sym, ap, ap₂, ◌∙◌, subst}
 use mathlib.Core.Logic.{◌⊎◌}
 use mathlib.Core.List.{List, [], ◌∷◌}
 use mathlib.Core.Option.{none, some}
 use native.Mathlib.Omega.{arith}
-use lib.ListN.{length, get_or, drop}
+use lib.ListN.{length, get_or}
 use Rattle.octets.specs.Bytes.{Bytes, Byted}
 use Rattle.frame.specs.Frame.{fixt, front, Good}
 use Rattle.line.specs.Line.{line, fitting, put, dropped}
@@ -22,12 +22,6 @@ use Rattle.writer.specs.declared.Written.{Written}
 use Rattle.writer.specs.declared.Written.TheVariants.{Message, Unfit, Short}
 use Rattle.replies.proofs.Promise as Replies
 use Rattle.writer.proofs.Promise as Writer
-use Rattle.moves.specs.Session.{Session}
-use Rattle.session.specs.Refusals.{numbers}
-use Rattle.moves.specs.Held.{held}
-use Rattle.session.specs.Calls.{Outcome, step, tick, logout, test_request, new, reconnect, call}
-use Rattle.reporting.specs.Call.{report}
-use Rattle.replaying.specs.Call.{replay}
 use Rattle.kept.proofs.Promise as Kept
 use Rattle.store.proofs.Promise as Store
 use Rattle.replaying.proofs.Promise as Replaying

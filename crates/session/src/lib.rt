@@ -201,6 +201,7 @@ pub fn reconnect(r: Record) -> Answered
 }
 
 // A tick: a Heartbeat if one is due.
+#[tactic(auto, using(crate::proofs::Ticking::ticking))]
 pub fn tick(r: Record, time: u64, buf: &mut [u8]) -> Answered
     ensures { Leaves r (tick (session_of r) time buf.old) result buf.new }
 {

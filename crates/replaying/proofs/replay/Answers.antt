@@ -1,7 +1,7 @@
 -- `replay`: 11, 14, 7, 6, nothing due, or the next message.
 use mathlib.Core.Path.{sym, ap, ◌∙◌}
 use mathlib.Core.Bool.{not}
-use borrow.Author.Tests.{ne_eqb, not-false}
+use borrow.Author.Tests.{ne_eqb}
 use Rattle.replaying.proofs.Gates.{replay_11, replay_14, replay_7, replay_6, replay_idle, replay_next}
 use Rattle.replaying.proofs.replay.Goals as goal
 

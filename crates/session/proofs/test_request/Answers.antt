@@ -3,7 +3,6 @@ use mathlib.Core.Bool.{not}
 use mathlib.Core.Path.{ap}
 use native.Mathlib.Omega.{arith}
 use mathlib.Core.Path.{sym, ◌∙◌}
-use borrow.Author.Tests.{not-false}
 use Rattle.moves.specs.Held.{session_of}
 use Rattle.session.proofs.Stepping.{ample}
 use Rattle.session.proofs.Playing.{plan-fits, plan-says, plan_makes}

@@ -16,4 +16,3 @@ returns-in-NoBody c = field_is _ _ c.field_at.ensures c.in-NoBody.is
 
 pub field_at-requires : goal.field_at-requires
 field_at-requires c = tt
-

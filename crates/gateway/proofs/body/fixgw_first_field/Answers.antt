@@ -1,6 +1,5 @@
 -- `fixgw_first_field`: no body, or the case of the place, in words.
 use mathlib.Core.Path.{sym, ◌∙◌}
-use borrow.Author.Tests.{not-true, not-false}
 use Rattle.gateway.proofs.Readings.{first_none, first_is}
 use Rattle.gateway.proofs.body.fixgw_first_field.Goals as goal
 
@@ -18,4 +17,3 @@ is_body-requires c = tt
 
 pub first_field-requires : goal.first_field-requires
 first_field-requires c = tt
-

@@ -17,4 +17,3 @@ returns-in-NoBody c = verdict_is _ c.verdict_on.ensures c.in-NoBody.is
 
 pub verdict_on-requires : goal.verdict_on-requires
 verdict_on-requires c = tt
-

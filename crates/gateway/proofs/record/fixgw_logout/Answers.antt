@@ -1,5 +1,4 @@
 -- `fixgw_logout`: no record in the words, or the venue's own Logout.
-use borrow.Author.Tests.{not-true, not-false}
 use mathlib.Core.Path.{refl, sym, ◌∙◌}
 use Rattle.border.proofs.Keeping.{no_record, record_length}
 use Rattle.gateway.proofs.Calls.{logout_unread, logout_left}

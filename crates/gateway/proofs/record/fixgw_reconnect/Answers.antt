@@ -1,5 +1,4 @@
 -- `fixgw_reconnect`: no record in the words, or a reconnect of it.
-use borrow.Author.Tests.{not-true, not-false}
 use mathlib.Core.Path.{refl, sym, ◌∙◌}
 use Rattle.border.proofs.Keeping.{no_record, record_length}
 use Rattle.gateway.proofs.Calls.{reconnect_unread, reconnect_left}

@@ -1,5 +1,4 @@
 -- `fixgw_step`: no record in the words, or a step on it.
-use borrow.Author.Tests.{not-true, not-false}
 use mathlib.Core.Path.{refl, sym, ◌∙◌}
 use Rattle.border.proofs.Keeping.{no_record, record_length}
 use Rattle.gateway.proofs.Calls.{step_unread, step_left}

@@ -1,5 +1,4 @@
 -- `fixgw_test_request`: no record in the words, or the venue's own Test Request.
-use borrow.Author.Tests.{not-true, not-false}
 use mathlib.Core.Path.{refl, sym, ◌∙◌}
 use Rattle.border.proofs.Keeping.{no_record, record_length}
 use Rattle.gateway.proofs.Calls.{test_request_unread, test_request_left}

@@ -10,4 +10,3 @@ returns-in-NoFrame c = read_none c.in-NoFrame.is c.reading_of.ensures
 
 pub reading_of-requires : goal.reading_of-requires
 reading_of-requires c = tt
-

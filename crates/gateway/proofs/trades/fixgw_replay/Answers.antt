@@ -1,5 +1,4 @@
 -- `fixgw_replay`: no record in the words, or a replay call on it.
-use borrow.Author.Tests.{not-true, not-false}
 use mathlib.Core.Path.{refl, sym, ◌∙◌}
 use Rattle.border.proofs.Keeping.{no_record, record_length}
 use Rattle.gateway.proofs.Calls.{replay_unread, replay_left}

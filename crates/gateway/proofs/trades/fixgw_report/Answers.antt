@@ -1,5 +1,4 @@
 -- `fixgw_report`: no record in the words, or a report of it.
-use borrow.Author.Tests.{not-true, not-false}
 use mathlib.Core.Path.{sym, ◌∙◌}
 use Rattle.border.proofs.Keeping.{no_record, record_length}
 use Rattle.gateway.proofs.Calls.{report_unread, report_left}

@@ -1,6 +1,5 @@
 -- `in_eleven`: the bytes copied so far, and zeros behind them.
 use native.Mathlib.Omega.{arith}
-use Prim.Native.Nat.{◌-◌}
 use mathlib.Core.Path.{refl}
 use Rattle.session.proofs.Beginning.{eleven_more, eleven_is}
 use Rattle.session.proofs.begin.in_eleven.Goals as goal
