@@ -18,43 +18,31 @@ returns-then-not-fraction c = let f = c.fraction in time_unformed _ f.result f.e
 
 pub date-requires : goal.date-requires
 date-requires c =
-    let t = c in
-    let s = t.shaped in
-    (omega arith, time_day t.args.v.now s.result s.ensures t.if-not-shaped.false)
+    let s = c.shaped in
+    (omega arith, time_day c.args.v.now s.result s.ensures c.if-not-shaped.false)
 
 pub returns-then-date-eq5 : goal.returns-then-date-eq5
 returns-then-date-eq5 c =
-    let d = c in
-    let f = d.fraction in
-    time_no_day _ f.result d.date.result f.ensures d.if-not-fraction.false d.date.ensures c.if-date-eq5.true
+    let f = c.fraction in
+    time_no_day _ f.result c.date.result f.ensures c.if-not-fraction.false c.date.ensures c.if-date-eq5.true
 
 pub two-requires : goal.two-requires
 two-requires c =
-    let t = c in
-    let f = t in
-    let v = f.args.v.now in
-    (omega arith, letters (fix "YYYYMMDD-HH:MM:SS") v 9 (time-front v f.fraction.result f.fraction.ensures t.if-not-fraction.false) (omega arith) refl refl)
+    let v = c.args.v.now in
+    (omega arith, letters (fix "YYYYMMDD-HH:MM:SS") v 9 (time-front v c.fraction.result c.fraction.ensures c.if-not-fraction.false) (omega arith) refl refl)
 
 pub two-requires-2 : goal.two-requires-2
 two-requires-2 c =
-    let t = c in
-    let f = t in
-    let v = f.args.v.now in
-    (omega arith, letters (fix "YYYYMMDD-HH:MM:SS") v 12 (time-front v f.fraction.result f.fraction.ensures t.if-not-fraction.false) (omega arith) refl refl)
+    let v = c.args.v.now in
+    (omega arith, letters (fix "YYYYMMDD-HH:MM:SS") v 12 (time-front v c.fraction.result c.fraction.ensures c.if-not-fraction.false) (omega arith) refl refl)
 
 pub two-requires-3 : goal.two-requires-3
 two-requires-3 c =
-    let t = c in
-    let f = t in
-    let v = f.args.v.now in
-    (omega arith, letters (fix "YYYYMMDD-HH:MM:SS") v 15 (time-front v f.fraction.result f.fraction.ensures t.if-not-fraction.false) (omega arith) refl refl)
+    let v = c.args.v.now in
+    (omega arith, letters (fix "YYYYMMDD-HH:MM:SS") v 15 (time-front v c.fraction.result c.fraction.ensures c.if-not-fraction.false) (omega arith) refl refl)
 
 pub returns : goal.returns
 returns c =
-    let s = c in
-    let m = s in
-    let h = m in
-    let d = h in
-    let f = d.fraction in
-    time-judged _ f.result d.date.result _ f.ensures d.if-not-fraction.false d.date.ensures h.if-date-eq5.false
-    (c.hours.ensures ∙ time_means _ _ _ _ h.two.ensures.is m.two-2.ensures.is s.two-3.ensures.is)
+    let f = c.fraction in
+    time-judged _ f.result c.date.result _ f.ensures c.if-not-fraction.false c.date.ensures c.if-date-eq5.false
+    (c.hours.ensures ∙ time_means _ _ _ _ c.two.ensures.is c.two-2.ensures.is c.two-3.ensures.is)

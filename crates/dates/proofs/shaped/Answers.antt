@@ -16,9 +16,8 @@ loop-k-preserved c =
 
 pub returns : goal.returns
 returns c =
-    let l = c in
-    let a = l.args in
-    flag-whole a.shape.now a.v.now a.at l.loop-k.k l.loop-k.fits l.loop-k.invariant.0 c.loop-k-test.false l.loop-k.invariant.1
+    let a = c.args in
+    flag-whole a.shape.now a.v.now a.at c.loop-k.k c.loop-k.fits c.loop-k.invariant.0 c.loop-k-test.false c.loop-k.invariant.1
 
 pub loop-k-init : goal.loop-k-init
 loop-k-init c = (omega arith, refl)

@@ -28,10 +28,9 @@ positions-preserved c =
 
 pub returns-then-n-q : goal.returns-then-n-q
 returns-then-n-q c =
-    let o = c in
-    let a = o.args in
+    let a = c.args in
     let R = rule_of a.mark.now in
-    let D = dead_further R a.s.now o.requires o.positions.p _ c.next_start-q.ensures o.positions.invariant.1 in
+    let D = dead_further R a.s.now c.requires c.positions.p _ c.next_start-q.ensures c.positions.invariant.1 in
     hand_none R a.s.now (λ q l. D q (omega arith))
 
 pub returns-in-Whole : goal.returns-in-Whole

@@ -46,20 +46,14 @@ returns-then-not-is_summed c =
 
 pub returns : goal.returns
 returns c =
-    let c₆ = c in
-    let c₅ = c₆ in
-    let c₄ = c₅ in
-    let c₃ = c₄ in
-    let c₂ = c₃ in
-    let c₁ = c₂ in
-    let a = c₁.args in
+    let a = c.args in
     record {
       yes = λ e.
-          is_filled a.place.now a.at a.n c₁.if-n-at.false (omega arith) (seen _ c₂.stands_at.ensures c₂.if-not-stands_at.false)
-          (sym c₃.is_stamp.ensures ∙ c₃.if-not-is_stamp.false)
-          c₄.if-place-at-ne1.false
-          (c₅.is_listed.ensures.yes c₅.if-not-is_listed.false)
-          (seen _ c₆.is_summed.ensures c₆.if-not-is_summed.false)
+          is_filled a.place.now a.at a.n c.if-n-at.false (omega arith) (seen _ c.stands_at.ensures c.if-not-stands_at.false)
+          (sym c.is_stamp.ensures ∙ c.if-not-is_stamp.false)
+          c.if-place-at-ne1.false
+          (c.is_listed.ensures.yes c.if-not-is_listed.false)
+          (seen _ c.is_summed.ensures c.if-not-is_summed.false)
           (c.is_zero_from.ensures.found e);
       no = λ F. stood _ c.is_zero_from.ensures F.zeros;
     }

@@ -31,22 +31,17 @@ returns-then-not-stands_at-3 c =
 pub returns : goal.returns
 unfolding fixt
 returns c =
-    let c₅ = c in
-    let c₄ = c₅ in
-    let c₃ = c₄ in
-    let c₂ = c₃ in
-    let c₁ = c₂ in
-    let a = c₁.args in
+    let a = c.args in
     record {
       yes = λ e.
           record {
-            mark = seen _ c₁.stands.ensures c₁.if-not-stands.false;
+            mark = seen _ c.stands.ensures c.if-not-stands.false;
             head = whole_heading a.us.now a.them.now a.place.now
                 (record {
-                  label_49 = seen _ c₂.stands-2.ensures c₂.if-not-stands-2.false;
-                  its_49 = seen _ c₃.stands_at.ensures c₃.if-not-stands_at.false;
-                  label_56 = seen _ c₄.stands_at-2.ensures c₄.if-not-stands_at-2.false;
-                  its_56 = seen _ c₅.stands_at-3.ensures c₅.if-not-stands_at-3.false;
+                  label_49 = seen _ c.stands-2.ensures c.if-not-stands-2.false;
+                  its_49 = seen _ c.stands_at.ensures c.if-not-stands_at.false;
+                  label_56 = seen _ c.stands_at-2.ensures c.if-not-stands_at-2.false;
+                  its_56 = seen _ c.stands_at-3.ensures c.if-not-stands_at-3.false;
                   label_34 = c.stands_at-4.ensures.found e;
                 });
           };

@@ -3,4 +3,4 @@ use Rattle.kept.proofs.Walking.{peeked}
 use Rattle.kept.proofs.peek_number.Goals as goal
 
 pub returns : goal.returns
-returns c = let s = c in peeked s.args.place.now s.args.ids _ _ s.requires.0 c.row-n.ensures
+returns c = peeked c.args.place.now c.args.ids _ _ c.requires.0 c.row-n.ensures

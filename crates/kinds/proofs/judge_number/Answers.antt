@@ -10,18 +10,15 @@ returns-in_default c = sym (ap (range_of _ _) c.in_default.is) ∙ ap (range_of 
 
 pub returns-then-n-least : goal.returns-then-n-least
 returns-then-n-least c =
-    let d = c in
-    let s = d.args in
-    rw (lt-leb _ _ c.if-n-least.true) at (number_read s.least s.most s.v.now d.read_number-read.ensures c.in-Is.is)
+    let s = c.args in
+    rw (lt-leb _ _ c.if-n-least.true) at (number_read s.least s.most s.v.now c.read_number-read.ensures c.in-Is.is)
 
 pub returns-then-most-n : goal.returns-then-most-n
 returns-then-most-n c =
-    let d = c in
-    let s = d.args in
-    rw (le-leb _ _ c.if-n-least.false, lt-leb _ _ c.if-most-n.true) at (number_read s.least s.most s.v.now d.read_number-read.ensures c.in-Is.is)
+    let s = c.args in
+    rw (le-leb _ _ c.if-n-least.false, lt-leb _ _ c.if-most-n.true) at (number_read s.least s.most s.v.now c.read_number-read.ensures c.in-Is.is)
 
 pub returns : goal.returns
 returns c =
-    let d = c in
-    let s = d.args in
-    rw (le-leb _ _ c.if-n-least.false, le-leb _ _ c.if-most-n.false) at (number_read s.least s.most s.v.now d.read_number-read.ensures c.in-Is.is)
+    let s = c.args in
+    rw (le-leb _ _ c.if-n-least.false, le-leb _ _ c.if-most-n.false) at (number_read s.least s.most s.v.now c.read_number-read.ensures c.in-Is.is)

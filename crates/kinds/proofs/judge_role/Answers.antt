@@ -4,11 +4,9 @@ use Rattle.kinds.proofs.judge_role.Goals as goal
 
 pub returns : goal.returns
 returns c =
-    let d = c in
-    let e = d in
-    among_next _ _ _ e.is_one.ensures e.if-is_one.false
-    (among_next _ _ _ e.is_one-2.ensures e.if-is_one-2.false
-    (among_next _ _ _ d.is_two.ensures d.if-is_two.false
+    among_next _ _ _ c.is_one.ensures c.if-is_one.false
+    (among_next _ _ _ c.is_one-2.ensures c.if-is_one-2.false
+    (among_next _ _ _ c.is_two.ensures c.if-is_two.false
     (among_next _ _ _ c.is_two-2.ensures c.if-is_two-2.false
     (among_next _ _ _ c.is_two-3.ensures c.if-is_two-3.false (among_none _)))))
 

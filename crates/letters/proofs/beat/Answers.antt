@@ -22,9 +22,8 @@ slice_bounds-heartbeat-end-2 c = let e : length c.args.r.peer ≡ 11 = search ru
 
 pub returns : goal.returns
 returns c =
-    let s = c in
-    let r = s.args.r in
+    let r = c.args.r in
     let e : length c.args.r.ours ≡ 11 = search rules in
     let f : length c.args.r.peer ≡ 11 = search rules in
-    let w = beat_put r s.requires.0 e f s.args.time (c.utc-stamp.ensures ∙ utc_before _ s.requires.2) s.requires.1 c.heartbeat.ensures in
+    let w = beat_put r c.requires.0 e f c.args.time (c.utc-stamp.ensures ∙ utc_before _ c.requires.2) c.requires.1 c.heartbeat.ensures in
     record { bytes = w.0; room = w.1 }

@@ -5,10 +5,9 @@ use Rattle.letters.proofs.put_both.Goals as goal
 
 pub put-a-requires : goal.put-a-requires
 put-a-requires c =
-    let s = c in
-    let a = s.args in
-    let S = s.requires.n_bound.1 in
-    record { sending = sending_at a.n 0 S S.number (omega (arith, S.room)); all_put = first_put a.body.now a.n a.first a.second s.requires.all_put }
+    let a = c.args in
+    let S = c.requires.n_bound.1 in
+    record { sending = sending_at a.n 0 S S.number (omega (arith, S.room)); all_put = first_put a.body.now a.n a.first a.second c.requires.all_put }
 
 pub returns-then-is_nothing : goal.returns-then-is_nothing
 returns-then-is_nothing c =
@@ -17,10 +16,9 @@ returns-then-is_nothing c =
 
 pub put-requires : goal.put-requires
 put-requires c =
-    let s = c in
-    let a = s.args in
-    let S = s.requires.n_bound.1 in
-    record { sending = sending_at c.next_after-m.result c.put-a.result S (omega arith) (omega (arith, S.room)); all_put = second_put a.body.now a.n a.first a.second c.next_after-m.ensures.is s.requires.all_put }
+    let a = c.args in
+    let S = c.requires.n_bound.1 in
+    record { sending = sending_at c.next_after-m.result c.put-a.result S (omega arith) (omega (arith, S.room)); all_put = second_put a.body.now a.n a.first a.second c.next_after-m.ensures.is c.requires.all_put }
 
 pub returns : goal.returns
 returns c =

@@ -6,10 +6,9 @@ use Rattle.letters.proofs.put_reject.Goals as goal
 
 pub returns-in_default : goal.returns-in_default
 returns-in_default c =
-    let b = c in
     let N = c.number_in-refused.ensures in
-    let e = repeats_none b.args.body.now c.in_default.is c.named_type-place.ensures in
-    let w = was_put b.requires.sending _ c.reject.ensures (is_rejectable (record { numbered = omega arith; tagged = omega arith; typed = omega arith; reasoned = omega arith })) (omega arith) (omega arith) in
+    let e = repeats_none c.args.body.now c.in_default.is c.named_type-place.ensures in
+    let w = was_put c.requires.sending _ c.reject.ensures (is_rejectable (record { numbered = omega arith; tagged = omega arith; typed = omega arith; reasoned = omega arith })) (omega arith) (omega arith) in
     record { bytes = rw (e, ← N.is) w.0; room = omega arith }
 
 pub slice_bounds-v-count : goal.slice_bounds-v-count
@@ -23,8 +22,7 @@ slice_bounds-v-end c = let R = repeats_at c.args.body.now c.in-At.is c.named_typ
 
 pub returns : goal.returns
 returns c =
-    let b = c in
     let N = c.number_in-refused.ensures in
-    let R = repeats_at b.args.body.now c.in-At.is c.named_type-place.ensures in
-    let w = was_put b.requires.sending _ c.reject-2.ensures (is_rejectable (record { numbered = omega arith; tagged = omega arith; typed = R.2; reasoned = omega arith })) (omega arith) (omega arith) in
+    let R = repeats_at c.args.body.now c.in-At.is c.named_type-place.ensures in
+    let w = was_put c.requires.sending _ c.reject-2.ensures (is_rejectable (record { numbered = omega arith; tagged = omega arith; typed = R.2; reasoned = omega arith })) (omega arith) (omega arith) in
     record { bytes = rw (R.3, ← N.is) w.0; room = omega arith }

@@ -7,9 +7,7 @@ use Rattle.message.proofs.Leftward.{left_all, left_more, left_none}
 use Rattle.message.proofs.put_decimal.Goals as goal
 
 pub loop-i-init : goal.loop-i-init
-loop-i-init c =
-    let s = c in
-    (omega arith, (refl, left_all _ s.args.at s.args.n _ c.width-k.ensures))
+loop-i-init c = (omega arith, (refl, left_all _ c.args.at c.args.n _ c.width-k.ensures))
 
 pub loop-i-preserved : goal.loop-i-preserved
 loop-i-preserved c =

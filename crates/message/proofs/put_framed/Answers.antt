@@ -10,23 +10,19 @@ use Rattle.message.proofs.Frames.{framed-length}
 use Rattle.message.proofs.put_framed.Goals as goal
 
 pub slice_bounds-put_frame-end : goal.slice_bounds-put_frame-end
-slice_bounds-put_frame-end c =
-    let s = c in
-    sym (length-take-le s.args.k s.args.body.now s.requires.0)
+slice_bounds-put_frame-end c = sym (length-take-le c.args.k c.args.body.now c.requires.0)
 
 pub put_frame-requires : goal.put_frame-requires
 put_frame-requires c =
-    let s = c in
-    let e = length-take-le s.args.k s.args.body.now s.requires.0 in
-    let d = few_digits 3 s.args.k (omega (arith, s.requires.1)) in
+    let e = length-take-le c.args.k c.args.body.now c.requires.0 in
+    let d = few_digits 3 c.args.k (omega (arith, c.requires.1)) in
     let f = ap (λ (n : ℕ). length (decimal n)) e in
-    (omega (arith, e, s.requires.1), omega (arith, e, f, d, s.requires.2))
+    (omega (arith, e, c.requires.1), omega (arith, e, f, d, c.requires.2))
 
 pub returns : goal.returns
 returns c =
-    let s = c in
-    let e = length-take-le s.args.k s.args.body.now s.requires.0 in
-    let d = few_digits 3 s.args.k (omega (arith, s.requires.1)) in
+    let e = length-take-le c.args.k c.args.body.now c.requires.0 in
+    let d = few_digits 3 c.args.k (omega (arith, c.requires.1)) in
     let f = ap (λ (n : ℕ). length (decimal n)) e in
     let w = c.put_frame.ensures in
-    record { bytes = w; room = omega (arith, w.next, framed-length (take s.args.k s.args.body.now), e, f, d) }
+    record { bytes = w; room = omega (arith, w.next, framed-length (take c.args.k c.args.body.now), e, f, d) }

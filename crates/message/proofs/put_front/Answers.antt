@@ -7,8 +7,4 @@ use Rattle.message.proofs.put_front.Goals as goal
 pub returns : goal.returns
 unfolding fixt
 returns c =
-    let t = c in
-    let r = t in
-    let q = r in
-    let p = q in
-    record { bytes = chain p.put_bytes-a.ensures (chain q.put_decimal-b.ensures (chain r.put_byte-c.ensures t.put_bytes.ensures)); room = omega arith }
+    record { bytes = chain c.put_bytes-a.ensures (chain c.put_decimal-b.ensures (chain c.put_byte-c.ensures c.put_bytes.ensures)); room = omega arith }

@@ -14,9 +14,7 @@ pub loop-k-init : goal.loop-k-init
 loop-k-init c = (omega arith, (refl, refl))
 
 pub bounds-store-at : goal.bounds-store-at
-bounds-store-at c =
-    let a = c in
-    omega (arith, store_is a.args.store.now a.requires.0, c.loop-k.invariant.1.0)
+bounds-store-at c = omega (arith, store_is c.args.store.now c.requires.0, c.loop-k.invariant.1.0)
 
 pub loop-k-preserved : goal.loop-k-preserved
 loop-k-preserved c =
@@ -32,8 +30,7 @@ loop-k-2-init c =
 
 pub bounds-store-at-in-loop-k-2 : goal.bounds-store-at-in-loop-k-2
 bounds-store-at-in-loop-k-2 c =
-    let a = c in
-    omega (arith, store_is a.args.store.now a.requires.0, c.loop-k.invariant.1.0, c.loop-k-2.invariant.1.1.0)
+    omega (arith, store_is c.args.store.now c.requires.0, c.loop-k.invariant.1.0, c.loop-k-2.invariant.1.1.0)
 
 pub loop-k-2-preserved : goal.loop-k-2-preserved
 loop-k-2-preserved c =

@@ -5,5 +5,4 @@ use Rattle.report.proofs.put_own.Goals as goal
 
 pub returns : goal.returns
 returns c =
-    let s = c in
-    own_put s.args.values.now s.args.text.now s.requires.0 (omega arith) c.put_trade-a.ensures.bytes c.put_figures-b.ensures.bytes c.put_instrument-c.ensures.bytes c.put_side-d.ensures.bytes c.put_parties.ensures.bytes
+    own_put c.args.values.now c.args.text.now c.requires.0 (omega arith) c.put_trade-a.ensures.bytes c.put_figures-b.ensures.bytes c.put_instrument-c.ensures.bytes c.put_side-d.ensures.bytes c.put_parties.ensures.bytes

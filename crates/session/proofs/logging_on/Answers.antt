@@ -12,39 +12,32 @@ use Rattle.session.proofs.logging_on.Goals as goal
 
 pub say-left-requires : goal.say-left-requires
 say-left-requires c =
-    let u = c in
-    let a = u.args in
-    let k = logon-clean (session_of a.r) a.body.now u.requires.ready.2 u.requires.ready.3 in
-    let f = waiting_fit a.time (session_of a.r) a.body.now (ample a.r u.requires.ready.0) (λ i. omega (arith, c.shared_slice_known-1.given i)) k.0 k.1 (none_waiting _ (ranged_is _ u.requires.ready.1) u.requires.ready.2) in
+    let a = c.args in
+    let k = logon-clean (session_of a.r) a.body.now c.requires.ready.2 c.requires.ready.3 in
+    let f = waiting_fit a.time (session_of a.r) a.body.now (ample a.r c.requires.ready.0) (λ i. omega (arith, c.shared_slice_known-1.given i)) k.0 k.1 (none_waiting _ (ranged_is _ c.requires.ready.1) c.requires.ready.2) in
     let w = c.settled-p.ensures in
     let e = c.waiting.ensures in
     let p = c.waiting.result in
     let ds = waiting (session_of a.r) a.body.now a.time in
-    record { ready = u.requires.ready.0; in_bounds = (omega (arith, u.requires.in_bounds.0), u.requires.in_bounds.1, settled_fits a.time (session_of a.r) a.body.now p ds w e f, settled_says a.time (session_of a.r) a.body.now p ds w e (waiting-speaks (session_of a.r) a.body.now a.time)) }
+    record { ready = c.requires.ready.0; in_bounds = (omega (arith, c.requires.in_bounds.0), c.requires.in_bounds.1, settled_fits a.time (session_of a.r) a.body.now p ds w e f, settled_says a.time (session_of a.r) a.body.now p ds w e (waiting-speaks (session_of a.r) a.body.now a.time)) }
 
 pub returns-then-not-is_active : goal.returns-then-not-is_active
 returns-then-not-is_active c =
-    let b = c in
-    let u = b in
-    let a = u.args in
-    let l = wait_open a.r a.body.now a.time a.buf.now u.requires.ready.2 u.requires.ready.3
-    (settled_makes a.time (session_of a.r) a.body.now b.waiting.result (waiting (session_of a.r) a.body.now a.time) b.settled-p.ensures b.waiting.ensures a.buf.now) b.say-left.ensures in
-    record { moved = l; stored = unaccepted_stays a.r a.body.now a.store.now u.requires.ready.2 l c.is_active.ensures (ap not c.if-not-is_active.true) }
+    let a = c.args in
+    let l = wait_open a.r a.body.now a.time a.buf.now c.requires.ready.2 c.requires.ready.3
+    (settled_makes a.time (session_of a.r) a.body.now c.waiting.result (waiting (session_of a.r) a.body.now a.time) c.settled-p.ensures c.waiting.ensures a.buf.now) c.say-left.ensures in
+    record { moved = l; stored = unaccepted_stays a.r a.body.now a.store.now c.requires.ready.2 l c.is_active.ensures (ap not c.if-not-is_active.true) }
 
 pub returns-then-not-holds : goal.returns-then-not-holds
 returns-then-not-holds c =
-    let b = c in
-    let u = b in
-    let a = u.args in
-    let l = wait_open a.r a.body.now a.time a.buf.now u.requires.ready.2 u.requires.ready.3
-    (settled_makes a.time (session_of a.r) a.body.now b.waiting.result (waiting (session_of a.r) a.body.now a.time) b.settled-p.ensures b.waiting.ensures a.buf.now) b.say-left.ensures in
-    record { moved = l; stored = unasked_stays a.r a.body.now a.store.now u.requires.ready.2 l c.is_active.ensures (ap not c.if-not-is_active.false) c.holds.ensures (ap not c.if-not-holds.true) }
+    let a = c.args in
+    let l = wait_open a.r a.body.now a.time a.buf.now c.requires.ready.2 c.requires.ready.3
+    (settled_makes a.time (session_of a.r) a.body.now c.waiting.result (waiting (session_of a.r) a.body.now a.time) c.settled-p.ensures c.waiting.ensures a.buf.now) c.say-left.ensures in
+    record { moved = l; stored = unasked_stays a.r a.body.now a.store.now c.requires.ready.2 l c.is_active.ensures (ap not c.if-not-is_active.false) c.holds.ensures (ap not c.if-not-holds.true) }
 
 pub returns : goal.returns
 returns c =
-    let b = c in
-    let u = b in
-    let a = u.args in
-    let l = wait_open a.r a.body.now a.time a.buf.now u.requires.ready.2 u.requires.ready.3
-    (settled_makes a.time (session_of a.r) a.body.now b.waiting.result (waiting (session_of a.r) a.body.now a.time) b.settled-p.ensures b.waiting.ensures a.buf.now) b.say-left.ensures in
-    record { moved = l; stored = asked_zeroes a.r a.body.now a.store.now u.requires.ready.2 l c.is_active.ensures (ap not c.if-not-is_active.false) c.holds.ensures (ap not c.if-not-holds.false) c.zero_store.ensures }
+    let a = c.args in
+    let l = wait_open a.r a.body.now a.time a.buf.now c.requires.ready.2 c.requires.ready.3
+    (settled_makes a.time (session_of a.r) a.body.now c.waiting.result (waiting (session_of a.r) a.body.now a.time) c.settled-p.ensures c.waiting.ensures a.buf.now) c.say-left.ensures in
+    record { moved = l; stored = asked_zeroes a.r a.body.now a.store.now c.requires.ready.2 l c.is_active.ensures (ap not c.if-not-is_active.false) c.holds.ensures (ap not c.if-not-holds.false) c.zero_store.ensures }

@@ -15,16 +15,14 @@ use Rattle.session.proofs.moving.Goals as goal
 
 pub logging_on-requires : goal.logging_on-requires
 logging_on-requires c =
-    let u = c in
     let st = c.in-Waiting.is in
-    record { ready = (u.requires.ready.0, u.requires.ready.1, st, let_in (session_of u.args.r) u.args.body.now st c.logon_gate-gate.ensures c.in-Open.is); in_bounds = u.requires.in_bounds }
+    record { ready = (c.requires.ready.0, c.requires.ready.1, st, let_in (session_of c.args.r) c.args.body.now st c.logon_gate-gate.ensures c.in-Open.is); in_bounds = c.requires.in_bounds }
 
 pub play-requires : goal.play-requires
 play-requires c =
-    let u = c in
-    let a = u.args in
-    let f = active_fit a.time (session_of a.r) a.body.now (ample a.r u.requires.ready.0) (λ i. omega (arith, c.shared_slice_known-1.given i)) c.in-Active.is in
-    record { ready = u.requires.ready.0; in_bounds = (omega (arith, u.requires.in_bounds.0), u.requires.in_bounds.1, settled_fits a.time (session_of a.r) a.body.now c.active.result (active (session_of a.r) a.body.now a.time) c.settled-p.ensures c.active.ensures f) }
+    let a = c.args in
+    let f = active_fit a.time (session_of a.r) a.body.now (ample a.r c.requires.ready.0) (λ i. omega (arith, c.shared_slice_known-1.given i)) c.in-Active.is in
+    record { ready = c.requires.ready.0; in_bounds = (omega (arith, c.requires.in_bounds.0), c.requires.in_bounds.1, settled_fits a.time (session_of a.r) a.body.now c.active.result (active (session_of a.r) a.body.now a.time) c.settled-p.ensures c.active.ensures f) }
 
 pub returns-in-Shut : goal.returns-in-Shut
 returns-in-Shut c =
@@ -40,6 +38,4 @@ returns-in-Active c =
     record { moved = act a.r a.body.now a.time a.buf.now st w c.play.ensures; stored = awake_stays (session_of a.r) a.body.now _ a.store.now Active refl st }
 
 pub returns-in-Closed : goal.returns-in-Closed
-returns-in-Closed c =
-    let u = c in
-    absurd (false≢true (sym u.requires.ready.2 ∙ ap (λ (x : Status). x equals Closed) c.in-Closed.is))
+returns-in-Closed c = absurd (false≢true (sym c.requires.ready.2 ∙ ap (λ (x : Status). x equals Closed) c.in-Closed.is))

@@ -16,10 +16,9 @@ moving-requires c =
 
 pub returns-in-Shut : goal.returns-in-Shut
 returns-in-Shut c =
-    let b = c in
-    let a = b.args in
-    let o = framed_is _ _ (λ i. omega (arith, b.shared_slice_known-1.given i)) b.body_of-body.ensures in
-    let e = step_refused (session_of a.r) a.frame.now a.buf.now a.store.now a.time b.is_store.ensures o b.step_gate-gate.ensures c.in-Shut.is in
+    let a = c.args in
+    let o = framed_is _ _ (λ i. omega (arith, c.shared_slice_known-1.given i)) c.body_of-body.ensures in
+    let e = step_refused (session_of a.r) a.frame.now a.buf.now a.store.now a.time c.is_store.ensures o c.step_gate-gate.ensures c.in-Shut.is in
     record {
       leaves = made_by a.r (sym e) (record { answered = c.refused.ensures; buffer = refl });
       stored = after_as (session_of a.r) a.frame.now a.time a.buf.now a.store.now refl e (refusal_stays (session_of a.r) _ a.buf.now a.store.now refl);
@@ -27,13 +26,12 @@ returns-in-Shut c =
 
 pub returns-in-Open : goal.returns-in-Open
 returns-in-Open c =
-    let b = c in
-    let a = b.args in
-    let o = framed_is _ _ (λ i. omega (arith, b.shared_slice_known-1.given i)) b.body_of-body.ensures in
+    let a = c.args in
+    let o = framed_is _ _ (λ i. omega (arith, c.shared_slice_known-1.given i)) c.body_of-body.ensures in
     let q = c.in-Open.is in
-    let P = passes (session_of a.r) _ _ _ _ (sym b.step_gate-gate.ensures ∙ ap shut q) in
-    let i = body_in_lem _ _ (λ i. omega (arith, b.shared_slice_known-1.given i)) b.body_of-body.ensures (sym o ∙ P.framed) in
-    let e = step_moves (session_of a.r) a.frame.now a.buf.now a.store.now a.time b.is_store.ensures o b.step_gate-gate.ensures i q in
+    let P = passes (session_of a.r) _ _ _ _ (sym c.step_gate-gate.ensures ∙ ap shut q) in
+    let i = body_in_lem _ _ (λ i. omega (arith, c.shared_slice_known-1.given i)) c.body_of-body.ensures (sym o ∙ P.framed) in
+    let e = step_moves (session_of a.r) a.frame.now a.buf.now a.store.now a.time c.is_store.ensures o c.step_gate-gate.ensures i q in
     record {
       leaves = made_by a.r (sym e) c.moving.ensures.moved;
       stored = after_as (session_of a.r) a.frame.now a.time a.buf.now a.store.now i e c.moving.ensures.stored;

@@ -11,10 +11,8 @@ returns-then-judge-ne0 c = not_time _ (λ e. c.if-judge-ne0.true (c.judge.ensure
 
 pub returns-then-v-lt49 : goal.returns-then-v-lt49
 returns-then-v-lt49 c =
-    let d = c in
-    before_1000 _ d.if-v-ne24.false (sym (d.judge.ensures ∙ time-judged _) ∙ d.if-judge-ne0.false) c.if-v-lt49.true
+    before_1000 _ c.if-v-ne24.false (sym (c.judge.ensures ∙ time-judged _) ∙ c.if-judge-ne0.false) c.if-v-lt49.true
 
 pub returns-then-v-lt57 : goal.returns-then-v-lt57
 returns-then-v-lt57 c =
-    let d = c in
-    before_1900 _ d.if-v-ne24.false (sym (d.judge.ensures ∙ time-judged _) ∙ d.if-judge-ne0.false) c.if-v-ge50.false c.if-v-lt57.true
+    before_1900 _ c.if-v-ne24.false (sym (c.judge.ensures ∙ time-judged _) ∙ c.if-judge-ne0.false) c.if-v-ge50.false c.if-v-lt57.true

@@ -14,7 +14,7 @@ pub slice_bounds-kept_number-end : goal.slice_bounds-kept_number-end
 slice_bounds-kept_number-end c = let e = store_is _ c.requires.0 in omega (arith, e)
 
 pub kept_number-n-requires : goal.kept_number-n-requires
-kept_number-n-requires c = let s = c in (slice-length _ _ s.requires.0 c.loop-i-test.true, s.requires.1, s.requires.2)
+kept_number-n-requires c = (slice-length _ _ c.requires.0 c.loop-i-test.true, c.requires.1, c.requires.2)
 
 pub returns-then-n-eq0 : goal.returns-then-n-eq0
 returns-then-n-eq0 c =

@@ -11,26 +11,23 @@ loop-i-init c = (omega arith, refl)
 
 pub returns-then-numbers-i : goal.returns-then-numbers-i
 returns-then-numbers-i c =
-    let s = c in
     let l = c.loop-i in
     let t = c.loop-i-test.true in
-    let n = length-take-le s.args.n s.args.numbers.now (omega (arith, s.requires.0, s.requires.1)) in
-    sym (l.invariant.1 ∙ has_here (take s.args.n s.args.numbers.now) l.i s.args.x (omega (arith, n)) (get_or-take s.args.n s.args.numbers.now l.i 0 t ∙ c.if-numbers-i.true))
+    let n = length-take-le c.args.n c.args.numbers.now (omega (arith, c.requires.0, c.requires.1)) in
+    sym (l.invariant.1 ∙ has_here (take c.args.n c.args.numbers.now) l.i c.args.x (omega (arith, n)) (get_or-take c.args.n c.args.numbers.now l.i 0 t ∙ c.if-numbers-i.true))
 
 pub loop-i-preserved : goal.loop-i-preserved
 loop-i-preserved c =
-    let s = c in
     let l = c.loop-i in
     let t = c.loop-i-test.true in
-    let n = length-take-le s.args.n s.args.numbers.now (omega (arith, s.requires.0, s.requires.1)) in (
+    let n = length-take-le c.args.n c.args.numbers.now (omega (arith, c.requires.0, c.requires.1)) in (
       omega arith,
       l.invariant.1
-          ∙ has_next (take s.args.n s.args.numbers.now) l.i s.args.x (omega (arith, n)) (λ e. c.if-numbers-i.false (sym (get_or-take s.args.n s.args.numbers.now l.i 0 t) ∙ e)),
+          ∙ has_next (take c.args.n c.args.numbers.now) l.i c.args.x (omega (arith, n)) (λ e. c.if-numbers-i.false (sym (get_or-take c.args.n c.args.numbers.now l.i 0 t) ∙ e)),
     )
 
 pub returns : goal.returns
 returns c =
-    let s = c in
     let l = c.loop-i in
-    let n = length-take-le s.args.n s.args.numbers.now (omega (arith, s.requires.0, s.requires.1)) in
-    sym (l.invariant.1 ∙ has_end (take s.args.n s.args.numbers.now) l.i s.args.x (omega (arith, n)))
+    let n = length-take-le c.args.n c.args.numbers.now (omega (arith, c.requires.0, c.requires.1)) in
+    sym (l.invariant.1 ∙ has_end (take c.args.n c.args.numbers.now) l.i c.args.x (omega (arith, n)))

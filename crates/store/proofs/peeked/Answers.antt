@@ -13,7 +13,7 @@ pub slice_bounds-peek_number-end : goal.slice_bounds-peek_number-end
 slice_bounds-peek_number-end c = let e = store_is _ c.requires.0 in omega (arith, e)
 
 pub peek_number-n-requires : goal.peek_number-n-requires
-peek_number-n-requires c = let s = c in (slice-length _ _ s.requires.0 c.loop-i-test.true, s.requires.1)
+peek_number-n-requires c = (slice-length _ _ c.requires.0 c.loop-i-test.true, c.requires.1)
 
 pub loop-i-preserved : goal.loop-i-preserved
 loop-i-preserved c =

@@ -14,22 +14,20 @@ bounds-alone-i c = let e = c.requires.4.long in omega (arith, e, c.loop-i-test.t
 
 pub loop-i-preserved-then-alone-i : goal.loop-i-preserved-then-alone-i
 loop-i-preserved-then-alone-i c =
-    let s = c in
     let l = c.loop-i in
-    let P = s.requires.4.each l.i c.loop-i-test.true in
-    (omega arith, below_more _ l.i l.invariant.1 (peeked_other _ _ _ _ _ P s.requires.3 c.if-alone-i.true))
+    let P = c.requires.4.each l.i c.loop-i-test.true in
+    (omega arith, below_more _ l.i l.invariant.1 (peeked_other _ _ _ _ _ P c.requires.3 c.if-alone-i.true))
 
 pub slice_bounds-kept_number-end : goal.slice_bounds-kept_number-end
 slice_bounds-kept_number-end c = let e = store_is _ c.requires.0 in omega (arith, e, c.loop-i-test.true)
 
 pub kept_number-requires : goal.kept_number-requires
-kept_number-requires c = let s = c in (slice-length _ _ s.requires.0 c.loop-i-test.true, s.requires.1, s.requires.2)
+kept_number-requires c = (slice-length _ _ c.requires.0 c.loop-i-test.true, c.requires.1, c.requires.2)
 
 pub returns-then-kept_number-n : goal.returns-then-kept_number-n
 returns-then-kept_number-n c =
-    let s = c in
     let l = c.loop-i in
-    stands_at _ _ _ _ l.i s.requires.3 l.invariant.0 l.invariant.1 (λ h. is_there _ _ _ l.i _ _ h c.kept_number.ensures c.if-kept_number-n.true)
+    stands_at _ _ _ _ l.i c.requires.3 l.invariant.0 l.invariant.1 (λ h. is_there _ _ _ l.i _ _ h c.kept_number.ensures c.if-kept_number-n.true)
 
 pub loop-i-preserved : goal.loop-i-preserved
 loop-i-preserved c =
@@ -39,7 +37,6 @@ loop-i-preserved c =
 
 pub returns : goal.returns
 returns c =
-    let s = c in
     let l = c.loop-i in
     let e : 64 ≡ l.i = omega arith in
-    stands_at _ _ _ _ 64 s.requires.3 (omega arith) (λ j h. l.invariant.1 j (omega (arith, h, e))) (λ h. absurd (omega (arith, h)))
+    stands_at _ _ _ _ 64 c.requires.3 (omega arith) (λ j h. l.invariant.1 j (omega (arith, h, e))) (λ h. absurd (omega (arith, h)))

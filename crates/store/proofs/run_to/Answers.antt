@@ -13,37 +13,33 @@ bounds-alone-i c = let e = c.requires.3.long in omega (arith, e, c.loop-i-test.t
 
 pub loop-i-preserved-then-n-at : goal.loop-i-preserved-then-n-at
 loop-i-preserved-then-n-at c =
-    let s = c in
     let l = c.loop-i in
     let t = c.loop-i-test.true in
-    (omega arith, run_past s.args.us.now s.args.them.now s.args.store.now s.args.at s.args.end l.e _ l.i t l.invariant.1 (run_low _ _ _ _ _ _ (peeked_at _ _ _ l.i s.requires.3 t) c.if-n-at.true))
+    (omega arith, run_past c.args.us.now c.args.them.now c.args.store.now c.args.at c.args.end l.e _ l.i t l.invariant.1 (run_low _ _ _ _ _ _ (peeked_at _ _ _ l.i c.requires.3 t) c.if-n-at.true))
 
 pub loop-i-preserved-then-e-n : goal.loop-i-preserved-then-e-n
 loop-i-preserved-then-e-n c =
-    let s = c in
     let l = c.loop-i in
     let t = c.loop-i-test.true in
-    (omega arith, run_past s.args.us.now s.args.them.now s.args.store.now s.args.at s.args.end l.e _ l.i t l.invariant.1 (run_high _ _ _ _ _ _ (peeked_at _ _ _ l.i s.requires.3 t) c.if-e-n.true))
+    (omega arith, run_past c.args.us.now c.args.them.now c.args.store.now c.args.at c.args.end l.e _ l.i t l.invariant.1 (run_high _ _ _ _ _ _ (peeked_at _ _ _ l.i c.requires.3 t) c.if-e-n.true))
 
 pub slice_bounds-kept_number-end : goal.slice_bounds-kept_number-end
 slice_bounds-kept_number-end c = let e = store_is _ c.requires.0 in omega (arith, e, c.loop-i-test.true)
 
 pub kept_number-requires : goal.kept_number-requires
-kept_number-requires c = let s = c in (slice-length _ _ s.requires.0 c.loop-i-test.true, s.requires.1, s.requires.2)
+kept_number-requires c = (slice-length _ _ c.requires.0 c.loop-i-test.true, c.requires.1, c.requires.2)
 
 pub loop-i-preserved-then-kept_number-n : goal.loop-i-preserved-then-kept_number-n
 loop-i-preserved-then-kept_number-n c =
-    let s = c in
     let l = c.loop-i in
     let t = c.loop-i-test.true in
-    (omega arith, run_past s.args.us.now s.args.them.now s.args.store.now s.args.at s.args.end l.e _ l.i t l.invariant.1 (run_not _ _ _ _ _ _ _ (peeked_at _ _ _ l.i s.requires.3 t) c.kept_number.ensures c.if-kept_number-n.true))
+    (omega arith, run_past c.args.us.now c.args.them.now c.args.store.now c.args.at c.args.end l.e _ l.i t l.invariant.1 (run_not _ _ _ _ _ _ _ (peeked_at _ _ _ l.i c.requires.3 t) c.kept_number.ensures c.if-kept_number-n.true))
 
 pub loop-i-preserved : goal.loop-i-preserved
 loop-i-preserved c =
-    let s = c in
     let l = c.loop-i in
     let t = c.loop-i-test.true in
-    (omega arith, run_past s.args.us.now s.args.them.now s.args.store.now s.args.at s.args.end l.e _ l.i t l.invariant.1 (run_ends _ _ _ _ _ _ _ c.kept_number.ensures c.if-kept_number-n.false c.if-n-at.false c.if-e-n.false))
+    (omega arith, run_past c.args.us.now c.args.them.now c.args.store.now c.args.at c.args.end l.e _ l.i t l.invariant.1 (run_ends _ _ _ _ _ _ _ c.kept_number.ensures c.if-kept_number-n.false c.if-n-at.false c.if-e-n.false))
 
 pub returns : goal.returns
 returns c =

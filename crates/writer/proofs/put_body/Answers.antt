@@ -8,18 +8,13 @@ use Rattle.writer.proofs.Calls.{body_put}
 use Rattle.writer.proofs.put_body.Goals as goal
 
 pub put_text-at-requires : goal.put_text-at-requires
-put_text-at-requires c =
-    let s = c in
-    (omega arith, omega (arith, ap length s.requires.1, one_byte s.args.m s.requires.0))
+put_text-at-requires c = (omega arith, omega (arith, ap length c.requires.1, one_byte c.args.m c.requires.0))
 
 pub put_values-requires : goal.put_values-requires
-put_values-requires c =
-    let s = c in
-    (s.requires.0, omega (arith, ap length s.requires.1, one_byte s.args.m s.requires.0))
+put_values-requires c = (c.requires.0, omega (arith, ap length c.requires.1, one_byte c.args.m c.requires.0))
 
 pub returns : goal.returns
 returns c =
-    let s = c in
     let p = c.put_values in
     let t = c.put_text-at in
-    body_put s.args.m s.requires.0 (value_in s.args.values s.args.text.now) s.args.code.now s.args.body.now t.new.buf p.new.buf t.result s.requires.1 t.ensures.bytes p.result p.ensures
+    body_put c.args.m c.requires.0 (value_in c.args.values c.args.text.now) c.args.code.now c.args.body.now t.new.buf p.new.buf t.result c.requires.1 t.ensures.bytes p.result p.ensures

@@ -5,14 +5,11 @@ use Rattle.border.proofs.Records.{fresh_length, fresh_words}
 use Rattle.border.proofs.record.save_new.Goals as goal
 
 pub save-requires : goal.save-requires
-save-requires c = let s = c in fresh_length s.args.words.now _ s.requires.0 c.zero.ensures
+save-requires c = fresh_length c.args.words.now _ c.requires.0 c.zero.ensures
 
 pub shape_of-words : goal.shape_of-words
 shape_of-words c =
-    let s = c in
-    ap length (fresh_words s.args.words.now _ s.requires.0 c.zero.ensures s.args.r c.save.ensures) ∙ sym s.requires.0
+    ap length (fresh_words c.args.words.now _ c.requires.0 c.zero.ensures c.args.r c.save.ensures) ∙ sym c.requires.0
 
 pub returns : goal.returns
-returns c =
-    let s = c in
-    (c.comp_ids.ensures, fresh_words s.args.words.now _ s.requires.0 c.zero.ensures s.args.r c.save.ensures)
+returns c = (c.comp_ids.ensures, fresh_words c.args.words.now _ c.requires.0 c.zero.ensures c.args.r c.save.ensures)

@@ -13,6 +13,4 @@ pub overflow_add-result-4 : goal.overflow_add-result-4
 overflow_add-result-4 c = omega (arith, year_fits c.args.d _ _ _ c.requires c.split-b.ensures.few c.split-b.ensures.short c.split-e.ensures.few)
 
 pub returns : goal.returns
-returns c =
-    let s = c in
-    year_found s.args.d _ _ _ _ s.requires c.split-b.ensures c.split-e.ensures
+returns c = year_found c.args.d _ _ _ _ c.requires c.split-b.ensures c.split-e.ensures

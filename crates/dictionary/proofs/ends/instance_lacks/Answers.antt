@@ -14,8 +14,7 @@ returns-then-place-eq-TAGS c = record { is = one_began c.if-st-eq0.false (lacks_
 
 pub returns : goal.returns
 returns c =
-    let l = c in
-    record { is = one_began l.if-st-eq0.false (lacks_one l.lacking_member-place.ensures c.if-place-eq-TAGS.false (ap (λ (t : ℕ). Reason 1 t) c.tag_at.ensures)) }
+    record { is = one_began c.if-st-eq0.false (lacks_one c.lacking_member-place.ensures c.if-place-eq-TAGS.false (ap (λ (t : ℕ). Reason 1 t) c.tag_at.ensures)) }
 
 pub tag_at-requires : goal.tag_at-requires
 tag_at-requires c = lacks_small c.lacking_member-place.ensures c.if-place-eq-TAGS.false

@@ -14,10 +14,7 @@ lacks_tag-requires-then-own-ne-TAGS c = lacks_small c.lacking_own-own.ensures c.
 
 pub returns-then-own-ne-TAGS : goal.returns-then-own-ne-TAGS
 returns-then-own-ne-TAGS c =
-    let o = c in
-    lacks_own o.lacking_header-header.ensures o.if-header-ne-TAGS.false o.lacking_own-own.ensures c.if-own-ne-TAGS.true c.lacks_tag-then-own-ne-TAGS.ensures
+    lacks_own c.lacking_header-header.ensures c.if-header-ne-TAGS.false c.lacking_own-own.ensures c.if-own-ne-TAGS.true c.lacks_tag-then-own-ne-TAGS.ensures
 
 pub returns : goal.returns
-returns c =
-    let o = c in
-    lacks_none o.lacking_header-header.ensures o.if-header-ne-TAGS.false o.lacking_own-own.ensures c.if-own-ne-TAGS.false
+returns c = lacks_none c.lacking_header-header.ensures c.if-header-ne-TAGS.false c.lacking_own-own.ensures c.if-own-ne-TAGS.false

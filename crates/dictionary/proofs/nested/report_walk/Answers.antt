@@ -11,109 +11,67 @@ pub loop-item-init : goal.loop-item-init
 loop-item-init c = starts c.item_at-item.ensures
 
 pub returns-in_default : goal.returns-in_default
-returns-in_default c =
-    let a = c in
-    ended_stops a.loop-item.invariant c.in_default.not-Field (c.report_ends.ensures.is _)
+returns-in_default c = ended_stops c.loop-item.invariant c.in_default.not-Field (c.report_ends.ensures.is _)
 
 pub place_in-p-requires : goal.place_in-p-requires
-place_in-p-requires c =
-    let a = c in
-    a.requires.1
+place_in-p-requires c = c.requires.1
 
 pub bounds-t-p : goal.bounds-t-p
 bounds-t-p c = c.place_in-p.ensures.small
 
 pub returns-then-e-tag : goal.returns-then-e-tag
 returns-then-e-tag c =
-    let p = c in
-    let a = p in
-    unknown_stops a.loop-item.invariant p.in-Field.is (no_place _ a.table-t.ensures p.place_in-p.ensures (λ t. c.if-e-tag.true (ap (λ (e : Entry). e.tag) c.entry_of-e.ensures ∙ t)))
+    unknown_stops c.loop-item.invariant c.in-Field.is (no_place _ c.table-t.ensures c.place_in-p.ensures (λ t. c.if-e-tag.true (ap (λ (e : Entry). e.tag) c.entry_of-e.ensures ∙ t)))
 
 pub slice_bounds-of_own-count : goal.slice_bounds-of_own-count
-slice_bounds-of_own-count c =
-    let p = c in
-    let a = p in
-    omega (arith, field_lies a.loop-item.invariant.cut p.in-Field.is)
+slice_bounds-of_own-count c = omega (arith, field_lies c.loop-item.invariant.cut c.in-Field.is)
 
 pub slice_bounds-of_own-start : goal.slice_bounds-of_own-start
-slice_bounds-of_own-start c =
-    let p = c in
-    let a = p in
-    omega (arith, field_lies a.loop-item.invariant.cut p.in-Field.is)
+slice_bounds-of_own-start c = omega (arith, field_lies c.loop-item.invariant.cut c.in-Field.is)
 
 pub slice_bounds-of_own-end : goal.slice_bounds-of_own-end
-slice_bounds-of_own-end c =
-    let p = c in
-    let a = p in
-    omega (arith, field_lies a.loop-item.invariant.cut p.in-Field.is)
+slice_bounds-of_own-end c = omega (arith, field_lies c.loop-item.invariant.cut c.in-Field.is)
 
 pub of_own-said-requires : goal.of_own-said-requires
-of_own-said-requires c =
-    let p = c in
-    let a = p in
-    line_looked _ a.table-t.ensures p.place_in-p.ensures.small c.entry_of-e.ensures
+of_own-said-requires c = line_looked _ c.table-t.ensures c.place_in-p.ensures.small c.entry_of-e.ensures
 
 pub returns-in_default-said : goal.returns-in_default-said
 returns-in_default-said c =
-    let p = c in
-    let a = p in
-    let F = the_field (line_looked _ a.table-t.ensures p.place_in-p.ensures.small c.entry_of-e.ensures) p.in-Field.is c.if-e-tag.false in
-    top_faults a.loop-item.invariant F c.of_own-said.ensures c.in_default-said.is c.finding.ensures
+    let F = the_field (line_looked _ c.table-t.ensures c.place_in-p.ensures.small c.entry_of-e.ensures) c.in-Field.is c.if-e-tag.false in
+    top_faults c.loop-item.invariant F c.of_own-said.ensures c.in_default-said.is c.finding.ensures
 
 pub bounds-seen-p : goal.bounds-seen-p
-bounds-seen-p c =
-    let p = c in
-    omega (arith, p.place_in-p.ensures.small)
+bounds-seen-p c = omega (arith, c.place_in-p.ensures.small)
 
 pub over_with-over-requires : goal.over_with-over-requires
-over_with-over-requires c =
-    let p = c in
-    let a = p in
-    (line_looked _ a.table-t.ensures p.place_in-p.ensures.small c.entry_of-e.ensures).right
+over_with-over-requires c = (line_looked _ c.table-t.ensures c.place_in-p.ensures.small c.entry_of-e.ensures).right
 
 pub slice_bounds-behind-count : goal.slice_bounds-behind-count
-slice_bounds-behind-count c =
-    let p = c in
-    let a = p in
-    omega (arith, field_lies a.loop-item.invariant.cut p.in-Field.is)
+slice_bounds-behind-count c = omega (arith, field_lies c.loop-item.invariant.cut c.in-Field.is)
 
 pub slice_bounds-behind-start : goal.slice_bounds-behind-start
-slice_bounds-behind-start c =
-    let p = c in
-    let a = p in
-    omega (arith, field_lies a.loop-item.invariant.cut p.in-Field.is)
+slice_bounds-behind-start c = omega (arith, field_lies c.loop-item.invariant.cut c.in-Field.is)
 
 pub slice_bounds-behind-end : goal.slice_bounds-behind-end
-slice_bounds-behind-end c =
-    let p = c in
-    let a = p in
-    omega (arith, field_lies a.loop-item.invariant.cut p.in-Field.is)
+slice_bounds-behind-end c = omega (arith, field_lies c.loop-item.invariant.cut c.in-Field.is)
 
 pub behind-requires : goal.behind-requires
 behind-requires c =
-    let p = c in
-    let a = p in
-    ((line_looked _ a.table-t.ensures p.place_in-p.ensures.small c.entry_of-e.ensures).right, a.requires.0, omega (arith, field_lies a.loop-item.invariant.cut p.in-Field.is))
+    ((line_looked _ c.table-t.ensures c.place_in-p.ensures.small c.entry_of-e.ensures).right, c.requires.0, omega (arith, field_lies c.loop-item.invariant.cut c.in-Field.is))
 
 pub returns-in-Found : goal.returns-in-Found
 returns-in-Found c =
-    let p = c in
-    let a = p in
-    let F = the_field (line_looked _ a.table-t.ensures p.place_in-p.ensures.small c.entry_of-e.ensures) p.in-Field.is c.if-e-tag.false in
-    behind_faults a.loop-item.invariant F c.of_own-said.ensures c.in-Nothing.is c.behind.ensures c.in-Found.is
+    let F = the_field (line_looked _ c.table-t.ensures c.place_in-p.ensures.small c.entry_of-e.ensures) c.in-Field.is c.if-e-tag.false in
+    behind_faults c.loop-item.invariant F c.of_own-said.ensures c.in-Nothing.is c.behind.ensures c.in-Found.is
 
 pub loop-item-smaller : goal.loop-item-smaller
 loop-item-smaller c =
-    let p = c in
-    let a = p in
-    let A = a.loop-item.invariant in
-    let F = the_field (line_looked _ a.table-t.ensures p.place_in-p.ensures.small c.entry_of-e.ensures) p.in-Field.is c.if-e-tag.false in
+    let A = c.loop-item.invariant in
+    let F = the_field (line_looked _ c.table-t.ensures c.place_in-p.ensures.small c.entry_of-e.ensures) c.in-Field.is c.if-e-tag.false in
     let g = behind_lies A F c.of_own-said.ensures c.in-Nothing.is c.behind.ensures c.in-To.is in
     omega (arith, field_here A F, g.0)
 
 pub loop-item-preserved : goal.loop-item-preserved
 loop-item-preserved c =
-    let p = c in
-    let a = p in
-    let F = the_field (line_looked _ a.table-t.ensures p.place_in-p.ensures.small c.entry_of-e.ensures) p.in-Field.is c.if-e-tag.false in
-    behind_again a.loop-item.invariant F c.of_own-said.ensures c.in-Nothing.is c.behind.ensures c.over_with-over.ensures c.in-To.is
+    let F = the_field (line_looked _ c.table-t.ensures c.place_in-p.ensures.small c.entry_of-e.ensures) c.in-Field.is c.if-e-tag.false in
+    behind_again c.loop-item.invariant F c.of_own-said.ensures c.in-Nothing.is c.behind.ensures c.over_with-over.ensures c.in-To.is

@@ -6,23 +6,21 @@ use Rattle.dictionary.proofs.rules.is_usual.Goals as goal
 
 pub returns-then-not-st : goal.returns-then-not-st
 returns-then-not-st c h =
-    let a = c in
     record {
-      some = a.if-empty.false;
-      away = a.if-st-ne0.false;
-      own = sym a.is_in.ensures ∙ a.if-not-is_in.false;
-      new = a.if-again.false;
+      some = c.if-empty.false;
+      away = c.if-st-ne0.false;
+      own = sym c.is_in.ensures ∙ c.if-not-is_in.false;
+      new = c.if-again.false;
       timely = λ o. absurd (false≢true (sym (not-true _ c.if-not-st.true) ∙ o));
     }
 
 pub returns : goal.returns
 returns c h =
-    let a = c in
     record {
-      some = a.if-empty.false;
-      away = a.if-st-ne0.false;
-      own = sym a.is_in.ensures ∙ a.if-not-is_in.false;
-      new = a.if-again.false;
+      some = c.if-empty.false;
+      away = c.if-st-ne0.false;
+      own = sym c.is_in.ensures ∙ c.if-not-is_in.false;
+      new = c.if-again.false;
       timely = λ o. sym c.bit.ensures ∙ not-true _ h;
     }
 

@@ -8,16 +8,14 @@ returns-in_default c = record { is = λ w v S n. said_unknown _ w _ v _ (unknown
 
 pub returns-then-is_administrative : goal.returns-then-is_administrative
 returns-then-is_administrative c =
-    let a = c in
     record {
       is = λ w v S n. said_unknown _ w _ v _ (unknown_tag _ n)
-          (passes (a.rule_1-r1.ensures.is w.inside _ S (unknown_belongs _ n v)) a.in-Nothing.is (record { is = rw (sym a.is_administrative.ensures ∙ c.if-is_administrative.true) }));
+          (passes (c.rule_1-r1.ensures.is w.inside _ S (unknown_belongs _ n v)) c.in-Nothing.is (record { is = rw (sym c.is_administrative.ensures ∙ c.if-is_administrative.true) }));
     }
 
 pub returns : goal.returns
 returns c =
-    let a = c in
     record {
       is = λ w v S n. said_unknown _ w _ v _ (unknown_tag _ n)
-          (passes (a.rule_1-r1.ensures.is w.inside _ S (unknown_belongs _ n v)) a.in-Nothing.is (record { is = rw (sym a.is_administrative.ensures ∙ c.if-is_administrative.false) }));
+          (passes (c.rule_1-r1.ensures.is w.inside _ S (unknown_belongs _ n v)) c.in-Nothing.is (record { is = rw (sym c.is_administrative.ensures ∙ c.if-is_administrative.false) }));
     }

@@ -12,28 +12,18 @@ pub type_at_front-requires : goal.type_at_front-requires
 type_at_front-requires c = sym c.is_body.ensures ∙ c.if-not-is_body.false
 
 pub returns-in_default : goal.returns-in_default
-returns-in_default c =
-    let f = c in
-    verdict_other _ (sym f.is_body.ensures ∙ f.if-not-is_body.false) f.type_at_front.ensures c.in_default.is
+returns-in_default c = verdict_other _ (sym c.is_body.ensures ∙ c.if-not-is_body.false) c.type_at_front.ensures c.in_default.is
 
 pub report_walk-requires : goal.report_walk-requires
-report_walk-requires c =
-    let b = c in
-    ((is_body_lem _ (sym b.is_body.ensures ∙ b.if-not-is_body.false)).most, c.slots-places.ensures)
+report_walk-requires c = ((is_body_lem _ (sym c.is_body.ensures ∙ c.if-not-is_body.false)).most, c.slots-places.ensures)
 
 pub returns-then-is_report : goal.returns-then-is_report
 returns-then-is_report c =
-    let m = c in
-    let f = m in
-    verdict_walked _ (sym f.is_body.ensures ∙ f.if-not-is_body.false) f.type_at_front.ensures (m.in-Of.is ∙ ap Of (report_is _ (sym c.is_report.ensures ∙ c.if-is_report.true))) c.report_walk.ensures
+    verdict_walked _ (sym c.is_body.ensures ∙ c.if-not-is_body.false) c.type_at_front.ensures (c.in-Of.is ∙ ap Of (report_is _ (sym c.is_report.ensures ∙ c.if-is_report.true))) c.report_walk.ensures
 
 pub walk-requires : goal.walk-requires
 walk-requires c =
-    let b = c in
-    ((is_body_lem _ (sym b.is_body.ensures ∙ b.if-not-is_body.false)).most, sym c.is_report.ensures ∙ c.if-is_report.false, c.slots-places.ensures)
+    ((is_body_lem _ (sym c.is_body.ensures ∙ c.if-not-is_body.false)).most, sym c.is_report.ensures ∙ c.if-is_report.false, c.slots-places.ensures)
 
 pub returns : goal.returns
-returns c =
-    let m = c in
-    let f = m in
-    verdict_walked _ (sym f.is_body.ensures ∙ f.if-not-is_body.false) f.type_at_front.ensures m.in-Of.is c.walk.ensures
+returns c = verdict_walked _ (sym c.is_body.ensures ∙ c.if-not-is_body.false) c.type_at_front.ensures c.in-Of.is c.walk.ensures

@@ -14,70 +14,52 @@ loop-at-smaller-then-body-at c = omega (arith, c.byte_from-at.ensures.low)
 
 pub loop-at-preserved-then-body-at : goal.loop-at-preserved-then-body-at
 loop-at-preserved-then-body-at c =
-    let d = c in
-    let st = d in
-    let s = st.args in
-    d.loop-at.invariant ∙ first_other s.tag st.requires.0 st.requires.1 s.body.now d.loop-at.at _ (omega arith) (λ e. c.if-body-at.true (e ∙ sym d.lead_of-lead.ensures)) (first_ends s.body.now d.loop-at.at _ c.byte_from-at.ensures)
+    let s = c.args in
+    c.loop-at.invariant ∙ first_other s.tag c.requires.0 c.requires.1 s.body.now c.loop-at.at _ (omega arith) (λ e. c.if-body-at.true (e ∙ sym c.lead_of-lead.ensures)) (first_ends s.body.now c.loop-at.at _ c.byte_from-at.ensures)
 
 pub returns-then-t-tag : goal.returns-then-t-tag
 returns-then-t-tag c =
-    let d = c in
-    let st = d in
-    let s = st.args in
-    let C = subst (Cut s.body.now d.loop-at.at) c.in-Field.is c.item_at-item.ensures in
-    first_from s.tag s.body.now _ st.requires.0 st.requires.1 (first_found s.tag st.requires.0 st.requires.1 s.body.now d.loop-at.at _ _ _ _ C c.if-t-tag.true ∙ sym d.loop-at.invariant)
+    let s = c.args in
+    let C = subst (Cut s.body.now c.loop-at.at) c.in-Field.is c.item_at-item.ensures in
+    first_from s.tag s.body.now _ c.requires.0 c.requires.1 (first_found s.tag c.requires.0 c.requires.1 s.body.now c.loop-at.at _ _ _ _ C c.if-t-tag.true ∙ sym c.loop-at.invariant)
 
 pub loop-at-smaller-in-Field : goal.loop-at-smaller-in-Field
 loop-at-smaller-in-Field c =
-    let d = c in
-    let st = d in
-    let s = st.args in
-    let C = subst (Cut s.body.now d.loop-at.at) c.in-Field.is c.item_at-item.ensures in
+    let s = c.args in
+    let C = subst (Cut s.body.now c.loop-at.at) c.in-Field.is c.item_at-item.ensures in
     omega (arith, C.lies.2)
 
 pub loop-at-preserved-in-Field : goal.loop-at-preserved-in-Field
 loop-at-preserved-in-Field c =
-    let d = c in
-    let st = d in
-    let s = st.args in
-    let C = subst (Cut s.body.now d.loop-at.at) c.in-Field.is c.item_at-item.ensures in
-    d.loop-at.invariant ∙ first_passed s.tag st.requires.0 st.requires.1 s.body.now d.loop-at.at _ _ _ _ C c.if-t-tag.false
+    let s = c.args in
+    let C = subst (Cut s.body.now c.loop-at.at) c.in-Field.is c.item_at-item.ensures in
+    c.loop-at.invariant ∙ first_passed s.tag c.requires.0 c.requires.1 s.body.now c.loop-at.at _ _ _ _ C c.if-t-tag.false
 
 pub loop-at-smaller : goal.loop-at-smaller
 loop-at-smaller c =
-    let d = c in
-    let st = d in
-    let s = st.args in
-    let C = subst (Cut s.body.now d.loop-at.at) c.in-Malformed.is c.item_at-item.ensures in
+    let s = c.args in
+    let C = subst (Cut s.body.now c.loop-at.at) c.in-Malformed.is c.item_at-item.ensures in
     omega (arith, C.lies.1)
 
 pub loop-at-preserved : goal.loop-at-preserved
 loop-at-preserved c =
-    let d = c in
-    let st = d in
-    let s = st.args in
-    let C = subst (Cut s.body.now d.loop-at.at) c.in-Malformed.is c.item_at-item.ensures in
-    d.loop-at.invariant ∙ first_malformed s.tag st.requires.0 st.requires.1 s.body.now d.loop-at.at _ _ _ C
+    let s = c.args in
+    let C = subst (Cut s.body.now c.loop-at.at) c.in-Malformed.is c.item_at-item.ensures in
+    c.loop-at.invariant ∙ first_malformed s.tag c.requires.0 c.requires.1 s.body.now c.loop-at.at _ _ _ C
 
 pub returns-in-End : goal.returns-in-End
 returns-in-End c =
-    let d = c in
-    let st = d in
-    let s = st.args in
-    let C = subst (Cut s.body.now d.loop-at.at) c.in-End.is c.item_at-item.ensures in
-    first_from s.tag s.body.now _ st.requires.0 st.requires.1 (first_end s.tag st.requires.0 st.requires.1 s.body.now d.loop-at.at C ∙ sym d.loop-at.invariant)
+    let s = c.args in
+    let C = subst (Cut s.body.now c.loop-at.at) c.in-End.is c.item_at-item.ensures in
+    first_from s.tag s.body.now _ c.requires.0 c.requires.1 (first_end s.tag c.requires.0 c.requires.1 s.body.now c.loop-at.at C ∙ sym c.loop-at.invariant)
 
 pub returns-in-NoBody : goal.returns-in-NoBody
 returns-in-NoBody c =
-    let d = c in
-    let st = d in
-    let s = st.args in
-    let C = subst (Cut s.body.now d.loop-at.at) c.in-NoBody.is c.item_at-item.ensures in
+    let s = c.args in
+    let C = subst (Cut s.body.now c.loop-at.at) c.in-NoBody.is c.item_at-item.ensures in
     absurd C.lies
 
 pub returns : goal.returns
 returns c =
-    let d = c in
-    let st = d in
-    let s = st.args in
-    first_from s.tag s.body.now _ st.requires.0 st.requires.1 (first_behind s.tag st.requires.0 st.requires.1 s.body.now d.loop-at.at (omega arith) ∙ sym d.loop-at.invariant)
+    let s = c.args in
+    first_from s.tag s.body.now _ c.requires.0 c.requires.1 (first_behind s.tag c.requires.0 c.requires.1 s.body.now c.loop-at.at (omega arith) ∙ sym c.loop-at.invariant)

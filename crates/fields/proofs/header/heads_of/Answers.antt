@@ -10,21 +10,16 @@ loop-at-init c = (refl, refl, refl)
 
 pub loop-at-smaller : goal.loop-at-smaller
 loop-at-smaller c =
-    let n = c in
-    let b = n in
-    let l = b.loop-at in
-    let h = onward_more (missing n.noted-f.result) l.at b.bar-end.result _ _ c.onward-at.ensures (omega (arith, b.bar-end.ensures.is)) b.loop-at-test.true in
+    let l = c.loop-at in
+    let h = onward_more (missing c.noted-f.result) l.at c.bar-end.result _ _ c.onward-at.ensures (omega (arith, c.bar-end.ensures.is)) c.loop-at-test.true in
     omega arith
 
 pub loop-at-preserved : goal.loop-at-preserved
 loop-at-preserved c =
-    let n = c in
-    let b = n in
-    let l = b.loop-at in
-    mets_onward _ l.at _ l.f n.noted-f.result b.loop-at-test.true b.bar-end.ensures n.tag_at-tag.ensures n.noted-f.ensures c.onward-at.ensures l.invariant
+    let l = c.loop-at in
+    mets_onward _ l.at _ l.f c.noted-f.result c.loop-at-test.true c.bar-end.ensures c.tag_at-tag.ensures c.noted-f.ensures c.onward-at.ensures l.invariant
 
 pub returns : goal.returns
 returns c =
-    let p = c in
-    let l = p.loop-at in
-    mets_end _ l.at l.f p.loop-at-test.false p.place_of.ensures c.place_of-2.ensures c.place_of-3.ensures l.invariant
+    let l = c.loop-at in
+    mets_end _ l.at l.f c.loop-at-test.false c.place_of.ensures c.place_of-2.ensures c.place_of-3.ensures l.invariant

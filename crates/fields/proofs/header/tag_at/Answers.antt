@@ -10,6 +10,5 @@ returns-then-s-at-ne61 c = let a = c.args in tag_other a.s.now a.at c.if-s-at-lt
 
 pub returns : goal.returns
 returns c =
-    let d = c in
-    let a = d.args in
-    tag_here a.s.now a.at d.if-s-at-lt3.false d.if-s-at-ne61.false c.wide.ensures.0 c.wide-2.ensures.0 c.wide-2.ensures.1
+    let a = c.args in
+    tag_here a.s.now a.at c.if-s-at-lt3.false c.if-s-at-ne61.false c.wide.ensures.0 c.wide-2.ensures.0 c.wide-2.ensures.1

@@ -24,9 +24,8 @@ returns-then-not-begins_with_type c =
 pub returns : goal.returns
 unfolding is_body
 returns c =
-    let d = c in
     rw (
-      le-leb 5 _ d.if-n-lt5.false,
-      le-leb _ 2048 d.if-n-gt2048.false,
-      sym d.begins_with_type.ensures ∙ d.if-not-begins_with_type.false,
+      le-leb 5 _ c.if-n-lt5.false,
+      le-leb _ 2048 c.if-n-gt2048.false,
+      sym c.begins_with_type.ensures ∙ c.if-not-begins_with_type.false,
     )

@@ -22,30 +22,20 @@ value_end-end-requires c = let N = c.digits-read.ensures.inside (omega arith) (o
 
 pub returns-then-mark-at : goal.returns-then-mark-at
 returns-then-mark-at c =
-    let b = c in
-    let n = b in
-    malformed_item _ _ _ _ _ (n.digits-read.ensures.inside (omega arith) (omega arith)) b.value_end-end.ensures n.if-body-at.false (λ some_digit m e z. omega arith)
+    malformed_item _ _ _ _ _ (c.digits-read.ensures.inside (omega arith) (omega arith)) c.value_end-end.ensures c.if-body-at.false (λ some_digit m e z. omega arith)
 
 pub returns-then-mark-end : goal.returns-then-mark-end
 returns-then-mark-end c =
-    let b = c in
-    let n = b in
-    malformed_item _ _ _ _ _ (n.digits-read.ensures.inside (omega arith) (omega arith)) b.value_end-end.ensures n.if-body-at.false (λ some_digit m e z. m c.if-mark-end.true)
+    malformed_item _ _ _ _ _ (c.digits-read.ensures.inside (omega arith) (omega arith)) c.value_end-end.ensures c.if-body-at.false (λ some_digit m e z. m c.if-mark-end.true)
 
 pub returns-then-body-mark-ne61 : goal.returns-then-body-mark-ne61
 returns-then-body-mark-ne61 c =
-    let b = c in
-    let n = b in
-    malformed_item _ _ _ _ _ (n.digits-read.ensures.inside (omega arith) (omega arith)) b.value_end-end.ensures n.if-body-at.false (λ some_digit m e z. c.if-body-mark-ne61.true e)
+    malformed_item _ _ _ _ _ (c.digits-read.ensures.inside (omega arith) (omega arith)) c.value_end-end.ensures c.if-body-at.false (λ some_digit m e z. c.if-body-mark-ne61.true e)
 
 pub returns-then-body-at-eq48 : goal.returns-then-body-at-eq48
 returns-then-body-at-eq48 c =
-    let b = c in
-    let n = b in
-    malformed_item _ _ _ _ _ (n.digits-read.ensures.inside (omega arith) (omega arith)) b.value_end-end.ensures n.if-body-at.false (λ some_digit m e z. z c.if-body-at-eq48.true)
+    malformed_item _ _ _ _ _ (c.digits-read.ensures.inside (omega arith) (omega arith)) c.value_end-end.ensures c.if-body-at.false (λ some_digit m e z. z c.if-body-at-eq48.true)
 
 pub returns : goal.returns
 returns c =
-    let b = c in
-    let n = b in
-    field_item _ _ _ _ _ (n.digits-read.ensures.inside (omega arith) (omega arith)) b.value_end-end.ensures n.if-body-at.false (omega arith) c.if-mark-end.false c.if-body-mark-ne61.false c.if-body-at-eq48.false
+    field_item _ _ _ _ _ (c.digits-read.ensures.inside (omega arith) (omega arith)) c.value_end-end.ensures c.if-body-at.false (omega arith) c.if-mark-end.false c.if-body-mark-ne61.false c.if-body-at-eq48.false

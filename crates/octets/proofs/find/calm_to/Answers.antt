@@ -12,9 +12,8 @@ returns-then-not-calm c =
 
 pub loop-i-preserved : goal.loop-i-preserved
 loop-i-preserved c =
-    let l = c in
-    let a = l.args in
-    (omega arith, (omega arith, none_further a.s.now a.a l.loop-i.i a.n a.x l.loop-i.invariant.1.1 (c.calm.ensures c.if-not-calm.false)))
+    let a = c.args in
+    (omega arith, (omega arith, none_further a.s.now a.a c.loop-i.i a.n a.x c.loop-i.invariant.1.1 (c.calm.ensures c.if-not-calm.false)))
 
 pub returns : goal.returns
 returns c = let l = c.loop-i in record { low = omega arith; high = omega arith; none = l.invariant.1.1 }

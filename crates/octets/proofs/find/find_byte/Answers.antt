@@ -21,25 +21,19 @@ returns-then-not-calm c = c.byte_from-then-not-calm.ensures
 
 pub returns-then-e-d-ge16 : goal.returns-then-e-d-ge16
 returns-then-e-d-ge16 c =
-    let d = c in
-    let t = d in
-    let a = t.args in
-    let none = calm_all a.s.now a.a a.e a.x _ _ _ (t.calm.ensures d.if-not-calm.false) d.calm_to-b.ensures d.calm_to-c.ensures d.calm_to-d.ensures in
-    first-further a.s.now a.a d.calm_to-d.result a.e a.x _ (omega (arith, d.calm_to-b.ensures.low, d.calm_to-c.ensures.low, d.calm_to-d.ensures.low)) none c.byte_from-then-e-d-ge16.ensures
+    let a = c.args in
+    let none = calm_all a.s.now a.a a.e a.x _ _ _ (c.calm.ensures c.if-not-calm.false) c.calm_to-b.ensures c.calm_to-c.ensures c.calm_to-d.ensures in
+    first-further a.s.now a.a c.calm_to-d.result a.e a.x _ (omega (arith, c.calm_to-b.ensures.low, c.calm_to-c.ensures.low, c.calm_to-d.ensures.low)) none c.byte_from-then-e-d-ge16.ensures
 
 pub returns-then-calm : goal.returns-then-calm
 returns-then-calm c =
-    let d = c in
-    let t = d in
-    let a = t.args in
-    let none = calm_all a.s.now a.a a.e a.x _ _ _ (t.calm.ensures d.if-not-calm.false) d.calm_to-b.ensures d.calm_to-c.ensures d.calm_to-d.ensures in
-    let tail = free_tail a.s.now d.calm_to-d.result a.e 16 a.x (omega arith) (omega arith) (c.calm-2.ensures c.if-calm.true) in
-    record { low = omega arith; high = omega arith; none = none_to_end a.s.now a.a d.calm_to-d.result a.e a.x none tail; found = λ h. absurd (omega arith) }
+    let a = c.args in
+    let none = calm_all a.s.now a.a a.e a.x _ _ _ (c.calm.ensures c.if-not-calm.false) c.calm_to-b.ensures c.calm_to-c.ensures c.calm_to-d.ensures in
+    let tail = free_tail a.s.now c.calm_to-d.result a.e 16 a.x (omega arith) (omega arith) (c.calm-2.ensures c.if-calm.true) in
+    record { low = omega arith; high = omega arith; none = none_to_end a.s.now a.a c.calm_to-d.result a.e a.x none tail; found = λ h. absurd (omega arith) }
 
 pub returns : goal.returns
 returns c =
-    let d = c in
-    let t = d in
-    let a = t.args in
-    let none = calm_all a.s.now a.a a.e a.x _ _ _ (t.calm.ensures d.if-not-calm.false) d.calm_to-b.ensures d.calm_to-c.ensures d.calm_to-d.ensures in
-    first-further a.s.now a.a d.calm_to-d.result a.e a.x _ (omega (arith, d.calm_to-b.ensures.low, d.calm_to-c.ensures.low, d.calm_to-d.ensures.low)) none c.byte_from-2.ensures
+    let a = c.args in
+    let none = calm_all a.s.now a.a a.e a.x _ _ _ (c.calm.ensures c.if-not-calm.false) c.calm_to-b.ensures c.calm_to-c.ensures c.calm_to-d.ensures in
+    first-further a.s.now a.a c.calm_to-d.result a.e a.x _ (omega (arith, c.calm_to-b.ensures.low, c.calm_to-c.ensures.low, c.calm_to-d.ensures.low)) none c.byte_from-2.ensures

@@ -7,16 +7,10 @@ pub loop-i-init : goal.loop-i-init
 loop-i-init c = (omega arith, refl)
 
 pub returns-then-s-i : goal.returns-then-s-i
-returns-then-s-i c =
-    let l = c in
-    sym (l.loop-i.invariant.1 ∙ has_here _ l.loop-i.i _ (omega arith) c.if-s-i.true)
+returns-then-s-i c = sym (c.loop-i.invariant.1 ∙ has_here _ c.loop-i.i _ (omega arith) c.if-s-i.true)
 
 pub loop-i-preserved : goal.loop-i-preserved
-loop-i-preserved c =
-    let l = c in
-    (omega arith, l.loop-i.invariant.1 ∙ has_next _ l.loop-i.i _ (omega arith) c.if-s-i.false)
+loop-i-preserved c = (omega arith, c.loop-i.invariant.1 ∙ has_next _ c.loop-i.i _ (omega arith) c.if-s-i.false)
 
 pub returns : goal.returns
-returns c =
-    let l = c in
-    sym (l.loop-i.invariant.1 ∙ has_end _ l.loop-i.i _ (omega arith))
+returns c = sym (c.loop-i.invariant.1 ∙ has_end _ c.loop-i.i _ (omega arith))

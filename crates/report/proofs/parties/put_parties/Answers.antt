@@ -21,8 +21,7 @@ loop-i-init c = (omega arith, (refl, (omega arith, none_put)))
 pub put_party-to-requires : goal.put_party-to-requires
 put_party-to-requires c =
     let l = c.loop-i in
-    let s = c in
-    (omega (arith, c.if-n-gt8.false, c.loop-i-test.true), omega (arith, l.invariant.1.0, l.invariant.1.1.0, c.if-n-gt8.false, c.loop-i-test.true, c.put_number-to.ensures.room, c.put_number-to.auto, s.requires))
+    (omega (arith, c.if-n-gt8.false, c.loop-i-test.true), omega (arith, l.invariant.1.0, l.invariant.1.1.0, c.if-n-gt8.false, c.loop-i-test.true, c.put_number-to.ensures.room, c.put_number-to.auto, c.requires))
 
 pub loop-i-preserved : goal.loop-i-preserved
 loop-i-preserved c =

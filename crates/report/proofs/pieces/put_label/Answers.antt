@@ -9,6 +9,5 @@ returns-then-at-eq0 c = record { bytes = nowhere c.if-at-eq0.true; room = omega 
 
 pub returns : goal.returns
 returns c =
-    let s = c in
     let w = c.put_tag.ensures.bytes in
-    record { bytes = placed c.if-at-eq0.false refl w; room = omega (arith, w.next, label_short s.args.tag s.requires.0) }
+    record { bytes = placed c.if-at-eq0.false refl w; room = omega (arith, w.next, label_short c.args.tag c.requires.0) }

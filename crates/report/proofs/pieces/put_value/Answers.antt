@@ -29,8 +29,7 @@ put_byte-requires c =
 
 pub returns : goal.returns
 returns c =
-    let s = c in
     let f = c.is_fit.ensures in
     let t = c.if-not-is_fit.false in
     let l = fit_short _ _ f t in
-    let e = part_inside s.args.text.now s.args.start s.args.end c.if-b-a.false c.if-text-b.false in record { bytes = placed c.if-at-eq0.false (part_fit _ _ _ _ c.if-b-a.false c.if-text-b.false f t) (chain (reword (sym e) c.put_bytes-c.ensures) c.put_byte.ensures); room = omega (arith, l, c.put_bytes-c.ensures.next, c.put_byte.ensures.next) }
+    let e = part_inside c.args.text.now c.args.start c.args.end c.if-b-a.false c.if-text-b.false in record { bytes = placed c.if-at-eq0.false (part_fit _ _ _ _ c.if-b-a.false c.if-text-b.false f t) (chain (reword (sym e) c.put_bytes-c.ensures) c.put_byte.ensures); room = omega (arith, l, c.put_bytes-c.ensures.next, c.put_byte.ensures.next) }

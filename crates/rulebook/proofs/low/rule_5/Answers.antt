@@ -17,34 +17,22 @@ unread (Is a) o = absurd (o a refl)
 
 pub returns-in_default : goal.returns-in_default
 returns-in_default c =
-    let b = c in
-    let s = b in
-    let o = s in
-    low_bad_sending _ _ o.holds.ensures (ap not o.if-not-holds.false) o.time_in-original.ensures s.is_missing.ensures s.if-is_missing.false s.time_in-sending.ensures b.is_missing-2.ensures b.if-is_missing-2.false
-    (unread s.time_in-sending.result c.in_default.not-Is) c.rejecting_duplicate-in_default.ensures
+    low_bad_sending _ _ c.holds.ensures (ap not c.if-not-holds.false) c.time_in-original.ensures c.is_missing.ensures c.if-is_missing.false c.time_in-sending.ensures c.is_missing-2.ensures c.if-is_missing-2.false
+    (unread c.time_in-sending.result c.in_default.not-Is) c.rejecting_duplicate-in_default.ensures
 
 pub returns-in_default-original : goal.returns-in_default-original
 returns-in_default-original c =
-    let b = c in
-    let s = b in
-    let o = s in
-    low_bad_original _ _ o.holds.ensures (ap not o.if-not-holds.false) o.time_in-original.ensures s.is_missing.ensures s.if-is_missing.false s.time_in-sending.ensures b.is_missing-2.ensures b.if-is_missing-2.false
-    (ap moment_by c.in-Is.is) (unread o.time_in-original.result c.in_default-original.not-Is) c.rejecting_duplicate-in_default-original.ensures
+    low_bad_original _ _ c.holds.ensures (ap not c.if-not-holds.false) c.time_in-original.ensures c.is_missing.ensures c.if-is_missing.false c.time_in-sending.ensures c.is_missing-2.ensures c.if-is_missing-2.false
+    (ap moment_by c.in-Is.is) (unread c.time_in-original.result c.in_default-original.not-Is) c.rejecting_duplicate-in_default-original.ensures
 
 pub returns-then-is_later : goal.returns-then-is_later
 returns-then-is_later c =
-    let b = c in
-    let s = b in
-    let o = s in
-    low_later _ _ o.holds.ensures (ap not o.if-not-holds.false) o.time_in-original.ensures s.is_missing.ensures s.if-is_missing.false s.time_in-sending.ensures b.is_missing-2.ensures b.if-is_missing-2.false
+    low_later _ _ c.holds.ensures (ap not c.if-not-holds.false) c.time_in-original.ensures c.is_missing.ensures c.if-is_missing.false c.time_in-sending.ensures c.is_missing-2.ensures c.if-is_missing-2.false
     (ap moment_by c.in-Is.is) (ap moment_by c.in-Is-original.is) c.is_later.ensures c.if-is_later.true c.rejecting_duplicate-then-is_later.ensures
 
 pub returns : goal.returns
 returns c =
-    let b = c in
-    let s = b in
-    let o = s in
-    low_ignored _ _ o.holds.ensures (ap not o.if-not-holds.false) o.time_in-original.ensures s.is_missing.ensures s.if-is_missing.false s.time_in-sending.ensures b.is_missing-2.ensures b.if-is_missing-2.false
+    low_ignored _ _ c.holds.ensures (ap not c.if-not-holds.false) c.time_in-original.ensures c.is_missing.ensures c.if-is_missing.false c.time_in-sending.ensures c.is_missing-2.ensures c.if-is_missing-2.false
     (ap moment_by c.in-Is.is) (ap moment_by c.in-Is-original.is) c.is_later.ensures c.if-is_later.false c.saying.ensures
 
 pub returns-then-not-holds : goal.returns-then-not-holds

@@ -8,7 +8,7 @@ pub loop-i-init : goal.loop-i-init
 loop-i-init c = (omega arith, record { next = omega arith; bytes = refl })
 
 pub loop-i-preserved : goal.loop-i-preserved
-loop-i-preserved c = let l = c in (omega arith, eleven_more l.args.c.now (omega arith) l.loop-i.invariant.1)
+loop-i-preserved c = (omega arith, eleven_more c.args.c.now (omega arith) c.loop-i.invariant.1)
 
 pub returns : goal.returns
-returns c = let l = c in eleven_is l.args.c.now l.requires l.loop-i.invariant.0 (omega arith) l.loop-i.invariant.1
+returns c = eleven_is c.args.c.now c.requires c.loop-i.invariant.0 (omega arith) c.loop-i.invariant.1

@@ -16,27 +16,22 @@ returns-then-not-one c = gate_10 _ _ _ _ _ c.in_range.ensures (ap not c.if-not-i
 
 pub returns-then-time-ge253402300800000000 : goal.returns-then-time-ge253402300800000000
 returns-then-time-ge253402300800000000 c =
-    let b = c in
-    gate_7 _ _ _ _ _ b.in_range.ensures (ap not b.if-not-in_range.false) (ap not c.if-not-stored.false) (ap not c.if-not-one.false) (omega arith)
+    gate_7 _ _ _ _ _ c.in_range.ensures (ap not c.if-not-in_range.false) (ap not c.if-not-stored.false) (ap not c.if-not-one.false) (omega arith)
 
 pub returns-then-room-lt600 : goal.returns-then-room-lt600
 returns-then-room-lt600 c =
-    let b = c in
-    gate_6 _ _ _ _ _ b.in_range.ensures (ap not b.if-not-in_range.false) (ap not c.if-not-stored.false) (ap not c.if-not-one.false) (omega arith) (omega arith)
+    gate_6 _ _ _ _ _ c.in_range.ensures (ap not c.if-not-in_range.false) (ap not c.if-not-stored.false) (ap not c.if-not-one.false) (omega arith) (omega arith)
 
 pub returns-then-is_closed : goal.returns-then-is_closed
 returns-then-is_closed c =
-    let b = c in
-    gate_2 _ _ _ _ _ b.in_range.ensures (ap not b.if-not-in_range.false) (ap not b.if-not-stored.false) (ap not b.if-not-one.false) (omega arith) (omega arith) c.is_closed.ensures c.if-is_closed.true
+    gate_2 _ _ _ _ _ c.in_range.ensures (ap not c.if-not-in_range.false) (ap not c.if-not-stored.false) (ap not c.if-not-one.false) (omega arith) (omega arith) c.is_closed.ensures c.if-is_closed.true
 
 pub returns-then-is_spent : goal.returns-then-is_spent
 returns-then-is_spent c =
-    let b = c in
-    gate_5 _ _ _ _ _ b.in_range.ensures (ap not b.if-not-in_range.false) (ap not b.if-not-stored.false) (ap not b.if-not-one.false) (omega arith) (omega arith) c.is_closed.ensures c.if-is_closed.false
+    gate_5 _ _ _ _ _ c.in_range.ensures (ap not c.if-not-in_range.false) (ap not c.if-not-stored.false) (ap not c.if-not-one.false) (omega arith) (omega arith) c.is_closed.ensures c.if-is_closed.false
     c.is_spent.ensures c.if-is_spent.true
 
 pub returns : goal.returns
 returns c =
-    let b = c in
-    gate_open _ _ _ _ _ b.in_range.ensures (ap not b.if-not-in_range.false) (ap not b.if-not-stored.false) (ap not b.if-not-one.false) (omega arith) (omega arith) c.is_closed.ensures c.if-is_closed.false
+    gate_open _ _ _ _ _ c.in_range.ensures (ap not c.if-not-in_range.false) (ap not c.if-not-stored.false) (ap not c.if-not-one.false) (omega arith) (omega arith) c.is_closed.ensures c.if-is_closed.false
     c.is_spent.ensures c.if-is_spent.false

@@ -4,7 +4,6 @@ use Rattle.session.proofs.played.beating.Goals as goal
 
 pub returns : goal.returns
 returns c =
-    let u = c in
-    let a = u.args in
+    let a = c.args in
     let w = c.beat-len.ensures in
-    beat-played a.r a.time a.buf.now u.requires.0 c.changed-after.ensures u.requires.1 w.room w.bytes
+    beat-played a.r a.time a.buf.now c.requires.0 c.changed-after.ensures c.requires.1 w.room w.bytes

@@ -10,9 +10,8 @@ returns-then-is_quiet c =
 
 pub say-requires : goal.say-requires
 say-requires c =
-    let u = c in
-    let a = u.args in
-    record { ready = u.requires.ready; in_bounds = (u.requires.in_bounds.0, u.requires.in_bounds.1, u.requires.in_bounds.2, plan_speaks (session_of a.r) a.body.now a.p c.is_quiet.ensures c.if-is_quiet.false) }
+    let a = c.args in
+    record { ready = c.requires.ready; in_bounds = (c.requires.in_bounds.0, c.requires.in_bounds.1, c.requires.in_bounds.2, plan_speaks (session_of a.r) a.body.now a.p c.is_quiet.ensures c.if-is_quiet.false) }
 
 pub returns : goal.returns
 returns c = c.say.ensures

@@ -4,7 +4,6 @@ use Rattle.session.proofs.played.say.Goals as goal
 
 pub returns : goal.returns
 returns c =
-    let u = c in
-    let a = u.args in
+    let a = c.args in
     let w = c.stamped-len.ensures in
-    wrote_played a.r a.p a.time a.body.now a.buf.now c.answer_of-answer.ensures c.next_after.ensures.is c.next_after-next.ensures.is u.requires.ready u.requires.in_bounds.3 c.left-after.ensures u.requires.in_bounds.0 w.room w.bytes
+    wrote_played a.r a.p a.time a.body.now a.buf.now c.answer_of-answer.ensures c.next_after.ensures.is c.next_after-next.ensures.is c.requires.ready c.requires.in_bounds.3 c.left-after.ensures c.requires.in_bounds.0 w.room w.bytes

@@ -10,21 +10,17 @@ loop-k-init c = (search rules, λ met M. refl)
 
 pub returns-then-lacks : goal.returns-then-lacks
 returns-then-lacks c =
-    let l = c in
-    let s = l in
-    let R = s.requires.in_rows in
+    let R = c.requires.in_rows in
     let h = c.loop-k-test.true in
     record {
-      within = omega (arith, place_small _ R 0 _ _ h s.requires.to_le_row_count);
-      nothing = λ e. absurd (omega (arith, e, place_small _ R 0 _ _ h s.requires.to_le_row_count));
-      first = λ e met M. l.loop-k.invariant.1 met M ∙ needed_not _ R 0 _ _ h s.requires.to_le_row_count _ met M (sym c.lacks.ensures ∙ c.if-lacks.true);
+      within = omega (arith, place_small _ R 0 _ _ h c.requires.to_le_row_count);
+      nothing = λ e. absurd (omega (arith, e, place_small _ R 0 _ _ h c.requires.to_le_row_count));
+      first = λ e met M. c.loop-k.invariant.1 met M ∙ needed_not _ R 0 _ _ h c.requires.to_le_row_count _ met M (sym c.lacks.ensures ∙ c.if-lacks.true);
     }
 
 pub loop-k-preserved : goal.loop-k-preserved
 loop-k-preserved c =
-    let l = c in
-    let s = l in
-    (omega arith, λ met M. l.loop-k.invariant.1 met M ∙ needed_met _ s.requires.in_rows 0 _ _ c.loop-k-test.true s.requires.to_le_row_count _ met M (sym c.lacks.ensures ∙ c.if-lacks.false))
+    (omega arith, λ met M. c.loop-k.invariant.1 met M ∙ needed_met _ c.requires.in_rows 0 _ _ c.loop-k-test.true c.requires.to_le_row_count _ met M (sym c.lacks.ensures ∙ c.if-lacks.false))
 
 pub returns : goal.returns
 returns c = record {

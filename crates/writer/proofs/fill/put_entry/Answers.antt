@@ -4,15 +4,12 @@ use Rattle.writer.proofs.fill.put_entry.Goals as goal
 
 pub returns-then-e : goal.returns-then-e
 returns-then-e c m H =
-    let s = c in
-    not_own m s.args.e s.args.text.now H c.if-e.true c.if-e-2.false
+    not_own m c.args.e c.args.text.now H c.if-e.true c.if-e-2.false
 
 pub returns-then-e-3 : goal.returns-then-e-3
 returns-then-e-3 c m H =
-    let s = c in
-    missing m s.args.e s.args.text.now H c.if-e.false c.if-e-3.true
+    missing m c.args.e c.args.text.now H c.if-e.false c.if-e-3.true
 
 pub returns : goal.returns
 returns c m H =
-    let s = c in
-    left_out m s.args.e s.args.text.now H s.args.buf.now s.args.at c.if-e.false c.if-e-3.false
+    left_out m c.args.e c.args.text.now H c.args.buf.now c.args.at c.if-e.false c.if-e-3.false

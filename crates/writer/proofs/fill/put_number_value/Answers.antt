@@ -13,25 +13,19 @@ pub returns-then-n-gt999999999 : goal.returns-then-n-gt999999999
 returns-then-n-gt999999999 c = unwritten_large _ _ c.requires.2 c.requires.3 c.if-n-gt999999999.true
 
 pub put_decimal-k-requires : goal.put_decimal-k-requires
-put_decimal-k-requires c =
-    let s = c in
-    (omega arith, omega (arith, few_digits 8 s.args.n (omega arith)))
+put_decimal-k-requires c = (omega arith, omega (arith, few_digits 8 c.args.n (omega arith)))
 
 pub slice_bounds-digits-end : goal.slice_bounds-digits-end
-slice_bounds-digits-end c =
-    let s = c in
-    omega (arith, few_digits 8 s.args.n (omega arith))
+slice_bounds-digits-end c = omega (arith, few_digits 8 c.args.n (omega arith))
 
 pub slice_bounds-put_bytes_value-end : goal.slice_bounds-put_bytes_value-end
 slice_bounds-put_bytes_value-end c =
-    let s = c in
     let p = c.put_decimal-k in
-    sym (length-take-le p.result p.new.buf (omega (arith, few_digits 8 s.args.n (omega arith))))
+    sym (length-take-le p.result p.new.buf (omega (arith, few_digits 8 c.args.n (omega arith))))
 
 pub returns : goal.returns
 returns c =
-    let s = c in
     let p = c.put_decimal-k in
-    let e = front_of p.ensures (omega (arith, few_digits 8 s.args.n (omega arith))) in
+    let e = front_of p.ensures (omega (arith, few_digits 8 c.args.n (omega arith))) in
     let q = c.put_bytes_value in
-    subst (λ (v : Bytes). PutText (meaning s.args.kind) s.args.tag v s.args.buf.now q.new.buf s.args.at q.result) e q.ensures
+    subst (λ (v : Bytes). PutText (meaning c.args.kind) c.args.tag v c.args.buf.now q.new.buf c.args.at q.result) e q.ensures
