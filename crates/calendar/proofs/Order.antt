@@ -1,4 +1,8 @@
 -- The order of times: of lists of numbers, where the first that differ decide, and so of moments.
+use Rattle.std.proofs.Common.{Option, Some, Ordering, Less, Equal, Greater, cond}
+use Rattle.std.specs.Ordering.{is_some_and, is_lt, nat_cmp, partial_ordering_then}
+use Rattle.octets.specs.Tests.{◌=?◌, ◌<?◌}
+use native.Mathlib.Decide.{dec_lt}
 use Prim.Native.Nat.{ℕ, ◌+◌, ◌<◌}
 use native.Mathlib.Omega.{arith}
 use mathlib.Core.Path.{◌≡◌, refl, sym, ap, ap₂, ◌∙◌}
@@ -6,7 +10,7 @@ use mathlib.Core.List.{List, [], ◌∷◌, ◌++◌}
 use mathlib.Core.Bool.{Bool, true, false, ◌&&◌, ◌||◌, and-false, false≢true}
 use lib.Dec.{eqb, ltb}
 use lib.ListN.{get_or}
-use borrow.Author.Tests.{ltb-true, ltb-false, lt-ltb, le-ltb, eqb-true, eq-eqb}
+use borrow.Author.Tests.{ltb-true, ltb-false, lt-ltb, le-ltb, eqb-true, eq-eqb, ne_eqb}
 use Rattle.octets.proofs.Tests.{both, neither, or_last}
 use Rattle.calendar.specs.declared.moments.Moment.{Moment}
 use Rattle.calendar.specs.Later.{parts, above, later}
@@ -73,6 +77,23 @@ else_same a b p q =
     ap
     (λ (l : List ℕ). record { year = get_or l 0 0; month = get_or l 1 0; day = get_or l 2 0; hour = get_or l 3 0; minute = get_or l 4 0; second = get_or l 5 0; micros = get_or l 6 0 })
     (above_else_same (parts a) (parts b) p q)
+
+-- THE ORDER OF THE CODE, part by part: the first that differs decides, and the others only behind one that is the same
+pub first_decides : (x y : ℕ) (p : Option Ordering) {q : Bool} → is_some_and is_lt p ≡ q → is_some_and is_lt (partial_ordering_then (Some (nat_cmp y x)) p) ≡ (y <? x || x =? y && q)
+first_decides x y p {q} e = go (dec_lt y x) (dec_lt x y)
+  where
+    go : Dec (y < x) → Dec (x < y) → is_some_and is_lt (partial_ordering_then (Some (nat_cmp y x)) p) ≡ (y <? x || x =? y && q)
+    go (yes h) k = rw (lt-ltb y x h)
+    go (no h) (yes k) = rw (le-ltb y x (omega arith), ne_eqb y x (λ f. omega arith), ne_eqb x y (λ f. omega arith))
+    go (no h) (no k) = rw (le-ltb y x (omega arith), eq-eqb y x (omega arith), eq-eqb x y (omega arith)) e
+
+pub last_decides : (x y : ℕ) → is_some_and is_lt (Some (nat_cmp y x)) ≡ (y <? x || x =? y && false)
+last_decides x y = go (ltb y x) (eqb y x) (eqb x y)
+  where
+    go : (b c d : Bool) → is_some_and is_lt (Some (cond b Less (cond c Equal Greater))) ≡ (b || (d && false))
+    go true c d = refl
+    go false true d = sym (and-false d)
+    go false false d = sym (and-false d)
 
 -- SECOND 60 and the next minute: the parts before them are the same
 same-front : (p k l : List ℕ) → above k l ≡ true → above (p ++ k) (p ++ l) ≡ true

@@ -1,16 +1,14 @@
 -- A time by its places: where each of its three shapes has digits, what a row of them is worth, and its decimals as microseconds.
+use Rattle.std.proofs.Common.{Some, None}
 use Prim.Native.Nat.{ℕ, ◌+◌, ◌*◌, ◌^◌, ◌≤◌, ◌<◌}
 use native.Mathlib.Decide.{dec_lt}
 use native.Mathlib.Omega.{arith}
 use mathlib.Core.Path.{◌≡◌, refl, sym, ap, ◌∙◌, subst}
 use mathlib.Core.List.{[], ◌∷◌, ◌++◌}
-use mathlib.Core.Bool.{Bool, true, false, cond, ◌||◌, ◌&&◌, or-false}
-use lib.Dec.{ltb}
+use mathlib.Core.Bool.{Bool, true, false, cond, ◌&&◌}
 use lib.ListN.{length, take, drop, get_or, length-drop}
 use lib.Seq.{take_all, get_or-take, get_or-drop}
-use borrow.Author.Tests.{le-ltb, eq-eqb, ne_eqb}
 use Rattle.octets.specs.Bytes.{Bytes, fix, value, Digit}
-use Rattle.octets.specs.Tests.{◌=?◌, ◌<?◌}
 use Rattle.octets.specs.code.Leaf.{Number}
 use Rattle.octets.proofs.Lists.{part_length}
 use Rattle.octets.proofs.Numerals.{row_digits, digit_at, value_below}
@@ -18,9 +16,8 @@ use Rattle.dates.specs.Date.{like, is_time, good_day, good_clock, number_at, fou
 use Rattle.dates.proofs.Shapes.{bytes_are, like-length, like_middle}
 use Rattle.dates.proofs.Stamps.{time-right, by_shape}
 use Rattle.kinds.specs.Kind.{formed, allowed}
-use Rattle.calendar.specs.Later.{decimals, moment_of, read_time, later}
+use Rattle.calendar.specs.Later.{decimals, moment_of, read_time}
 use Rattle.calendar.specs.declared.moments.Moment.{Moment}
-use Rattle.calendar.specs.declared.moments.TimeRead.TheVariants.{Is, Bad}
 use Rattle.calendar.specs.code.Timed.{digits_at, Timed, NumberAt}
 
 -- THE DIGITS of a time whose decimals have the shape t
@@ -104,33 +101,20 @@ unfolding moment_of
 moment_is Y M D H I S u = rw (Y.is, M.is, D.is, H.is, I.is, S.is, u)
 
 -- THE READING by what is found
-pub reads_bad : (v : Bytes) {f : ℕ} → f ≡ time_found v → (f ≡ 0 → ⊥) → Bad ≡ read_time v
+pub reads_none : (v : Bytes) {f : ℕ} → f ≡ time_found v → 0 < f → None ≡ read_time v
 unfolding read_time formed allowed time_found
-reads_bad v p n = go (is_time v) (good_day v && good_clock v) (λ e. n (p ∙ e))
+reads_none v {f} p n = go (is_time v) (good_day v && good_clock v) p
   where
-    go : (form value : Bool) → (found form value ≡ 0 → ⊥) → Bad ≡ cond (form && value) (Is (moment_of v)) Bad
-    go true true k = absurd (k refl)
+    go : (form value : Bool) → f ≡ found form value → None ≡ cond (form && value) (Some (moment_of v)) None
+    go true true k = absurd (omega arith)
     go true false k = refl
     go false value k = refl
 
-pub reads_time : (v : Bytes) {f : ℕ} {m : Moment} → f ≡ time_found v → f ≡ 0 → m ≡ moment_of v → Is m ≡ read_time v
+pub reads_time : (v : Bytes) {m : Moment} → 0 ≡ time_found v → m ≡ moment_of v → Some m ≡ read_time v
 unfolding read_time formed allowed
-reads_time v p e q = let w = time-right v (sym p ∙ e) in rw (w.0, w.1) (ap Is q)
+reads_time v e q = let w = time-right v (sym e) in rw (w.0, w.1) (ap (λ (n : Moment). Some n) q)
 
-pub is_timed : (v : Bytes) {f : ℕ} → f ≡ time_found v → f ≡ 0 → Timed v
-is_timed v p e = timed v (time-right v (sym p ∙ e)).0
+pub is_timed : (v : Bytes) → 0 ≡ time_found v → Timed v
+is_timed v e = timed v (time-right v (sym e)).0
 
--- WHAT DECIDES
-pub decides_here : (x y : ℕ) (b : Bool) → (x ≡ y → ⊥) → ltb y x ≡ (y <? x || x =? y && b)
-decides_here x y b n = rw (ne_eqb x y n) (sym (or-false (ltb y x)))
-
-pub decides_behind : (x y : ℕ) (b : Bool) → x ≡ y → b ≡ (y <? x || x =? y && b)
-decides_behind x y b e = rw (le-ltb y x (omega arith), eq-eqb x y e)
-
-pub decides_all : (a b : Moment) {u s i h d m y : Bool} → u ≡ (b.micros <? a.micros || a.micros =? b.micros && false) → s ≡ (b.second <? a.second || a.second =? b.second && u)
-    → i ≡ (b.minute <? a.minute || a.minute =? b.minute && s) → h ≡ (b.hour <? a.hour || a.hour =? b.hour && i) → d ≡ (b.day <? a.day || a.day =? b.day && h)
-    → m ≡ (b.month <? a.month || a.month =? b.month && d) → y ≡ (b.year <? a.year || a.year =? b.year && m) → y ≡ later a b
-unfolding later
-decides_all a b u s i h d m y = rw (y, m, d, h, i, s, u)
-
-pub ruleset times = (row_at, decimals_six, decimals-three, decimals_none, moment_is, reads_bad, reads_time, is_timed, decides_here, decides_behind, decides_all)
+pub ruleset times = (row_at, decimals_six, decimals-three, decimals_none, moment_is)

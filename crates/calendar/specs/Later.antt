@@ -1,12 +1,10 @@
 -- Which of two times is the later (document 02, Q-6: "Original time later than the resend").
-use Rattle.std.specs.Prelude.{ℕ, List, [], ◌∷◌, ◌++◌, Bool, true, false, cond, ◌&&◌, ◌||◌, take, drop}
+use Rattle.std.specs.Prelude.{ℕ, List, [], ◌∷◌, ◌++◌, Bool, true, false, cond, ◌&&◌, ◌||◌, take, drop, Option, Some, None}
 use Rattle.octets.specs.Bytes.{Bytes, fix, value}
 use Rattle.octets.specs.Tests.{◌=?◌, ◌<?◌}
 use Rattle.dates.specs.Date.{number_at}
 use Rattle.kinds.specs.Kind.{time, formed, allowed}
 use Rattle.calendar.specs.declared.moments.Moment.{Moment}
-use Rattle.calendar.specs.declared.moments.TimeRead.{TimeRead}
-use Rattle.calendar.specs.declared.moments.TimeRead.TheVariants.{Is, Bad}
 
 -- A time can be read unless it "breaks its form or the calendar".
 abbrev pub is_readable : Bytes → Bool
@@ -43,5 +41,5 @@ unfoldable pub later : Moment → Moment → Bool
 later a b = above (parts a) (parts b)
 
 -- THE READING of a time
-unfoldable pub read_time : Bytes → TimeRead
-read_time v = cond (is_readable v) (Is (moment_of v)) Bad
+unfoldable pub read_time : Bytes → Option Moment
+read_time v = cond (is_readable v) (Some (moment_of v)) None

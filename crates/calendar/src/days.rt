@@ -51,7 +51,7 @@ struct Spans {
     rest: u64,
 }
 
-// The spans of n days in the day r of four of them, of which the last has one day more.
+// The spans of n days in the day r of four of them, of which the last has one day more. (Each of the four by comparison: a division would give a fifth for that day.)
 fn split(n: u64, r: u64) -> Spans
     requires { (n < 100_000) × (r ≤ 4 * n) }
     ensures { Split n r result.count result.rest }

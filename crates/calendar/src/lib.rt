@@ -9,7 +9,7 @@ ghost use Rattle.calendar.specs.Time.{utc, utc_or_last, limit, text};
 ghost use Rattle.octets.specs.Bytes.{padded};
 
 use days::{Date, date_of};
-pub use moments::{Moment, TimeRead, is_later, read_time};
+pub use moments::{Moment, is_later, read_time};
 
 // The time of a microsecond since 1970; past the year 9999, that of its last microsecond.
 #[tactic(auto, using(crate::proofs::Texts::utc_before, crate::proofs::Texts::utc_past))]
@@ -31,11 +31,7 @@ fn before_limit(t: u64) -> [u8; 24]
     written(date, seconds % 86_400, t % 1_000_000)
 }
 
-// Two digits.
-#[derive(Clone, Copy)]
-struct Pair(u8, u8);
-
-// A date, a second of the day and a microsecond of the second.
+// A date, a second of the day and a microsecond of the second. (Two of three belong to no other function, so that they have no struct of their own.)
 fn written(date: Date, second: u64, micros: u64) -> [u8; 24]
     requires { (date.year ≤ 9999) × (date.month ≤ 12) × (date.day ≤ 31) × (second < 86_400) × (micros < 1_000_000) }
     ensures { result ≡ text date second micros }
@@ -60,10 +56,10 @@ fn written(date: Date, second: u64, micros: u64) -> [u8; 24]
 }
 
 // The two digits of n. They are the two bytes of one number, n / 10 below and n % 10 above, so that they are stored at once.
-fn two(n: u32) -> Pair
+fn two(n: u32) -> (u8, u8)
     requires { n < 100 }
     ensures { result.0 ∷ result.1 ∷ [] ≡ padded 2 n }
 {
     let x = 256 * n + 12_336 - 2559 * (n / 10);
-    Pair((x % 256) as u8, (x / 256) as u8)
+    ((x % 256) as u8, (x / 256) as u8)
 }

@@ -1,14 +1,13 @@
 // Times as they come: the parts of a time, and which of two is the later.
-ghost use Rattle.std.specs.Prelude.{◌≡◌, ◌&&◌, ◌||◌, ◌+◌, ◌≤◌, length};
-ghost use Rattle.octets.specs.Tests.{◌=?◌, ◌<?◌};
+ghost use Rattle.std.specs.Prelude.{◌≡◌, ◌+◌, ◌≤◌, length};
 ghost use Rattle.calendar.specs.Later.{decimals, moment_of, read_time, later};
 ghost use Rattle.calendar.specs.code.Timed.{digits_at, Timed, NumberAt};
 
 use dates::judge_time;
 use octets::row;
 
-// The parts of a time.
-#[derive(Clone, Copy)]
+// The parts of a time, in the order in which they decide which of two is the later.
+#[derive(Clone, Copy, PartialEq, Eq, PartialOrd, Ord, Debug)]
 pub struct Moment {
     pub year: u32,
     pub month: u32,
@@ -19,20 +18,14 @@ pub struct Moment {
     pub micros: u32,
 }
 
-// A time that keeps its form and the calendar, or other bytes.
-#[derive(Clone, Copy)]
-pub enum TimeRead {
-    Is(Moment),
-    Bad,
-}
-
-pub fn read_time(v: &[u8]) -> TimeRead
+// A time that keeps its form and the calendar; none of other bytes.
+pub fn read_time(v: &[u8]) -> Option<Moment>
     ensures { result ≡ read_time v.now }
 {
-    if judge_time(v) != 0 {
-        return TimeRead::Bad;
-    }
-    TimeRead::Is(moment_of(v))
+    let Ok(()) = judge_time(v) else {
+        return None;
+    };
+    Some(moment_of(v))
 }
 
 fn moment_of(v: &[u8]) -> Moment
@@ -77,21 +70,5 @@ fn micros_of(v: &[u8]) -> u32
 pub fn is_later(a: Moment, b: Moment) -> bool
     ensures { result ≡ later a b }
 {
-    let r = decides(a.micros, b.micros, false);
-    let r = decides(a.second, b.second, r);
-    let r = decides(a.minute, b.minute, r);
-    let r = decides(a.hour, b.hour, r);
-    let r = decides(a.day, b.day, r);
-    let r = decides(a.month, b.month, r);
-    decides(a.year, b.year, r)
-}
-
-// The part x beside the part y: the greater one is the later, and where they are equal, what is behind them decides.
-fn decides(x: u32, y: u32, behind: bool) -> bool
-    ensures { result ≡ (y <? x || x =? y && behind) }
-{
-    if x != y {
-        return y < x;
-    }
-    behind
+    b < a
 }

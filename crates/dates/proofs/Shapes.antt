@@ -1,5 +1,5 @@
 -- The shapes of days and times: a shape joined of two, of letters alone, and compared one byte at a time as the code does.
-use Rattle.std.proofs.Common.{◌≡◌, ℕ, zero, suc, ◌+◌, ◌<◌, ◌≤◌, Bool, true, false, cond, ◌&&◌, eqb, leb, [], ◌∷◌, ◌++◌, length, get_or, take, drop, sym, refl, ap, ◌∙◌, not-suc-le-zero, add-one, arith, length-drop, get_or-drop, take_all, drop-cons}
+use Rattle.std.proofs.Common.{◌≡◌, ℕ, zero, suc, ◌+◌, ◌<◌, ◌≤◌, Bool, true, false, cond, ◌&&◌, eqb, leb, [], ◌∷◌, ◌++◌, length, get_or, take, drop, sym, refl, ap, ◌∙◌, not-suc-le-zero, add-one, arith, drop-cons}
 use mathlib.Core.Bool.{and-true, and-false, false≢true}
 use lib.Dec.{eqb-suc-suc, eqb-zero-suc, eqb-suc-zero}
 use Rattle.octets.specs.Bytes.{Bytes, all, digit, Digit}
@@ -92,30 +92,7 @@ like-step (x ∷ s) (y ∷ v) (suc k) h g = go (stands_for x y) (like-step s v k
     go true e = e
     go false e = refl
 
-like_more : (s v : Bytes) (at k : ℕ) → k < length s → at + length s ≤ length v
-    → like (take (k + 1) s) (take (k + 1) (drop at v)) ≡ (like (take k s) (take k (drop at v)) && stands_for (get_or s k 0) (get_or v (at + k) 0))
-like_more s v at k h g =
-    rw (add-one k)
-    (like-step s (drop at v) k h (omega (arith, length-drop at v))
-    ∙ ap (λ (y : ℕ). like (take k s) (take k (drop at v)) && stands_for (get_or s k 0) y) (get_or-drop at v k 0))
-
--- the flag behind one byte: put down where it doesn't fit, kept where it does
-pub flag_down : (f b g : Bool) → b ≡ false → g ≡ false → g ≡ (f && b)
-flag_down f true g n e = absurd (false≢true (sym n))
-flag_down f false g n e = e ∙ sym (and-false f)
-
-pub flag-kept : (f b g : Bool) → b ≡ true → g ≡ f → g ≡ (f && b)
-flag-kept f true g n e = e ∙ sym (and-true f)
-flag-kept f false g n e = absurd (false≢true n)
-
-pub flag_next : (s v : Bytes) (at k : ℕ) (f b g : Bool) → k < length s → at + length s ≤ length v
-    → f ≡ like (take k s) (take k (drop at v)) → b ≡ stands_for (get_or s k 0) (get_or v (at + k) 0) → g ≡ (f && b)
-    → g ≡ like (take (k + 1) s) (take (k + 1) (drop at v))
-flag_next s v at k f b g h i p q e =
-    e ∙ ap (λ (x : Bool). x && b) p ∙ ap (λ (x : Bool). like (take k s) (take k (drop at v)) && x) q ∙ sym (like_more s v at k h i)
-
--- all bytes of the shape
-pub flag-whole : (s v : Bytes) (at k : ℕ) (f : Bool) → k ≤ length s → length s ≤ k → f ≡ like (take k s) (take k (drop at v)) → f ≡ like s (take (length s) (drop at v))
-flag-whole s v at k f h g p =
-    let e : k ≡ length s = omega arith in
-    p ∙ ap (λ (l : Bytes). like l (take k (drop at v))) (take_all k s g) ∙ ap (λ (n : ℕ). like s (take n (drop at v))) e
+-- the flag behind it
+pub flag_next : (s v : Bytes) (k : ℕ) {f b : Bool} {x y : ℕ} → (k < length s) × (k < length v) × ((d : ℕ) → x ≡ get_or s k d) × ((d : ℕ) → y ≡ get_or v k d)
+    → f ≡ like (take k s) (take k v) → b ≡ stands_for x y → (f && b) ≡ like (take (k + 1) s) (take (k + 1) v)
+flag_next s v k z p q = rw (p, q, z.2 0, z.3 0, add-one) (sym (like-step s v k z.0 z.1))

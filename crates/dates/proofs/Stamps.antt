@@ -1,9 +1,9 @@
 -- Days and times by their shapes: what the bytes that were compared say, and the numbers that calendar and clock are asked with.
-use Rattle.std.proofs.Common.{◌≡◌, ℕ, ◌+◌, ◌*◌, ◌%◌, ◌^◌, ◌<◌, ◌≤◌, Bool, true, false, cond, ◌&&◌, ◌||◌, leb, [], ◌∷◌, length, get_or, take, drop, sym, refl, ap, ◌∙◌, add-one, arith, length-drop, take_all, get_or-take, take-take}
+use Rattle.std.proofs.Common.{◌≡◌, ℕ, ◌+◌, ◌-◌, ◌*◌, ◌%◌, ◌^◌, ◌<◌, ◌≤◌, Bool, true, false, ◌&&◌, ◌||◌, leb, [], ◌∷◌, length, get_or, take, drop, sym, refl, ap, ◌∙◌, add-one, arith, length-drop, take_all, get_or-take, take-take}
 use mathlib.Core.Bool.{and-true, or-false, false≢true}
 use Rattle.octets.specs.Bytes.{Bytes, fix, value, digit}
-use Rattle.dates.specs.Date.{like, is_time, good_day, good_clock, number_at, found, day_found, time_found}
-use Rattle.dates.specs.code.Scan.{Digits, TwoAt, calendar_of, hours_of}
+use Rattle.dates.specs.Date.{like, is_time, is_day, good_day, good_clock, number_at, found, day_found, time_found}
+use Rattle.dates.specs.code.Scan.{Digits, TwoAt, is_day_of, is_clock_of}
 use Rattle.dates.proofs.Shapes.{bytes_are, like-append, like-long, like-rest, like-front, like-digit}
 
 -- two digits where the shape of the first n bytes has letters
@@ -21,27 +21,32 @@ two_is v i a b h D e k f l =
 
 -- THE DAY
 pub day_means : (v : Bytes) (a b m d : ℕ) → 8 ≤ length v → a ≡ number_at 0 2 v → b ≡ number_at 2 2 v → m ≡ number_at 4 2 v → d ≡ number_at 6 2 v
-    → calendar_of (a * 100 + b) m d ≡ cond (good_day v) 0 5
+    → is_day_of (a * 100 + b) m d ≡ good_day v
 unfolding good_day
 day_means v a b m d h p q r s = rw (p ∙ ap value (bytes_are 0 2 v (omega arith)), q ∙ ap value (bytes_are 2 2 v (omega arith)), r, s, ← year) refl
   where
     year : number_at 0 4 v ≡ value (get_or v 0 0 ∷ get_or v 1 0 ∷ []) * 100 + value (get_or v 2 0 ∷ get_or v 3 0 ∷ [])
     year = rw (bytes_are 0 4 v (omega arith)) (omega arith)
 
-pub day_unformed : (v : Bytes) (b : Bool) → length v ≡ 8 → b ≡ like (fix "YYYYMMDD") (take 8 v) → b ≡ false → 6 ≡ day_found v
-unfolding day_found
-day_unformed v b h p n = rw (ap (like (fix "YYYYMMDD")) (sym (take_all 8 v (omega arith))) ∙ sym p ∙ n)
+module _ (v : Bytes) where
+  pub day_unformed : is_day v ≡ false → 6 ≡ day_found v
+  unfolding day_found
+  day_unformed n = rw n
 
-pub day_judged : (v : Bytes) (b : Bool) (r : ℕ) → length v ≡ 8 → b ≡ like (fix "YYYYMMDD") (take 8 v) → b ≡ true → r ≡ cond (good_day v) 0 5 → r ≡ day_found v
-unfolding day_found
-day_judged v b r h p n e = rw (ap (like (fix "YYYYMMDD")) (sym (take_all 8 v (omega arith))) ∙ sym p ∙ n) e
+  pub day_wrong : is_day v ≡ true → good_day v ≡ false → 5 ≡ day_found v
+  unfolding day_found
+  day_wrong n g = rw (n, g)
+
+  pub day_right : is_day v ≡ true → good_day v ≡ true → 0 ≡ day_found v
+  unfolding day_found
+  day_right n g = rw (n, g)
 
 pub day_long : (v : Bytes) → (length v ≡ 8 → ⊥) → 6 ≡ day_found v
 unfolding day_found
 day_long v n = rw (like-long (fix "YYYYMMDD") v (λ e. n (sym e)))
 
 -- THE TIME
-pub time_means : (v : Bytes) (h m s : ℕ) → h ≡ number_at 9 2 v → m ≡ number_at 12 2 v → s ≡ number_at 15 2 v → hours_of h m s ≡ cond (good_clock v) 0 5
+pub time_means : (v : Bytes) (h m s : ℕ) → h ≡ number_at 9 2 v → m ≡ number_at 12 2 v → s ≡ number_at 15 2 v → is_clock_of h m s ≡ good_clock v
 unfolding good_clock
 time_means v h m s p q r = rw (p, q, r)
 
@@ -50,25 +55,22 @@ unfolding time_found
 time-short v h =
     rw (like-long (fix "YYYYMMDD-HH:MM:SS") v (λ e. omega arith), like-long (fix "YYYYMMDD-HH:MM:SS.sss") v (λ e. omega arith), like-long (fix "YYYYMMDD-HH:MM:SS.ssssss") v (λ e. omega arith))
 
-pub time_unformed : (v : Bytes) (b : Bool) → b ≡ is_time v → b ≡ false → 6 ≡ time_found v
-unfolding time_found
-time_unformed v b p n = rw (sym p ∙ n)
+module _ (v : Bytes) where
+  pub time_unformed : is_time v ≡ false → 6 ≡ time_found v
+  unfolding time_found
+  time_unformed n = rw n
 
-pub time_no_day : (v : Bytes) (b : Bool) (d : ℕ) → b ≡ is_time v → b ≡ true → d ≡ cond (good_day v) 0 5 → d ≡ 5 → 5 ≡ time_found v
-unfolding time_found
-time_no_day v b d p n q e = rw (sym p ∙ n) (go (good_day v) (sym q ∙ e))
-  where
-    go : (g : Bool) → ◌≡◌ {A = ℕ} (cond g 0 5) 5 → ◌≡◌ {A = ℕ} 5 (cond (g && good_clock v) 0 5)
-    go true k = omega arith
-    go false k = refl
+  pub time_no_day : is_time v ≡ true → good_day v ≡ false → 5 ≡ time_found v
+  unfolding time_found
+  time_no_day n g = rw (n, g)
 
-pub time-judged : (v : Bytes) (b : Bool) (d r : ℕ) → b ≡ is_time v → b ≡ true → d ≡ cond (good_day v) 0 5 → (d ≡ 5 → ⊥) → r ≡ cond (good_clock v) 0 5 → r ≡ time_found v
-unfolding time_found
-time-judged v b d r p n q e c = rw (sym p ∙ n) (go (good_day v) (λ k. e (q ∙ k)))
-  where
-    go : (g : Bool) → (◌≡◌ {A = ℕ} (cond g 0 5) 5 → ⊥) → r ≡ cond (g && good_clock v) 0 5
-    go true k = c
-    go false k = absurd (k refl)
+  pub time_no_clock : is_time v ≡ true → good_day v ≡ true → good_clock v ≡ false → 5 ≡ time_found v
+  unfolding time_found
+  time_no_clock n g c = rw (n, g, c)
+
+  pub time_is : is_time v ≡ true → good_day v ≡ true → good_clock v ≡ true → 0 ≡ time_found v
+  unfolding time_found
+  time_is n g c = rw (n, g, c)
 
 -- a time of which nothing is found has its form, and is a time of calendar and clock
 pub time-right : (v : Bytes) → time_found v ≡ 0 → (is_time v ≡ true) × ((good_day v && good_clock v) ≡ true)
@@ -92,48 +94,48 @@ by_shape v {P} = go (like (fix "YYYYMMDD-HH:MM:SS") v) (like (fix "YYYYMMDD-HH:M
     go false false false e f g h = absurd (false≢true e)
 
 -- they begin alike
-pub time-front : (v : Bytes) (b : Bool) → b ≡ is_time v → b ≡ true → like (fix "YYYYMMDD-HH:MM:SS") (take 17 v) ≡ true
-time-front v b p n =
-    by_shape v (sym p ∙ n)
+pub time-front : (v : Bytes) → is_time v ≡ true → like (fix "YYYYMMDD-HH:MM:SS") (take 17 v) ≡ true
+time-front v n =
+    by_shape v n
     (like-front (fix "YYYYMMDD-HH:MM:SS") [] v)
     (like-front (fix "YYYYMMDD-HH:MM:SS") (fix ".sss") v)
     (like-front (fix "YYYYMMDD-HH:MM:SS") (fix ".ssssss") v)
 
-pub time_wrong : (v : Bytes) (b : Bool) → b ≡ like (fix "YYYYMMDD-HH:MM:S") (take 16 v) → b ≡ false → 6 ≡ time_found v
+pub time_wrong : (v : Bytes) → like (fix "YYYYMMDD-HH:MM:S") (take 16 v) ≡ false → 6 ≡ time_found v
 unfolding time_found
-time_wrong v b p n =
+time_wrong v n =
     rw (
       like-append (fix "YYYYMMDD-HH:MM:S") (fix "S") v,
       like-append (fix "YYYYMMDD-HH:MM:S") (fix "S.sss") v,
       like-append (fix "YYYYMMDD-HH:MM:S") (fix "S.ssssss") v,
-      sym p ∙ n,
+      n,
     )
 
 -- the day in front of a time
-pub time_day : (v : Bytes) (b : Bool) → b ≡ like (fix "YYYYMMDD-HH:MM:S") (take 16 v) → b ≡ true → like (fix "YYYYMMDD") (take 8 v) ≡ true
-time_day v b p n = rw (take-take 8 16 v (omega arith)) at (like-front (fix "YYYYMMDD") (fix "-HH:MM:S") (take 16 v) (sym p ∙ n))
+pub time_day : (v : Bytes) → like (fix "YYYYMMDD-HH:MM:S") (take 16 v) ≡ true → like (fix "YYYYMMDD") (take 8 v) ≡ true
+time_day v n = rw (take-take 8 16 v (omega arith)) at (like-front (fix "YYYYMMDD") (fix "-HH:MM:S") (take 16 v) n)
 
 -- WHAT STANDS BEHIND THE FIRST SIXTEEN BYTES, by the length
 module _ (v : Bytes) (h : like (fix "YYYYMMDD-HH:MM:S") (take 16 v) ≡ true) where
-  pub time_six : length v ≡ 24 → like (fix "S.ssssss") (take 8 (drop 16 v)) ≡ is_time v
+  pub time_six : length v ≡ 24 → like (fix "S.ssssss") (take (length v - 16) (drop 16 v)) ≡ is_time v
   time_six n =
       rw (
         like-long (fix "YYYYMMDD-HH:MM:SS") v (λ e. omega arith),
         like-long (fix "YYYYMMDD-HH:MM:SS.sss") v (λ e. omega arith),
         like-rest (fix "YYYYMMDD-HH:MM:S") (fix "S.ssssss") v h,
-        take_all 8 (drop 16 v) (omega (arith, length-drop 16 v)),
+        take_all (length v - 16) (drop 16 v) (omega (arith, length-drop 16 v)),
       )
       (sym (or-false _))
 
   -- its last eight bytes begin with the minutes' second digit
-  pub time_three : length v ≡ 21 → like (fix "M:SS.sss") (take 8 (drop 13 v)) ≡ is_time v
+  pub time_three : length v ≡ 21 → like (fix "M:SS.sss") (take (length v - 13) (drop 13 v)) ≡ is_time v
   time_three n =
       let k : like (fix "YYYYMMDD-HH:M") (take 13 v) ≡ true = rw (take-take 13 16 v (omega arith)) at (like-front (fix "YYYYMMDD-HH:M") (fix "M:S") (take 16 v) h) in
       rw (
         like-long (fix "YYYYMMDD-HH:MM:SS") v (λ e. omega arith),
         like-long (fix "YYYYMMDD-HH:MM:SS.ssssss") v (λ e. omega arith),
         like-rest (fix "YYYYMMDD-HH:M") (fix "M:SS.sss") v k,
-        take_all 8 (drop 13 v) (omega (arith, length-drop 13 v)),
+        take_all (length v - 13) (drop 13 v) (omega (arith, length-drop 13 v)),
       )
       (sym (or-false _))
 

@@ -3,6 +3,7 @@ use Prim.Native.Nat.{ℕ, suc, ◌+◌, ◌-◌, ◌*◌, ◌<◌, ◌≤◌}
 use native.Mathlib.Numerals.{add-one}
 use native.Mathlib.Omega.{arith}
 use borrow.Author.Tests.{le-leb, lt-leb, eq-eqb, ne_eqb, leb-true, leb-false}
+use Rattle.std.proofs.Common.{Result, Ok, Err}
 use mathlib.Core.Path.{◌≡◌, refl, ap, sym, ◌∙◌}
 use mathlib.Core.List.{[], ◌∷◌, ◌++◌, append-nil}
 use mathlib.Core.Bool.{Bool, true, false, cond, not, ◌&&◌, ◌||◌, and-false, false≢true}
@@ -13,17 +14,18 @@ use Rattle.octets.specs.Bytes.{Bytes, all, starts, fix, digit, value, value_from
 use Rattle.decimals.specs.Decimal.{leading, trailing, plain, pointed, is_decimal, ranged_of, decimal_of}
 use Rattle.decimals.specs.code.Scan.{Capped, Ran, Leads}
 use Rattle.decimals.specs.declared.Decimal.{Decimal}
-use Rattle.decimals.specs.declared.Decimal.TheVariants.{Is, OutOfRange, Bad}
+use Rattle.fault.specs.declared.Fault.{Fault}
+use Rattle.fault.specs.declared.Fault.TheVariants.{Value, Form}
 use Rattle.decimals.specs.declared.Run.{Run}
 
 -- the range
-pub too_large : (w p : ℕ) → 1_000_000_000_000_000 ≤ w → OutOfRange ≡ ranged_of w p
+pub too_large : (w p : ℕ) → 1_000_000_000_000_000 ≤ w → Err Value ≡ ranged_of w p
 too_large w p h = rw (le-leb 0 w (omega arith), lt-leb w 999_999_999_999_999 (omega arith))
 
-pub too_long : (w p : ℕ) → w < 1_000_000_000_000_000 → 8 < p → OutOfRange ≡ ranged_of w p
+pub too_long : (w p : ℕ) → w < 1_000_000_000_000_000 → 8 < p → Err Value ≡ ranged_of w p
 too_long w p h k = rw (le-leb 0 w (omega arith), le-leb w 999_999_999_999_999 (omega arith), le-leb 0 p (omega arith), lt-leb p 8 k)
 
-pub in_range : (w p : ℕ) → w < 1_000_000_000_000_000 → p ≤ 8 → Is w p ≡ ranged_of w p
+pub in_range : (w p : ℕ) → w < 1_000_000_000_000_000 → p ≤ 8 → Ok (record { whole = w; places = p }) ≡ ranged_of w p
 in_range w p h k = rw (le-leb 0 w (omega arith), le-leb w 999_999_999_999_999 (omega arith), le-leb 0 p (omega arith), le-leb p 8 k)
 
 capped_ranged : (w x p : ℕ) → Capped w x → ranged_of w p ≡ ranged_of x p
@@ -70,18 +72,18 @@ leading-head (x ∷ v) h = go (digit x) h
 
 -- THE DIGITS BEFORE THE POINT
 module _ (v : Bytes) where
-  not_plain : plain (leading v) ≡ false → Bad ≡ decimal_of v
+  not_plain : plain (leading v) ≡ false → Err Form ≡ decimal_of v
   unfolding decimal_of is_decimal
   not_plain e = rw e
 
   module _ {r : Run} (R : Ran v 0 0 r) where
-    pub no_digits : r.end ≡ 0 → Bad ≡ decimal_of v
+    pub no_digits : r.end ≡ 0 → Err Form ≡ decimal_of v
     no_digits z = not_plain (rw (eq-eqb (length (leading v)) 0 (omega (arith, R.end))))
 
     head : (r.end ≡ 0 → ⊥) → starts (fix "0") (leading v) ≡ eqb 48 (get_or v 0 0)
     head n = leading-head v (omega (arith, R.end, n))
 
-    pub zero_leads : (r.end ≡ 0 → ⊥) → get_or v 0 0 ≡ 48 → (r.end ≡ 1 → ⊥) → Bad ≡ decimal_of v
+    pub zero_leads : (r.end ≡ 0 → ⊥) → get_or v 0 0 ≡ 48 → (r.end ≡ 1 → ⊥) → Err Form ≡ decimal_of v
     zero_leads n e k =
         not_plain (rw (ne_eqb (length (leading v)) 0 (λ z. n (omega (arith, R.end))), head n, eq-eqb 48 (get_or v 0 0) (sym e), ne_eqb (length (leading v)) 1 (λ z. k (omega (arith, R.end)))))
 
@@ -103,11 +105,11 @@ module _ (v : Bytes) where
 
 -- WHAT STANDS BEHIND THEM
 module _ {v : Bytes} {k w : ℕ} (L : Leads v k w) where
-  not_pointed : pointed (trailing v) ≡ false → Bad ≡ decimal_of v
+  not_pointed : pointed (trailing v) ≡ false → Err Form ≡ decimal_of v
   unfolding decimal_of is_decimal
   not_pointed e = rw (e, and-false (plain (leading v)))
 
-  pub whole_alone : k ≡ length v → {r : Decimal} → r ≡ ranged_of w 0 → r ≡ decimal_of v
+  pub whole_alone : k ≡ length v → {r : Result Decimal Fault} → r ≡ ranged_of w 0 → r ≡ decimal_of v
   unfolding decimal_of is_decimal
   whole_alone e {r} q =
       let t : trailing v ≡ [] = sym L.rest ∙ drop_of_length-le v {i = k} (omega arith) in
@@ -120,24 +122,24 @@ module _ {v : Bytes} {k w : ℕ} (L : Leads v k w) where
     there : trailing v ≡ get_or v k 0 ∷ drop (k + 1) v
     there = sym L.rest ∙ drop-cons v k 0 inside ∙ rw add-one
 
-    pub no_point : (get_or v k 0 ≡ 46 → ⊥) → Bad ≡ decimal_of v
+    pub no_point : (get_or v k 0 ≡ 46 → ⊥) → Err Form ≡ decimal_of v
     no_point p = not_pointed (rw (there, ne_eqb (get_or v k 0) 46 p))
 
     module _ (p : get_or v k 0 ≡ 46) {r : Run} (R : Ran v (k + 1) w r) where
       long : length (drop (k + 1) v) ≡ length v - (k + 1)
       long = length-drop (k + 1) v
 
-      pub other_places : (r.end ≡ length v → ⊥) → Bad ≡ decimal_of v
+      pub other_places : (r.end ≡ length v → ⊥) → Err Form ≡ decimal_of v
       other_places e = not_pointed (rw there (go (all digit (drop (k + 1) v)) refl))
         where
           go : (b : Bool) → all digit (drop (k + 1) v) ≡ b → (eqb (get_or v k 0) 46 && (not (eqb (length (drop (k + 1) v)) 0) && b)) ≡ false
           go true h = absurd (e (omega (arith, R.end, all_leading (drop (k + 1) v) h, long, inside)))
           go false h = rw (and-false (not (eqb (length (drop (k + 1) v)) 0)), and-false (eqb (get_or v k 0) 46))
 
-      pub no_places : r.end ≡ length v → r.end ≡ k + 1 → Bad ≡ decimal_of v
+      pub no_places : r.end ≡ length v → r.end ≡ k + 1 → Err Form ≡ decimal_of v
       no_places e z = not_pointed (rw (there, eq-eqb (length (drop (k + 1) v)) 0 (omega (arith, long)), and-false (eqb (get_or v k 0) 46)))
 
-      pub with_places : r.end ≡ length v → (r.end ≡ k + 1 → ⊥) → {q : Decimal} → q ≡ ranged_of r.value (r.end - (k + 1)) → q ≡ decimal_of v
+      pub with_places : r.end ≡ length v → (r.end ≡ k + 1 → ⊥) → {q : Result Decimal Fault} → q ≡ ranged_of r.value (r.end - (k + 1)) → q ≡ decimal_of v
       unfolding decimal_of is_decimal
       with_places e z {q} h =
           let f = leading-whole (drop (k + 1) v) (omega (arith, R.end, long, R.behind)) in

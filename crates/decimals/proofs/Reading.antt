@@ -2,10 +2,10 @@
 use Prim.Native.Nat.{ℕ, ◌+◌, ◌-◌, ◌*◌, ◌<◌, ◌≤◌}
 use native.Mathlib.Numerals.{add-one}
 use native.Mathlib.Omega.{arith}
-use borrow.Author.Tests.{le-leb, lt-leb, leb-true, leb-false}
+use borrow.Author.Tests.{leb-true, leb-false}
 use mathlib.Core.Path.{◌≡◌, refl, ap, sym, ◌∙◌, subst}
 use mathlib.Core.List.{[], ◌∷◌}
-use mathlib.Core.Bool.{Bool, true, false, and-false}
+use mathlib.Core.Bool.{Bool, true, false}
 use lib.Dec.{leb}
 use lib.ListN.{length, get_or, drop, drop_of_length-le}
 use lib.Seq.{drop-cons}
@@ -74,18 +74,11 @@ module _ {v : Bytes} {from before i w : ℕ} (R : Running v from before i w) whe
   row_whole h = let e = drop_of_length-le v {i = i} h in stops (ap leading e) (e ∙ sym (ap trailing e))
 
   module _ (l : i < length v) where
-    no_digit : digit (get_or v i 0) ≡ false → Ran v from before (record { end = i; value = w })
-    no_digit n = let e = drop-cons v i 0 l in stops (ap leading e ∙ rw n) (e ∙ sym (ap trailing e ∙ rw n))
+    pub row_ends : digit (get_or v i 0) ≡ false → Ran v from before (record { end = i; value = w })
+    row_ends n = let e = drop-cons v i 0 l in stops (ap leading e ∙ rw n) (e ∙ sym (ap trailing e ∙ rw n))
 
-    pub row_low : get_or v i 0 < 48 → Ran v from before (record { end = i; value = w })
-    row_low h = no_digit (rw (lt-leb 48 (get_or v i 0) h))
-
-    pub row_high : 57 < get_or v i 0 → Ran v from before (record { end = i; value = w })
-    row_high h = no_digit (rw (lt-leb (get_or v i 0) 57 h) (and-false (leb 48 (get_or v i 0))))
-
-    pub row_next : {w2 : ℕ} → 48 ≤ get_or v i 0 → get_or v i 0 ≤ 57 → More w (get_or v i 0) w2 → Running v from before (i + 1) w2
-    row_next h k M =
-        let d : digit (get_or v i 0) ≡ true = rw (le-leb 48 (get_or v i 0) h, le-leb (get_or v i 0) 57 k) in
+    pub row_next : {w2 : ℕ} → digit (get_or v i 0) ≡ true → More w (get_or v i 0) w2 → Running v from before (i + 1) w2
+    row_next d M =
         let a : leading (drop i v) ≡ get_or v i 0 ∷ leading (drop (i + 1) v) = ap leading (drop-cons v i 0 l) ∙ rw (d, add-one) in
         let t : trailing (drop i v) ≡ trailing (drop (i + 1) v) = ap trailing (drop-cons v i 0 l) ∙ rw (d, add-one) in
         record {

@@ -1,9 +1,10 @@
 -- "31 and 32 are decimals given as a whole number from 0 to 999,999,999,999,999 and 0 to 8 places: digits without leading zero but a lone 0, then a
 -- point only if places follow (else 6; out of range 5); reading gives back both."
-use Rattle.std.specs.Prelude.{ℕ, [], ◌∷◌, ◌++◌, Bool, true, cond, not, ◌&&◌, ◌||◌, eqb, length, drop}
+use Rattle.std.specs.Prelude.{ℕ, [], ◌∷◌, ◌++◌, Bool, true, cond, not, ◌&&◌, ◌||◌, eqb, length, drop, Result, Ok, Err}
 use Rattle.octets.specs.Bytes.{Bytes, byte, fix, all, starts, within, digit, value}
 use Rattle.decimals.specs.declared.Decimal.{Decimal}
-use Rattle.decimals.specs.declared.Decimal.TheVariants.{Is, OutOfRange, Bad}
+use Rattle.fault.specs.declared.Fault.{Fault}
+use Rattle.fault.specs.declared.Fault.TheVariants.{Value, Form}
 
 -- the digits that it begins with, and what stands behind them
 abbrev pub leading : Bytes → Bytes
@@ -37,14 +38,9 @@ whole_of v = value (leading v ++ places_of v)
 abbrev pub in_range : ℕ → ℕ → Bool
 in_range whole places = within 0 999_999_999_999_999 whole && within 0 8 places
 
-abbrev pub ranged_of : ℕ → ℕ → Decimal
-ranged_of whole places = cond (in_range whole places) (Is whole places) OutOfRange
+-- "(else 6; out of range 5); reading gives back both"
+abbrev pub ranged_of : ℕ → ℕ → Result Decimal Fault
+ranged_of whole places = cond (in_range whole places) (Ok (record { whole = whole; places = places })) (Err Value)
 
-unfoldable pub decimal_of : Bytes → Decimal
-decimal_of v = cond (is_decimal v) (ranged_of (whole_of v) (length (places_of v))) Bad
-
--- rules 9 and 10: 6 for the form, 5 for the range
-abbrev pub finding : Decimal → ℕ
-finding (Is w p) = 0
-finding OutOfRange = 5
-finding Bad = 6
+unfoldable pub decimal_of : Bytes → Result Decimal Fault
+decimal_of v = cond (is_decimal v) (ranged_of (whole_of v) (length (places_of v))) (Err Form)

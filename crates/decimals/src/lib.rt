@@ -5,19 +5,20 @@ ghost use Rattle.std.specs.Prelude.{◌≡◌, ◌≤◌, ◌<◌, length};
 ghost use Rattle.decimals.specs.Decimal.{decimal_of, ranged_of};
 ghost use Rattle.decimals.specs.code.Scan.{Ran, More, Leads, Placed};
 
+use fault::Fault;
+
 // The least whole number that is out of range.
 const LIMIT: u64 = 1_000_000_000_000_000;
 
-#[derive(Clone, Copy)]
-pub enum Decimal {
-    Is { whole: u64, places: usize },
-    OutOfRange,
-    Bad,
+#[derive(Clone, Copy, PartialEq, Eq, Debug)]
+pub struct Decimal {
+    pub whole: u64,
+    pub places: usize,
 }
 
 // Digits that stand in a row: where they end, and the number that they write.
 #[derive(Clone, Copy)]
-pub struct Run {
+struct Run {
     pub end: usize,
     pub value: u64,
 }
@@ -28,12 +29,12 @@ fn more(w: u64, c: u8) -> u64
     ensures { More w c result }
 {
     if w < LIMIT {
-        return w * 10 + ((c - 48) as u64);
+        return w * 10 + u64::from(c - b'0');
     }
     w
 }
 
-// The digits of v from a place on, behind the number that is written before them.
+// The digits of v from a place on, behind the number that is written before them. (By the place, which is what is asked for: a `for` would count it beside.)
 fn row_of(v: &[u8], from: usize, before: u64) -> Run
     requires { (from ≤ length v.now) × (before < 10_000_000_000_000_000) }
     ensures { Ran v.now from before result }
@@ -41,14 +42,10 @@ fn row_of(v: &[u8], from: usize, before: u64) -> Run
     let mut i = from;
     let mut w = before;
     while i < v.len() {
-        let c = v[i];
-        if c < 48 {
+        if !v[i].is_ascii_digit() {
             return Run { end: i, value: w };
         }
-        if 57 < c {
-            return Run { end: i, value: w };
-        }
-        w = more(w, c);
+        w = more(w, v[i]);
         i += 1;
     }
     Run { end: i, value: w }
@@ -56,26 +53,22 @@ fn row_of(v: &[u8], from: usize, before: u64) -> Run
 
 // The decimal that the bytes write: digits without leading zero but a lone 0, then a point only if places follow.
 #[tactic(auto, using(crate::proofs::Making::zeros))]
-pub fn read_decimal(v: &[u8]) -> Decimal
+pub fn read_decimal(v: &[u8]) -> Result<Decimal, Fault>
     ensures { result ≡ decimal_of v.now }
 {
-    let n = v.len();
     let a = row_of(v, 0, 0);
     let k = a.end;
     if k == 0 {
-        return Decimal::Bad;
+        return Err(Fault::Form);
     }
-    if v[0] == 48 {
-        if k != 1 {
-            return Decimal::Bad;
-        }
-        return places(v, k, a.value);
+    if v[0] == b'0' && k != 1 {
+        return Err(Fault::Form);
     }
     places(v, k, a.value)
 }
 
 // What stands behind the digits that a decimal begins with.
-fn places(v: &[u8], k: usize, value: u64) -> Decimal
+fn places(v: &[u8], k: usize, value: u64) -> Result<Decimal, Fault>
     requires { Leads v.now k value }
     ensures { Placed v.now result }
 {
@@ -84,26 +77,23 @@ fn places(v: &[u8], k: usize, value: u64) -> Decimal
         return ranged(value, 0);
     }
     if v[k] != b'.' {
-        return Decimal::Bad;
+        return Err(Fault::Form);
     }
     let b = row_of(v, k + 1, value);
     if b.end != n {
-        return Decimal::Bad;
+        return Err(Fault::Form);
     }
     if b.end == k + 1 {
-        return Decimal::Bad;
+        return Err(Fault::Form);
     }
     ranged(b.value, b.end - (k + 1))
 }
 
-fn ranged(whole: u64, places: usize) -> Decimal
+fn ranged(whole: u64, places: usize) -> Result<Decimal, Fault>
     ensures { result ≡ ranged_of whole places }
 {
-    if LIMIT <= whole {
-        return Decimal::OutOfRange;
+    if LIMIT <= whole || 8 < places {
+        return Err(Fault::Value);
     }
-    if 8 < places {
-        return Decimal::OutOfRange;
-    }
-    Decimal::Is { whole, places }
+    Ok(Decimal { whole, places })
 }

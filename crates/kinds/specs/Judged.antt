@@ -1,6 +1,5 @@
 -- Which words the code's enums stand for, and the finding on a value: "9. bad form: 6; 10. bad value: 5".
-use Rattle.std.specs.Prelude.{ℕ, List, [], ◌∷◌, cond}
-use Rattle.std.proofs.Math.Option.{Option, none, some}
+use Rattle.std.specs.Prelude.{ℕ, List, [], ◌∷◌, cond, Option, Some, None}
 use Rattle.octets.specs.Bytes.{Bytes, fix, value}
 use Rattle.dates.specs.Date.{found}
 use Rattle.kinds.specs.Kind as Words
@@ -10,8 +9,6 @@ use Rattle.kinds.specs.declared.Kind.TheVariants.{Text, Flag, Time, Day, Decimal
 use Rattle.kinds.specs.declared.Kind.TheVariants as Was
 use Rattle.kinds.specs.declared.Choice.{Choice}
 use Rattle.kinds.specs.declared.Choice.TheVariants.{Zero, Eight, Nine, D, OneOrTwo, ZeroOr54, ZeroOr54Or99, Matches, Roles}
-use Rattle.kinds.specs.declared.Number.{Number}
-use Rattle.kinds.specs.declared.Number.TheVariants.{Is, Bad}
 
 abbrev pub choices : Choice → List Bytes
 choices Zero = fix "0" ∷ []
@@ -34,13 +31,8 @@ meaning Decimal = decimal
 meaning (OneOf c) = among (choices c)
 
 -- the number that the bytes write, where they are one
-unfoldable pub number_of : Bytes → Number
-number_of v = cond (is_number v) (Is (value v)) Bad
-
--- the value of each case
-abbrev pub worth : Number → Option ℕ
-worth (Is n) = some n
-worth Bad = none
+unfoldable pub number_of : Bytes → Option ℕ
+number_of v = cond (is_number v) (Some (value v)) None
 
 -- 6, 5, or 0 where there is nothing to find
 unfoldable pub judged : Words.Kind → Bytes → ℕ

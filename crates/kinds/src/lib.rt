@@ -2,16 +2,18 @@
 #![tactic(auto)]
 
 ghost use Rattle.std.specs.Prelude.{◌≡◌, [], ◌∷◌};
-ghost use Rattle.octets.specs.Bytes.{same};
+ghost use Rattle.octets.specs.Bytes.{any, same};
+ghost use Rattle.fault.specs.Fault.{reason};
 ghost use Rattle.kinds.specs.Kind.{text, number◌to◌, Y/N, decimal, among};
 ghost use Rattle.kinds.specs.Judged.{choices, meaning, judged, number_of};
 
 use dates::{judge_day, judge_time};
-use decimals::{Decimal, read_decimal};
+use decimals::read_decimal;
+use fault::Fault;
 use octets::digits;
 
 // A kind as the dictionary's table holds it; specs/Judged.antt says which words each case stands for.
-#[derive(Clone, Copy)]
+#[derive(Clone, Copy, PartialEq, Eq, Debug)]
 pub enum Kind {
     Text { most: usize },
     Number { least: u32, most: u32 },
@@ -23,7 +25,7 @@ pub enum Kind {
 }
 
 // The lists of values that the documents have.
-#[derive(Clone, Copy)]
+#[derive(Clone, Copy, PartialEq, Eq, Debug)]
 pub enum Choice {
     Zero,
     Eight,
@@ -36,48 +38,25 @@ pub enum Choice {
     Roles,
 }
 
-// A number of 1 to 12 digits, or other bytes.
-#[derive(Clone, Copy)]
-pub enum Number {
-    Is(u64),
-    Bad,
-}
-
-// The same bytes.
-pub fn same(a: &[u8], b: &[u8]) -> bool
-    ensures { result ≡ same a.now b.now }
-{
-    if a.len() != b.len() {
-        return false;
-    }
-    let mut i: usize = 0;
-    while i < a.len() {
-        if a[i] != b[i] {
-            return false;
-        }
-        i += 1;
-    }
-    true
-}
-
 // The number that the bytes write: 1 to 12 digits, zeros in front among them.
-pub fn read_number(v: &[u8]) -> Number
+pub fn read_number(v: &[u8]) -> Option<u64>
     ensures { result ≡ number_of v.now }
 {
     let n = v.len();
     if n == 0 {
-        return Number::Bad;
+        return None;
     }
     let d = digits(v, 0, 12);
     if d.count != n {
-        return Number::Bad;
+        return None;
     }
-    Number::Is(d.value as u64)
+    Some(d.value as u64)
 }
 
-// The finding on a value of a kind: 6 for its form, 5 for its value, 0 for none.
-pub fn judge(kind: Kind, v: &[u8]) -> u32
-    ensures { result ≡ judged (meaning kind) v.now }
+// The finding on a value of a kind: its form, then its value.
+#[inline(always)]
+pub fn judge(kind: Kind, v: &[u8]) -> Result<(), Fault>
+    ensures { reason result ≡ judged (meaning kind) v.now }
 {
     match kind {
         Kind::Text { most } => judge_text(v, most),
@@ -90,183 +69,102 @@ pub fn judge(kind: Kind, v: &[u8]) -> u32
     }
 }
 
-pub fn judge_text(v: &[u8], most: usize) -> u32
-    ensures { result ≡ judged (text most) v.now }
+#[tactic(auto, unfolding(crate::specs::Judged::judged, crate::specs::Kind::formed, crate::specs::Kind::allowed))]
+pub fn judge_text(v: &[u8], most: usize) -> Result<(), Fault>
+    ensures { reason result ≡ judged (text most) v.now }
 {
     let n = v.len();
-    if n < 1 {
-        return 5;
+    if 1 <= n && n <= most {
+        Ok(())
+    } else {
+        Err(Fault::Value)
     }
-    if most < n {
-        return 5;
-    }
-    0
 }
 
-pub fn judge_number(v: &[u8], least: u32, most: u32) -> u32
-    ensures { result ≡ judged (number least to most) v.now }
+pub fn judge_number(v: &[u8], least: u32, most: u32) -> Result<(), Fault>
+    ensures { reason result ≡ judged (number least to most) v.now }
 {
-    let read = read_number(v);
-    let Number::Is(n) = read else {
-        return 6;
+    let Some(n) = read_number(v) else {
+        return Err(Fault::Form);
     };
-    if n < (least as u64) {
-        return 5;
+    if u64::from(least) <= n && n <= u64::from(most) {
+        Ok(())
+    } else {
+        Err(Fault::Value)
     }
-    if (most as u64) < n {
-        return 5;
-    }
-    0
 }
 
-pub fn judge_flag(v: &[u8]) -> u32
-    ensures { result ≡ judged Y/N v.now }
+#[tactic(auto, unfolding(crate::specs::Judged::judged, crate::specs::Kind::formed, crate::specs::Kind::allowed))]
+pub fn judge_flag(v: &[u8]) -> Result<(), Fault>
+    ensures { reason result ≡ judged Y/N v.now }
 {
-    if is_one(v, b'Y') {
-        return 0;
+    if is_one(v, b'Y') || is_one(v, b'N') {
+        Ok(())
+    } else {
+        Err(Fault::Form)
     }
-    if is_one(v, b'N') {
-        return 0;
-    }
-    6
 }
 
 // A decimal: its form, then its range.
-pub fn judge_decimal(v: &[u8]) -> u32
-    ensures { result ≡ judged decimal v.now }
+pub fn judge_decimal(v: &[u8]) -> Result<(), Fault>
+    ensures { reason result ≡ judged decimal v.now }
 {
-    match read_decimal(v) {
-        Decimal::Is {
-            whole: _,
-            places: _,
-        } => 0,
-        Decimal::OutOfRange => 5,
-        Decimal::Bad => 6,
-    }
+    read_decimal(v)?;
+    Ok(())
 }
 
 // The value is one of a list; any other is 5.
-fn judge_choice(v: &[u8], list: Choice) -> u32
-    ensures { result ≡ judged (among (choices list)) v.now }
+#[tactic(auto, unfolding(crate::specs::Judged::judged, crate::specs::Kind::formed, crate::specs::Kind::allowed))]
+#[inline(always)]
+pub fn judge_choice(v: &[u8], list: Choice) -> Result<(), Fault>
+    ensures { reason result ≡ judged (among (choices list)) v.now }
+{
+    if is_among(v, list) {
+        Ok(())
+    } else {
+        Err(Fault::Value)
+    }
+}
+
+// (The lists stand as the document gives them. They are compared by one byte or two, so that no list is laid out and no length is looked at twice.)
+#[inline(always)]
+fn is_among(v: &[u8], list: Choice) -> bool
+    ensures { result ≡ any (λ w. same v.now w) (choices list) }
 {
     match list {
-        Choice::Zero => judge_one(v, b'0'),
-        Choice::Eight => judge_one(v, b'8'),
-        Choice::Nine => judge_one(v, b'9'),
-        Choice::D => judge_one(v, b'D'),
-        Choice::OneOrTwo => judge_one_or_two(v),
-        Choice::ZeroOr54 => judge_zero_or_54(v),
-        Choice::ZeroOr54Or99 => judge_zero_54_or_99(v),
-        Choice::Matches => judge_match(v),
-        Choice::Roles => judge_role(v),
+        Choice::Zero => is_one(v, b'0'),
+        Choice::Eight => is_one(v, b'8'),
+        Choice::Nine => is_one(v, b'9'),
+        Choice::D => is_one(v, b'D'),
+        Choice::OneOrTwo => is_one(v, b'1') || is_one(v, b'2'),
+        Choice::ZeroOr54 => is_one(v, b'0') || is_two(v, b'5', b'4'),
+        Choice::ZeroOr54Or99 => {
+            is_one(v, b'0') || is_two(v, b'5', b'4') || is_two(v, b'9', b'9')
+        }
+        Choice::Matches => {
+            is_one(v, b'2') || is_one(v, b'4') || is_one(v, b'7') || is_two(v, b'2', b'2')
+        }
+        Choice::Roles => {
+            is_one(v, b'1')
+                || is_one(v, b'3')
+                || is_two(v, b'1', b'2')
+                || is_two(v, b'1', b'7')
+                || is_two(v, b'7', b'6')
+        }
     }
-}
-
-pub fn judge_one(v: &[u8], x: u8) -> u32
-    ensures { result ≡ judged (among ((x ∷ []) ∷ [])) v.now }
-{
-    if is_one(v, x) {
-        return 0;
-    }
-    5
-}
-
-pub fn judge_one_or_two(v: &[u8]) -> u32
-    ensures { result ≡ judged (among (choices Choice.OneOrTwo)) v.now }
-{
-    if is_one(v, b'1') {
-        return 0;
-    }
-    if is_one(v, b'2') {
-        return 0;
-    }
-    5
-}
-
-pub fn judge_zero_or_54(v: &[u8]) -> u32
-    ensures { result ≡ judged (among (choices Choice.ZeroOr54)) v.now }
-{
-    if is_one(v, b'0') {
-        return 0;
-    }
-    if is_two(v, b'5', b'4') {
-        return 0;
-    }
-    5
-}
-
-pub fn judge_zero_54_or_99(v: &[u8]) -> u32
-    ensures { result ≡ judged (among (choices Choice.ZeroOr54Or99)) v.now }
-{
-    if is_one(v, b'0') {
-        return 0;
-    }
-    if is_two(v, b'5', b'4') {
-        return 0;
-    }
-    if is_two(v, b'9', b'9') {
-        return 0;
-    }
-    5
-}
-
-pub fn judge_match(v: &[u8]) -> u32
-    ensures { result ≡ judged (among (choices Choice.Matches)) v.now }
-{
-    if is_one(v, b'2') {
-        return 0;
-    }
-    if is_one(v, b'4') {
-        return 0;
-    }
-    if is_one(v, b'7') {
-        return 0;
-    }
-    if is_two(v, b'2', b'2') {
-        return 0;
-    }
-    5
-}
-
-pub fn judge_role(v: &[u8]) -> u32
-    ensures { result ≡ judged (among (choices Choice.Roles)) v.now }
-{
-    if is_one(v, b'1') {
-        return 0;
-    }
-    if is_one(v, b'3') {
-        return 0;
-    }
-    if is_two(v, b'1', b'2') {
-        return 0;
-    }
-    if is_two(v, b'1', b'7') {
-        return 0;
-    }
-    if is_two(v, b'7', b'6') {
-        return 0;
-    }
-    5
 }
 
 // The value is one byte, or two.
+#[tactic(auto, using(crate::proofs::Values::row))]
 fn is_one(v: &[u8], x: u8) -> bool
     ensures { result ≡ same v.now (x ∷ []) }
 {
-    if v.len() != 1 {
-        return false;
-    }
-    v[0] == x
+    v.len() == 1 && v[0] == x
 }
 
+#[tactic(auto, using(crate::proofs::Values::row))]
 fn is_two(v: &[u8], x: u8, y: u8) -> bool
     ensures { result ≡ same v.now (x ∷ y ∷ []) }
 {
-    if v.len() != 2 {
-        return false;
-    }
-    if v[0] != x {
-        return false;
-    }
-    v[1] == y
+    v.len() == 2 && v[0] == x && v[1] == y
 }

@@ -12,17 +12,11 @@ use Rattle.dates.specs.Date.{like, is_time, found, time_found, number_at}
 use Rattle.dates.proofs.Shapes.{like-length, like-digit, bytes_are}
 use Rattle.dates.proofs.Stamps.{time-right, by_shape}
 use Rattle.kinds.specs.Kind.{time, formed, allowed}
-use Rattle.kinds.specs.Judged.{judged}
 use Rattle.calendar.specs.Time.{utc, limit, microseconds}
 use Rattle.calendar.proofs.Times.{utc_length, utc_formed, utc_allowed, utc_year, utc_second}
 use Rattle.calendar.proofs.Named.{Taken, utc_only, named_before}
 use Rattle.stamps.specs.code.Stamp.{is_stamp}
 use Rattle.stamps.proofs.Stamps.{stamp_is, utc_stamp}
-
--- the finding of the kind is that of the date
-pub time-judged : (v : Bytes) → judged time v ≡ time_found v
-unfolding judged formed allowed time_found
-time-judged v = refl
 
 -- EACH STAMP passes the tests
 record Tested (v : Bytes) : Type 0 where
@@ -48,8 +42,8 @@ no_stamp v n = go (is_stamp v) refl
 pub not_long : (v : Bytes) → (length v ≡ 24 → ⊥) → false ≡ is_stamp v
 not_long v n = no_stamp v (λ T. n T.long)
 
-pub not_time : (v : Bytes) → (time_found v ≡ 0 → ⊥) → false ≡ is_stamp v
-not_time v n = no_stamp v (λ T. n T.right)
+pub not_time : (v : Bytes) {r : ℕ} → r ≡ time_found v → 0 < r → false ≡ is_stamp v
+not_time v e n = no_stamp v (λ T. omega (arith, e, T.right))
 
 -- OF 24 BYTES that are a time: they have the longest shape, and calendar and clock have them
 abbrev longest : Bytes
@@ -63,14 +57,14 @@ last_shape v n h =
     (λ s. s)
 
 -- THE DIGITS that are tested, of 24 bytes that are a time
-module _ (v : Bytes) (n : length v ≡ 24) (j : time_found v ≡ 0) where
+module _ (v : Bytes) (n : length v ≡ 24) (j : 0 ≡ time_found v) where
   shape : like longest v ≡ true
   unfolding time_found
-  shape = last_shape v n (time-right v j).0
+  shape = last_shape v n (time-right v (sym j)).0
 
   value : allowed time v ≡ true
   unfolding time_found allowed
-  value = (time-right v j).1
+  value = (time-right v (sym j)).1
 
   digit_here : (i : ℕ) → leb 65 (get_or longest i 0) ≡ true → Digit (get_or v i 0)
   digit_here i k = like-digit longest v shape i k
@@ -106,4 +100,4 @@ module _ (v : Bytes) (n : length v ≡ 24) (j : time_found v ≡ 0) where
         go true e = sym (from_1970 (omega (arith, leb-true 55 (get_or v 2 0) e, year_is)))
         go false e = no_stamp v (λ T. omega (arith, leb-false 55 (get_or v 2 0) e, T.year, year_is, digit_here 1 refl, digit_here 3 refl))
 
-pub ruleset tests = (time-judged, not_second, from_2000, in_1900s)
+pub ruleset tests = (not_second, from_2000, in_1900s)

@@ -4,7 +4,7 @@
 ghost use Rattle.std.specs.Prelude.{◌≡◌};
 ghost use Rattle.stamps.specs.code.Stamp.{is_stamp};
 
-use kinds::{Kind, judge};
+use dates::judge_time;
 
 #[tactic(auto, using(crate::proofs::Judged::tests))]
 pub fn is_stamp(v: &[u8]) -> bool
@@ -13,9 +13,9 @@ pub fn is_stamp(v: &[u8]) -> bool
     if v.len() != 24 {
         return false;
     }
-    if judge(Kind::Time, v) != 0 {
+    let Ok(()) = judge_time(v) else {
         return false;
-    }
+    };
     // No second 60.
     if b'6' <= v[15] {
         return false;

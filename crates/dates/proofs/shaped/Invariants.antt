@@ -1,10 +1,7 @@
--- `shaped`: the flag says whether the first k bytes fit.
-use Rattle.std.proofs.Common.{◌≡◌, ◌-◌, ◌≤◌, length, take, drop}
+-- `shaped`: the flag says whether the bytes so far fit.
+use Rattle.std.proofs.Common.{◌≡◌, length, take}
 use Rattle.dates.specs.Date.{like}
 use Rattle.dates.proofs.shaped.Given as goal
 
-abbrev pub invariant-loop-k : goal.invariant-loop-k
-invariant-loop-k l = (l.k ≤ length l.shape) × (l.fits ≡ like (take l.k l.shape) (take l.k (drop l.at l.v)))
-
-abbrev pub decreases-loop-k : goal.decreases-loop-k
-decreases-loop-k l = length l.shape - l.k
+abbrev pub invariant-loop-s : goal.invariant-loop-s
+invariant-loop-s l = l.fits ≡ like (take (length l.yielded) l.shape) (take (length l.yielded) l.v)

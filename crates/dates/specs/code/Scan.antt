@@ -16,9 +16,9 @@ pub record TwoAt (v : Bytes) (i r : ℕ) : Type 0 where
   pub is : r ≡ number_at i 2 v
   pub small : r ≤ 99
 
--- 5 where the calendar or the clock has no such day or time
-abbrev pub calendar_of : ℕ → ℕ → ℕ → ℕ
-calendar_of y m d = cond (within 1 9999 y && within 1 12 m && within 1 (days y m) d) 0 5
+-- whether the calendar has the day, and the clock the time
+abbrev pub is_day_of : ℕ → ℕ → ℕ → Bool
+is_day_of y m d = within 1 9999 y && within 1 12 m && within 1 (days y m) d
 
-abbrev pub hours_of : ℕ → ℕ → ℕ → ℕ
-hours_of h m s = cond (within 0 23 h && within 0 59 m && within 0 60 s) 0 5
+abbrev pub is_clock_of : ℕ → ℕ → ℕ → Bool
+is_clock_of h m s = within 0 23 h && within 0 59 m && within 0 60 s

@@ -1,8 +1,9 @@
 -- How the code reads a decimal. Nothing here states document 02.
-use Rattle.std.specs.Prelude.{ℕ, ◌+◌, ◌-◌, ◌*◌, ◌<◌, ◌≤◌, ◌≡◌, true, length, drop}
+use Rattle.std.specs.Prelude.{ℕ, ◌+◌, ◌-◌, ◌*◌, ◌<◌, ◌≤◌, ◌≡◌, true, length, drop, Result}
 use Rattle.octets.specs.Bytes.{Bytes, value_from}
 use Rattle.decimals.specs.Decimal.{leading, trailing, plain, decimal_of}
 use Rattle.decimals.specs.declared.Decimal.{Decimal}
+use Rattle.fault.specs.declared.Fault.{Fault}
 use Rattle.decimals.specs.declared.Run.{Run}
 
 -- w is the number x, or both are out of range
@@ -31,5 +32,5 @@ pub record Leads (v : Bytes) (k w : ℕ) : Type 0 where
   pub plainly : plain (leading v) ≡ true
   pub worth : Capped w (value_from 0 (leading v))
 
-pub record Placed (v : Bytes) (r : Decimal) : Type 0 where
+pub record Placed (v : Bytes) (r : Result Decimal Fault) : Type 0 where
   pub is : r ≡ decimal_of v

@@ -1,18 +1,12 @@
--- `judge_decimal`: the finding that belongs to what was read.
-use mathlib.Core.Path.{◌∙◌, sym, ap}
-use Rattle.decimals.specs.Decimal.{finding}
+-- `judge_decimal`: the finding is that of the reading.
+use Rattle.std.proofs.lemmas.Result.{err_from_is_err_and}
 use Rattle.kinds.proofs.Decimals.{decimal-judged}
-use borrow.Author.Rules.{rules}
 use Rattle.kinds.proofs.judge_decimal.Goals as goal
 
-pub read_decimal-requires : goal.read_decimal-requires
-read_decimal-requires c = search rules
+pub returns-in_err-read_decimal : goal.returns-in_err-read_decimal
+returns-in_err-read_decimal c =
+    let p = err_from_is_err_and c.from_residual.result c.from_residual.ensures.1 in
+    rw (p.1, p.2) (decimal-judged _ c.in_err-read_decimal.ensures)
 
-pub returns-in-Is : goal.returns-in-Is
-returns-in-Is c = sym (ap finding c.in-Is.is) ∙ decimal-judged _ c.read_decimal.ensures
-
-pub returns-in-OutOfRange : goal.returns-in-OutOfRange
-returns-in-OutOfRange c = sym (ap finding c.in-OutOfRange.is) ∙ decimal-judged _ c.read_decimal.ensures
-
-pub returns-in-Bad : goal.returns-in-Bad
-returns-in-Bad c = sym (ap finding c.in-Bad.is) ∙ decimal-judged _ c.read_decimal.ensures
+pub returns : goal.returns
+returns c = decimal-judged _ c.in_ok-read_decimal.ensures

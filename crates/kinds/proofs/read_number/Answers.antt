@@ -1,7 +1,7 @@
 -- `read_number`: at each `return` the tests that led there say what the bytes are.
 use native.Mathlib.Omega.{arith}
 use mathlib.Core.Path.{◌∙◌, ap}
-use Rattle.kinds.specs.declared.Number.TheVariants.{Is}
+use Rattle.std.proofs.Common.{ℕ, Some}
 use Rattle.kinds.proofs.Values.{number-good, number_bad, read_all, read_other}
 use Rattle.kinds.proofs.read_number.Goals as goal
 
@@ -16,4 +16,4 @@ returns-then-d-n c =
 pub returns : goal.returns
 returns c =
     let N = read_all _ _ _ (c.digits-d.ensures.inside (omega arith) (omega arith)) c.if-d-n.false (omega arith) in
-    ap Is N.0 ∙ number-good _ N.1
+    ap (λ (n : ℕ). Some n) N.0 ∙ number-good _ N.1
