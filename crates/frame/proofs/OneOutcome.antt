@@ -3,28 +3,42 @@
 use Prim.Native.Nat.{ℕ}
 use mathlib.Core.Path.{◌≡◌, refl, sym, ap, ap₂, ◌∙◌}
 use mathlib.Core.Bool.{Bool, true, false}
-use lib.ListN.{length, take, drop}
+use lib.ListN.{take, drop}
+use Rattle.std.specs.Prelude.{Option, Some, None, Result, Ok, Err, IfSome, IfNone}
 use Rattle.octets.specs.Bytes.{Bytes}
-use Rattle.frame.specs.Frame.{Rule, Whether, BodyOf, its_body, no_frame}
-use Rattle.frame.specs.Reading.{ReadsAs, Handed, answered}
-use Rattle.frame.specs.declared.Reading.{Reading}
-use Rattle.frame.specs.declared.Reading.TheVariants.{Frame, NoFrame}
+use Rattle.frame.specs.Frame.{Rule, Good, Whether, BodyOf, its_body}
+use Rattle.frame.specs.Reading.{refusal, Reads, ReadsAs, HandedOut}
+use Rattle.frame.specs.declared.Found.{Found}
+use Rattle.frame.specs.declared.NoFrame.{NoFrame}
 use Rattle.frame.proofs.Good.{good_body}
-use Rattle.frame.proofs.Unique.{left_one, unfinished_one, reads_one, answered-same}
+use Rattle.frame.proofs.Unique.{left_one, unfinished_one}
 
 module _ (R : Rule) where
-  -- `read`: the part of the caller's bytes, and the number it leaves
-  pub handed_one : {s r r' : Bytes} {at at' : ℕ} → Handed R s r at → Handed R s r' at' → (r ≡ r') × (at ≡ at')
-  handed_one {s} {r} {r'} {at} {at'} A B =
-      let e = answered-same at (length r) at' (length r') (reads_one R s (answered at (length r)) (answered at' (length r')) A.reads B.reads) in
-      (A.part ∙ ap₂ (λ (n k : ℕ). take n (drop k s)) e.1 e.0 ∙ sym B.part, e.0)
+  -- `read`: the part of the caller's bytes and the bytes skipped, or the bytes to drop; and never both
+  pub handed_one : {s f f' : Bytes} {skip skip' : ℕ} → HandedOut R s f skip → HandedOut R s f' skip' → (f ≡ f') × (skip ≡ skip')
+  handed_one {s} A B =
+      let e = left_one R s A.reads B.reads in (A.part ∙ ap₂ (λ (n k : ℕ). take n (drop k s)) e.1 e.0 ∙ sym B.part, e.0)
+
+  pub refused_one : {s : Bytes} {d d' : ℕ} → Reads R s (refusal 1 d) → Reads R s (refusal 1 d') → d ≡ d'
+  refused_one {s} A B = unfinished_one R s A.1 B.1
+
+  pub handed_or_refused : {s f : Bytes} {skip d : ℕ} → HandedOut R s f skip → Reads R s (refusal 1 d) → ⊥
+  handed_or_refused A B = B.1.none _ _ A.reads.here
 
   -- `reading_of`
-  pub reading_one : (s : Bytes) (r r' : Reading) → ReadsAs R s r → ReadsAs R s r' → r ≡ r'
-  reading_one s (Frame p n) (Frame q m) A B = let e = left_one R s A B in ap₂ Frame e.0 e.1
-  reading_one s (Frame p n) (NoFrame d) A B = absurd (B.1.none p n A.here)
-  reading_one s (NoFrame d) (Frame p n) A B = absurd (A.1.none p n B.here)
-  reading_one s (NoFrame d) (NoFrame f) A B = ap NoFrame (unfinished_one R s A.1 B.1)
+  found : ℕ → ℕ → Result Found NoFrame
+  found p n = Ok (record { skip = p; len = n })
+
+  refused : ℕ → Result Found NoFrame
+  refused d = Err (record { drop = d })
+
+  pub reading_one : (s : Bytes) (r r' : Result Found NoFrame) → ReadsAs R s r → ReadsAs R s r' → r ≡ r'
+  unfolding found refused
+  reading_one s (Ok f) (Ok g) A B =
+      let e = left_one R s A B in ap₂ found e.0 e.1
+  reading_one s (Ok f) (Err e) A B = absurd (B.1.none f.skip f.len A.here)
+  reading_one s (Err e) (Ok f) A B = absurd (A.1.none f.skip f.len B.here)
+  reading_one s (Err e) (Err f) A B = ap refused (unfinished_one R s A.1 B.1)
 
   -- `is_frame`
   pub whether_one : {f : Bytes} {r r' : Bool} → Whether R f r → Whether R f r' → r ≡ r'
@@ -33,8 +47,14 @@ module _ (R : Rule) where
   whether_one {r = false} {r' = false} A B = refl
 
   -- `body_of`
-  pub body_one : {f r r' : Bytes} → BodyOf R f r → BodyOf R f r' → r ≡ r'
-  body_one {f} (its_body G) (its_body H) = good_body R f G H
-  body_one (its_body G) (no_frame h) = absurd (h G)
-  body_one (no_frame h) (its_body G) = absurd (h G)
-  body_one (no_frame h) (no_frame k) = refl
+  of_good : {f r : Bytes} → BodyOf R f r → Good R f
+  of_good (its_body G) = G
+
+  same_body : {f r r' : Bytes} → BodyOf R f r → BodyOf R f r' → r ≡ r'
+  same_body {f} (its_body G) (its_body H) = good_body R f G H
+
+  pub body_one : (f : Bytes) (r r' : Option Bytes) → IfSome r (BodyOf R f) × IfNone r (Good R f → ⊥) → IfSome r' (BodyOf R f) × IfNone r' (Good R f → ⊥) → r ≡ r'
+  body_one f (Some x) (Some y) A B = ap Some (same_body A.0 B.0)
+  body_one f (Some x) None A B = absurd (B.1 (of_good A.0))
+  body_one f None (Some y) A B = absurd (A.1 (of_good B.0))
+  body_one f None None A B = refl

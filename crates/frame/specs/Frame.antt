@@ -81,7 +81,6 @@ pub record Whether (R : Rule) (f : Bytes) (b : Bool) : Type 0 where
   pub only : b ≡ true → Good R f
   pub every : Good R f → b ≡ true
 
--- The body of exactly one good frame, as the layers above ask for it; no bytes where f is none. (A body has at least five.)
+-- The body of exactly one good frame, as the layers above ask for it.
 pub data BodyOf (R : Rule) (f : Bytes) : Bytes → Type 0 where
   its_body : (G : Good R f) → BodyOf R f G.body
-  no_frame : (Good R f → ⊥) → BodyOf R f []

@@ -3,12 +3,8 @@
 use Rattle.std.proofs.Common.{◌≡◌, ℕ, ◌<◌, ◌≤◌, length, take, drop, sym, ap, ◌∙◌, ap₂, arith}
 use native.Mathlib.Decide.{dec_lt}
 use Rattle.octets.specs.Bytes.{Bytes, value}
-use Rattle.octets.specs.code.Leaf.{Widened, digit_limit, Number, Digits}
+use Rattle.octets.specs.code.Leaf.{digit_limit, Number, Digits}
 use Rattle.octets.specs.declared.numbers.Num.{Num}
-
--- `wide`
-pub wide_one : {x r r' : ℕ} → Widened x r → Widened x r' → r ≡ r'
-wide_one A B = A.0 ∙ sym B.0
 
 -- `digits`
 number_one : {s : Bytes} {p most v c v' c' : ℕ} → Number s p most v c → Number s p most v' c' → (v ≡ v') × (c ≡ c')

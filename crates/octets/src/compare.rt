@@ -1,27 +1,20 @@
 // Bytes compared: eight of them as one number, a row of bytes that stands at a place, and how many of a row do.
 ghost use Rattle.std.specs.Prelude.{◌≡◌, ◌+◌, ◌≤◌, length};
-ghost use Rattle.octets.specs.code.Leaf.{Widened, word_at, Standing, Matched};
-
-// A byte as a wider number.
-pub fn wide(x: u8) -> u64
-    ensures { Widened x result }
-{
-    x as u64
-}
+ghost use Rattle.octets.specs.code.Leaf.{word_at, Standing, Matched};
 
 // Eight bytes as one number, the first one least: one load for the compiler.
 pub fn word(s: &[u8], i: usize) -> u64
     requires { i + 8 ≤ length s.now }
     ensures { result ≡ word_at s.now i }
 {
-    wide(s[i])
-        + wide(s[i + 1]) * 256
-        + wide(s[i + 2]) * 65536
-        + wide(s[i + 3]) * 16777216
-        + wide(s[i + 4]) * 4294967296
-        + wide(s[i + 5]) * 1099511627776
-        + wide(s[i + 6]) * 281474976710656
-        + wide(s[i + 7]) * 72057594037927936
+    u64::from(s[i])
+        + u64::from(s[i + 1]) * 256
+        + u64::from(s[i + 2]) * 65536
+        + u64::from(s[i + 3]) * 16777216
+        + u64::from(s[i + 4]) * 4294967296
+        + u64::from(s[i + 5]) * 1099511627776
+        + u64::from(s[i + 6]) * 281474976710656
+        + u64::from(s[i + 7]) * 72057594037927936
 }
 
 // Whether lit, 8 to 16 bytes, stands in s at a place: its first eight bytes as one number, and its last eight.
@@ -41,15 +34,13 @@ pub fn matched(s: &[u8], at: usize, lit: &[u8]) -> usize
     requires { at ≤ length s.now }
     ensures { Matched s.now at lit.now result }
 {
-    let mut i = 0;
-    while i < lit.len() {
+    for i in 0..lit.len() {
         if at + i == s.len() {
             return i;
         }
         if s[at + i] != lit[i] {
             return i;
         }
-        i += 1;
     }
-    i
+    lit.len()
 }

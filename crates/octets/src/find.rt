@@ -9,14 +9,7 @@ use crate::compare::stands;
 pub fn has(s: &[u8], x: u8) -> bool
     ensures { result ≡ has s.now x }
 {
-    let mut i = 0;
-    while i < s.len() {
-        if s[i] == x {
-            return true;
-        }
-        i += 1;
-    }
-    false
+    s.contains(&x)
 }
 
 // Whether none of the n bytes from i on is x. The loop has no way out, so the compiler compares sixteen bytes at once.
@@ -25,17 +18,16 @@ pub fn calm(s: &[u8], i: usize, n: usize, x: u8) -> bool
     ensures { Calm s.now i n x result }
 {
     let mut none = true;
-    let mut k = 0;
-    while k < n {
+    for k in 0..n {
         if s[i + k] == x {
             none = false;
         }
-        k += 1;
     }
     none
 }
 
-// The first place from a on at which x stands before e, or e: byte by byte, four to a turn.
+// The first place from a on at which x stands before e, or e: byte by byte, four to a turn, which no `for` steps by. The end e is the answer where there
+// is none, here and below, and no `None`: it is the place from which every caller goes on.
 pub fn byte_from(s: &[u8], a: usize, e: usize, x: u8) -> usize
     requires { (a ≤ e) × (e ≤ length s.now) }
     ensures { FirstByte s.now a e x result }
@@ -65,7 +57,8 @@ pub fn byte_from(s: &[u8], a: usize, e: usize, x: u8) -> usize
     i
 }
 
-// Goes on from a by n bytes at a time, as long as so many are left before e and x is not among them.
+// Goes on from a by n bytes at a time, as long as so many are left before e and x is not among them. The place is what is answered, so it is counted here
+// and by no `for`.
 fn calm_to(s: &[u8], a: usize, e: usize, x: u8, n: usize) -> usize
     requires { (0 < n) × ((a ≤ e) × (e ≤ length s.now)) }
     ensures { CalmTo s.now a e x result }
@@ -144,7 +137,7 @@ fn stands_around(s: &[u8], a: usize, e: usize, j: usize, lit: &[u8]) -> bool
 
 // The first place from a on at which lit stands whole before e, or e. Its fifth byte is what is looked for: in a start mark that is the `X` of FIX,
 // which is rare in a body. Each byte is passed by find_byte once; for each place of that byte it looks at fewer than 400 bytes beyond those it passes,
-// and there is at most one comparison with lit: linear whatever the bytes are.
+// and there is at most one comparison with lit: linear whatever the bytes are. No `for`: each turn goes on behind the byte that was found.
 pub fn holds(s: &[u8], a: usize, e: usize, lit: &[u8]) -> usize
     requires { ((a ≤ e) × (e ≤ length s.now)) × ((8 ≤ length lit.now) × (length lit.now ≤ 16)) }
     ensures { Searched s.now a e lit.now result }

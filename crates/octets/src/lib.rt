@@ -6,7 +6,7 @@ mod find;
 mod numbers;
 mod sums;
 
-pub use compare::{matched, stands, wide, word};
+pub use compare::{matched, stands, word};
 pub use find::{byte_from, calm, has, holds, next_start};
 pub use numbers::{Num, digits, number, row};
 pub use sums::checksum;

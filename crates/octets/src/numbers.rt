@@ -2,7 +2,7 @@
 ghost use Rattle.std.specs.Prelude.{◌≡◌, ◌+◌, ◌≤◌, length};
 ghost use Rattle.octets.specs.code.Leaf.{digit_limit, Number, Digits};
 
-// Decimal digits that stand in a row: how many, and what they are worth.
+// Decimal digits that stand in a row: how many, and what they are worth. (None of them is no `None`: with a count of 0 the value is 0.)
 #[derive(Clone, Copy)]
 pub struct Num {
     pub value: usize,
@@ -15,16 +15,14 @@ pub fn row(s: &[u8], at: usize, n: usize) -> Num
     ensures { Number s.now at n result.value result.count }
 {
     let mut v: usize = 0;
-    let mut c: usize = 0;
-    while c < n {
-        let d = std::num::wrapping_sub_u8(s[at + c], 48);
+    for c in 0..n {
+        let d = s[at + c].wrapping_sub(b'0');
         if 9 < d {
             return Num { value: v, count: c };
         }
-        v = v * 10 + (d as usize);
-        c += 1;
+        v = v * 10 + usize::from(d);
     }
-    Num { value: v, count: c }
+    Num { value: v, count: n }
 }
 
 // The same where fewer bytes may be left.

@@ -3,8 +3,6 @@ ghost use Rattle.std.specs.Prelude.{◌≡◌, ◌+◌, ◌*◌, ◌%◌, ◌<�
 ghost use Rattle.octets.specs.Bytes.{sum};
 ghost use Rattle.octets.specs.code.Leaf.{Summed, SummedBy};
 
-use crate::compare::wide;
-
 // The sum of the bytes before a place, modulo 2 ^ 64.
 #[derive(Clone, Copy)]
 struct Sum {
@@ -18,10 +16,8 @@ fn sum_of(s: &[u8], at: usize, n: usize) -> u64
     ensures { result ≡ sum (take n (drop at s.now)) }
 {
     let mut t: u64 = 0;
-    let mut i: usize = 0;
-    while i < n {
-        t += wide(s[at + i]);
-        i += 1;
+    for &x in &s[at..at + n] {
+        t += u64::from(x);
     }
     t
 }
@@ -33,7 +29,7 @@ fn add(s: &[u8], front: Sum, n: usize) -> Sum
 {
     let more = sum_of(s, front.at, n);
     Sum {
-        total: std::num::wrapping_add_u64(front.total, more),
+        total: front.total.wrapping_add(more),
         at: front.at + n,
     }
 }
@@ -50,7 +46,8 @@ fn add_part(s: &[u8], front: Sum, n: usize) -> Sum
 }
 
 // The sum of bytes, modulo 256: thirty-two eights at a time into a wider number, then the eights that are left, sixteen, eight, four, two and one of them,
-// then the up to seven bytes behind, and one reduction. All of s is cut out anew, since the compiler hands such a slice on in registers.
+// then the up to seven bytes behind, and one reduction. All of s is cut out anew, since the compiler hands such a slice on in registers. The `while` counts
+// nothing by hand: it asks how many bytes are left.
 pub fn checksum(s: &[u8]) -> u8
     ensures { result ≡ sum s.now % 256 }
 {

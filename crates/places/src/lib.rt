@@ -14,11 +14,7 @@ pub fn is_store(store: &[u8]) -> bool
 pub fn zero_store(store: &mut [u8])
     ensures { store.new ≡ zeroed store.old }
 {
-    let mut i = 0;
-    while i < store.len() {
-        store[i] = 0;
-        i += 1;
-    }
+    store.fill(0);
 }
 
 // Puts a message into a place, counted from 0, with zeros behind it.
@@ -28,13 +24,6 @@ pub fn put_place(store: &mut [u8], i: usize, m: &[u8])
 {
     let at = 512 * i;
     let n = m.len();
-    let mut k = 0;
-    while k < n {
-        store[at + k] = m[k];
-        k += 1;
-    }
-    while k < 512 {
-        store[at + k] = 0;
-        k += 1;
-    }
+    store[at..at + n].copy_from_slice(m);
+    store[at + n..at + 512].fill(0);
 }

@@ -1,13 +1,13 @@
--- `read`: the bytes of the mark, as they stand in the code, meet the conditions.
-use mathlib.Core.Path.{refl}
+-- `read`: the part that the numbers name.
+use Rattle.std.proofs.Common.{◌≡◌, ℕ, ◌+◌, ◌-◌, take, drop, sym, subst, arith}
 use Rattle.frame.specs.Frame.{fixt}
-use Rattle.frame.proofs.Marks.{mark_ok}
+use Rattle.frame.specs.Reading.{HandedOut}
+use Rattle.frame.proofs.Unique.{found_part}
 use Rattle.frame.proofs.read.Goals as goal
 
-pub read_with-requires : goal.read_with-requires
-read_with-requires c =
-    mark_ok _ (record { bytes = refl; long = refl; short = refl; first = refl; second = refl; second_digit = refl; last = refl; alone = refl; soh = refl; end = refl })
-
 pub returns : goal.returns
-unfolding fixt
-returns c = c.read_with.ensures
+returns c =
+    let s = c.args.s.now in
+    let f = c.in_ok-skip.field-0 in
+    let e : f.skip + f.len - f.skip ≡ f.len = omega arith in
+    subst (λ (n : ℕ). HandedOut fixt s (take n (drop f.skip s)) f.skip) (sym e) (found_part fixt s f.skip f.len c.in_ok-skip.ensures)

@@ -1,6 +1,5 @@
 -- `read_with`: no position before the one in hand is live.
-use Prim.Native.Nat.{◌-◌, ◌≤◌}
-use lib.ListN.{length}
+use Rattle.std.proofs.Common.{◌-◌, ◌≤◌, length}
 use Rattle.frame.specs.Frame.{rule_of}
 use Rattle.frame.proofs.Search.{Dead}
 use Rattle.frame.proofs.read_with.Given as goal

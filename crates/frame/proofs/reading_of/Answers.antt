@@ -1,10 +1,12 @@
--- `reading_of`: told by whether the part handed out is empty.
+-- `reading_of`: told by whether a length was found.
+use Rattle.std.proofs.Common.{arith}
 use Rattle.frame.specs.Frame.{fixt}
-use Rattle.frame.proofs.Unique.{told_frame, told_none}
 use Rattle.frame.proofs.reading_of.Goals as goal
 
-pub returns-then-n-eq0 : goal.returns-then-n-eq0
-returns-then-n-eq0 c = told_none fixt _ _ _ c.read-n.ensures c.if-n-eq0.true
+pub returns-then-len-eq0 : goal.returns-then-len-eq0
+unfolding fixt
+returns-then-len-eq0 c = c.read_with-len.ensures.none c.if-len-eq0.true
 
 pub returns : goal.returns
-returns c = told_frame fixt _ _ _ c.read-n.ensures c.if-n-eq0.false
+unfolding fixt
+returns c = c.read_with-len.ensures.frame (omega arith)

@@ -1,10 +1,11 @@
 -- How far the walk over a candidate's parts has come, and what one step of it answers. Only the code's walk needs these: nothing here
 -- states document 01.
-use Rattle.std.specs.Prelude.{ℕ, ◌+◌, ◌-◌, ◌≤◌, ◌<◌, ◌≡◌, ◌∷◌, ◌++◌, length, drop}
+use Rattle.std.specs.Prelude.{ℕ, ◌+◌, ◌-◌, ◌≤◌, ◌<◌, ◌≡◌, ◌∷◌, ◌++◌, length, drop, Result, Ok, Err}
 use Rattle.octets.specs.Bytes.{Bytes, value, At}
 use Rattle.frame.specs.Frame.{Rule, Length, Body, GoodAt, Live, front}
-use Rattle.frame.specs.declared.parts.Step.{Step}
-use Rattle.frame.specs.declared.parts.Step.TheVariants.{On, Whole, Short, Wrong}
+use Rattle.frame.specs.Reading.{refusal, Leftmost, Reads}
+use Rattle.frame.specs.declared.parts.Stop.{Stop}
+use Rattle.frame.specs.declared.parts.Stop.TheVariants.{Short, Wrong}
 
 -- the mark stands at p, and a is behind it
 pub record MarkSeen (R : Rule) (s : Bytes) (p a : ℕ) : Type 0 where
@@ -48,12 +49,16 @@ pub record Past (R : Rule) (s : Bytes) (p n : ℕ) : Type 0 where
   pub none : (q : ℕ) → q < n → p ≤ q → Live R s q → ⊥
 
 -- what looking at a part of a candidate at p answers; Seen says what is known behind the part
-abbrev pub Stepped : Rule → Bytes → ℕ → (ℕ → ℕ → Type 0) → Step → Type 0
-Stepped R s p Seen (On a n) = Seen a n
-Stepped R s p Seen (Whole e) = Ended R s p e
-Stepped R s p Seen Short = Open R s p
-Stepped R s p Seen (Wrong n) = Past R s p n
+abbrev pub Stepped : {A : Type 0} → Rule → Bytes → ℕ → (A → Type 0) → Result A Stop → Type 0
+Stepped R s p Seen (Ok a) = Seen a
+Stepped R s p Seen (Err Short) = Open R s p
+Stepped R s p Seen (Err (Wrong n)) = Past R s p n
 
--- and behind the last part: there is no further one
-abbrev pub Told : Rule → Bytes → ℕ → Step → Type 0
-Told R s p x = Stepped R s p (λ a n. ⊥) x
+-- and behind the last part: the frame's end
+abbrev pub Told : Rule → Bytes → ℕ → Result ℕ Stop → Type 0
+Told R s p x = Stepped R s p (Ended R s p) x
+
+-- what the search answers: the length of the frame behind the first `at` bytes, or 0 under refusal 1, since no good frame is empty
+pub record FoundAt (R : Rule) (s : Bytes) (n at : ℕ) : Type 0 where
+  pub frame : 0 < n → Leftmost R s at n
+  pub none : n ≡ 0 → Reads R s (refusal 1 at)

@@ -4,10 +4,6 @@ use Rattle.octets.specs.Bytes.{Bytes, sum, value, At, Digit}
 use Rattle.octets.specs.declared.numbers.Num.{Num}
 use Rattle.octets.specs.declared.sums.Sum.{Sum}
 
--- r is the byte x
-abbrev pub Widened : ℕ → ℕ → Type 0
-Widened x r = (r ≡ x) × (r ≤ 255)
-
 -- eight bytes as one number, the first one least
 abbrev pub word_at : Bytes → ℕ → ℕ
 word_at s i =

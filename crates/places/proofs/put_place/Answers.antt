@@ -1,55 +1,27 @@
--- `put_place`: the first k bytes of the message stand there, then all of them and zeros.
-use native.Mathlib.Omega.{arith}
-use Prim.Native.Nat.{ℕ, ◌+◌, ◌-◌, ◌*◌}
-use mathlib.Core.Path.{◌≡◌, refl, ap, ◌∙◌}
-use lib.ListN.{length, replicate, length-set}
-use lib.Seq.{sets, take_all}
-use Rattle.octets.specs.Bytes.{Bytes}
+-- `put_place`: the message, then zeros behind it.
+use Rattle.std.proofs.Common.{◌≡◌, ℕ, ◌+◌, ◌-◌, ◌*◌, ◌++◌, length, ap, ◌∙◌, arith}
+use Rattle.std.proofs.Math.Seq.{sets}
+use Rattle.std.proofs.Math.ListN.{replicate}
 use Rattle.places.specs.Places.{put_at}
 use Rattle.places.proofs.Cuts.{store_is}
-use Rattle.places.proofs.Filling.{byte_more, zeros_none, zero_more, sets_append}
+use Rattle.places.proofs.Filling.{mid_sets, zeros_behind}
 use Rattle.places.proofs.put_place.Goals as goal
 
-pub loop-k-init : goal.loop-k-init
-loop-k-init c = (omega arith, (refl, refl))
+pub slice_bounds-copy_from_slice-end : goal.slice_bounds-copy_from_slice-end
+slice_bounds-copy_from_slice-end c = omega (arith, store_is c.args.store.now c.requires.0)
 
-pub bounds-store-at : goal.bounds-store-at
-bounds-store-at c = omega (arith, store_is c.args.store.now c.requires.0, c.loop-k.invariant.1.0)
-
-pub loop-k-preserved : goal.loop-k-preserved
-loop-k-preserved c =
-    let l = c.loop-k in
-    let a = c.args in
-    (omega arith, (simp length-set l.invariant.1.0, byte_more a.store.now l.store (512 * a.i) l.k a.m.now (omega arith) l.invariant.1.1))
-
-pub loop-k-2-init : goal.loop-k-2-init
-loop-k-2-init c =
-    let l = c.loop-k in
-    let a = c.args in
-    (omega arith, (omega arith, (refl, zeros_none l.store (512 * a.i) (length a.m.now) l.k (omega arith))))
-
-pub bounds-store-at-in-loop-k-2 : goal.bounds-store-at-in-loop-k-2
-bounds-store-at-in-loop-k-2 c =
-    omega (arith, store_is c.args.store.now c.requires.0, c.loop-k.invariant.1.0, c.loop-k-2.invariant.1.1.0)
-
-pub loop-k-2-preserved : goal.loop-k-2-preserved
-loop-k-2-preserved c =
-    let l = c.loop-k-2 in
-    let a = c.args in
-    (omega arith, (omega arith, (simp length-set l.invariant.1.1.0, zero_more c.loop-k.store l.store (512 * a.i) (length a.m.now) l.k l.invariant.0 l.invariant.1.1.1)))
-
-pub shape_of-store : goal.shape_of-store
-shape_of-store c = c.loop-k-2.invariant.1.1.0 ∙ c.loop-k.invariant.1.0
+pub slice_bounds-fill-end : goal.slice_bounds-fill-end
+slice_bounds-fill-end c = omega (arith, store_is c.args.store.now c.requires.0)
 
 pub returns : goal.returns
 unfolding put_at
 returns c =
-    let l = c.loop-k in
-    let k = c.loop-k-2 in
     let a = c.args in
     let m = a.m.now in
-    let f : k.k ≡ 512 = omega arith in
-    k.invariant.1.1.1
-    ∙ ap (λ (n : ℕ). sets l.store (512 * a.i + length m) (replicate (n - length m) 0)) f
-    ∙ ap (λ (d : Bytes). sets d (512 * a.i + length m) (replicate (512 - length m) 0)) (l.invariant.1.1 ∙ ap (λ (d : Bytes). sets a.store.now (512 * a.i) d) (take_all l.k m (omega arith)))
-    ∙ sets_append m (replicate (512 - length m) 0) a.store.now (512 * a.i)
+    let s = a.store.now in
+    let at = 512 * a.i in
+    let n = length m in
+    let w = store_is s c.requires.0 in
+    let f = mid_sets s m _ at (at + n - at) c.copy_from_slice.ensures.after (omega arith) (omega arith) in
+    let r : at + 512 - (at + n) ≡ 512 - n = omega arith in
+    zeros_behind s m _ _ at _ _ f (omega arith) (c.fill.ensures.after (λ y e. e)) ∙ ap (λ (k : ℕ). sets s at (m ++ replicate k 0)) r

@@ -62,7 +62,7 @@ returns-then-a-m c =
     let R = rule_of a.mark.now in
     let s = a.s.now in
     let S = c.requires.body_seen in
-    let M = c.matched-m.ensures in
+    let M = rw c.trailer.ensures at c.matched-m.ensures in
     tail_short R s a.p a.a S _ c.checksum-v.ensures _ M c.requires.mark_ok (λ e. omega (arith, M.within)) c.if-a-m.true
 
 pub overflow_sub-result-2 : goal.overflow_sub-result-2
@@ -76,5 +76,5 @@ returns c =
     let R = rule_of a.mark.now in
     let s = a.s.now in
     let S = c.requires.body_seen in
-    let M = c.matched-m.ensures in
+    let M = rw c.trailer.ensures at c.matched-m.ensures in
     past_body R s c.requires.mark_ok a.p a.a S (tail_wrong R s a.p a.a S _ c.checksum-v.ensures _ M (λ e. omega (arith, M.within)) c.if-a-m.false)

@@ -10,4 +10,4 @@ returns c =
     let s = a.s.now in
     let at = a.front.at in
     let e = sum-part s at a.n ∙ ap (λ (k : ℕ). sum (take at s) + k) (sym c.sum_of-more.ensures) in
-    (sum_step _ _ _ _ _ c.requires.0 c.wrapping_add_u64.ensures.value e, refl)
+    (sum_step _ _ _ _ _ c.requires.0 refl e, refl)

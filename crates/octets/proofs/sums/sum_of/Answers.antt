@@ -1,19 +1,20 @@
 -- `sum_of`: t is the sum of the bytes passed, and each of them is at most 255.
-use Rattle.std.proofs.Common.{◌≡◌, ℕ, take, drop, ap, ◌∙◌, arith}
-use Rattle.octets.specs.Bytes.{sum}
+use Rattle.std.proofs.Common.{◌≡◌, ℕ, ◌+◌, ◌-◌, ◌<◌, ◌≤◌, length, take, drop, get_or, ap, ◌∙◌, get_or-take, get_or-drop, arith}
+use Rattle.octets.specs.Bytes.{Bytes, sum}
 use Rattle.octets.proofs.Parts.{sum_more}
 use Rattle.octets.proofs.sums.sum_of.Goals as goal
 
-pub loop-i-preserved : goal.loop-i-preserved
-loop-i-preserved c =
-    let l = c.loop-i in
-    let a = c.args in
-    let e = sum_more a.s.now a.at l.i (omega arith) in
-    (omega arith, (omega (arith, e), omega arith))
+-- one byte more
+further : (s : Bytes) (at n i t b : ℕ) → at + n ≤ length s → i < n → b ≡ get_or (take (at + n - at) (drop at s)) i 0 → t ≡ sum (take i (drop at s))
+    → t + b ≡ sum (take (i + 1) (drop at s))
+further s at n i t b h l e f =
+    let k : at + n - at ≡ n = omega arith in
+    let x : b ≡ get_or s (at + i) 0 = e ∙ ap (λ (j : ℕ). get_or (take j (drop at s)) i 0) k ∙ get_or-take n (drop at s) i 0 l ∙ get_or-drop at s i 0 in
+    let m = sum_more s at i (omega arith) in
+    cc
 
-pub returns : goal.returns
-returns c =
-    let l = c.loop-i in
+pub loop-x-preserved : goal.loop-x-preserved
+loop-x-preserved c =
+    let l = c.loop-x in
     let a = c.args in
-    let e : l.i ≡ a.n = omega arith in
-    l.invariant.1.0 ∙ ap (λ (k : ℕ). sum (take k (drop a.at a.s.now))) e
+    (further a.s.now a.at a.n l.x-index l.t _ (omega arith) (omega arith) c.from-t.ensures l.invariant.0, omega arith)
