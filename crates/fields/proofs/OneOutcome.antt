@@ -5,9 +5,8 @@ use mathlib.Core.Path.{◌≡◌, sym, ap, ◌∙◌}
 use Rattle.octets.specs.Bytes.{Bytes}
 use Rattle.fields.specs.declared.Heads.{Heads}
 use Rattle.fields.specs.declared.Item.{Item}
-use Rattle.fields.specs.declared.Place.{Place}
 use Rattle.fields.specs.declared.Reader.{Reader}
-use Rattle.fields.specs.First.{First, Heading}
+use Rattle.fields.specs.First.{Place, First, Heading}
 use Rattle.fields.specs.Item.{Cut}
 use Rattle.fields.specs.Reading.{place_behind, HandsOut}
 

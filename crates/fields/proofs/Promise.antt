@@ -10,7 +10,7 @@ use Rattle.fields.specs.Field.{parts}
 use Rattle.fields.specs.First.{first_place}
 use Rattle.fields.specs.Reading.{items_of, place_among}
 use Rattle.fields.specs.Promise.{Promise}
-use Rattle.fields.specs.declared.Place.TheVariants.{Absent}
+use Rattle.std.specs.Prelude.{None}
 use Rattle.fields.proofs.Firsts.{first-place, place-among}
 use Rattle.fields.proofs.Readings.{any_calls, calls_in_order, parts-joined, refusal_10}
 
@@ -18,7 +18,7 @@ among : (t : ℕ) (body : Bytes) → within 1 99_999 t ≡ true → first_place 
 unfolding first_place
 among t body h = let w = both (leb 1 t) (leb t 99_999) h in rw h (place-among t (leb-true 1 t w.0) (leb-true t 99_999 w.1) 0 (parts body))
 
-none_there : (t : ℕ) (body : Bytes) → within 1 99_999 t ≡ false → first_place t body ≡ Absent
+none_there : (t : ℕ) (body : Bytes) → within 1 99_999 t ≡ false → first_place t body ≡ None
 unfolding first_place
 none_there t body h = rw h
 

@@ -1,5 +1,5 @@
 -- What is promised of a body's fields, in document 01's words. Proved once, in proofs/Promise.antt.
-use Rattle.std.specs.Prelude.{ℕ, ◌≤◌, ◌≡◌, List, map, true, false, cond, length, take}
+use Rattle.std.specs.Prelude.{ℕ, ◌≤◌, ◌≡◌, List, map, true, false, cond, length, take, None}
 use Rattle.std.proofs.Math.Option.{none, some}
 use Rattle.std.specs.Borrow.{Bor}
 use Rattle.octets.specs.Bytes.{Bytes, within}
@@ -9,7 +9,6 @@ use Rattle.fields.specs.First.{first_place, value_at, Inside}
 use Rattle.fields.specs.Reading.{opened, HandsOut, Calls, bytes_in, items_of, joined, place_among}
 use Rattle.fields.specs.declared.Item.{Item}
 use Rattle.fields.specs.declared.Item.TheVariants.{End}
-use Rattle.fields.specs.declared.Place.TheVariants.{Absent}
 use Rattle.fields.specs.declared.Reader.{Reader}
 
 -- "A reader over one body keeps its place in it and hands out one field at a time": what any number of calls on a reader just opened hand out, and
@@ -36,6 +35,6 @@ pub record Promise : Type 0 where
   pub first_inside : (t : ℕ) (body : Bytes) → Inside body (first_place t body)
   pub first_handed : (t : ℕ) (body : Bytes) → within 1 99_999 t ≡ true → first_place t body ≡ place_among t (items_of 0 (parts body))
   -- "A tag is 1 to 5 digits without leading zero": any other number is no field's tag
-  pub first_none : (t : ℕ) (body : Bytes) → within 1 99_999 t ≡ false → first_place t body ≡ Absent
+  pub first_none : (t : ℕ) (body : Bytes) → within 1 99_999 t ≡ false → first_place t body ≡ None
   -- "Field reader and verdict answer refusal 10 for bytes that aren't 5 to 2,048 long, beginning `35=` and ending with `|`.": there, and only there
   pub refusal_10 : (body : Bytes) (at : ℕ) → (numbers (field_at body at)).0 ≡ cond (is_body body) none (some 10)

@@ -13,14 +13,12 @@ pub fn bar(s: &[u8], at: usize) -> usize
     requires { at ≤ length s.now }
     ensures { Ends s.now at result }
 {
-    let mut i = at;
-    while i < s.len() {
+    for i in at..s.len() {
         if s[i] == 1 {
             return i;
         }
-        i += 1;
     }
-    i
+    s.len()
 }
 
 // The same from a field's `=` on. Most values are short: eight bytes are looked at one by one, then sixteen at once as long as no `|` is among them.
@@ -31,18 +29,13 @@ fn value_end(s: &[u8], at: usize) -> usize
     if s.len() - at < 8 {
         return bar(s, at);
     }
-    let mut k = 0;
-    while k < 8 {
+    for k in 0..8 {
         if s[at + k] == 1 {
             return at + k;
         }
-        k += 1;
     }
     let mut i = at + 8;
-    while 16 <= s.len() - i {
-        if !calm(s, i, 16, 1) {
-            return bar(s, i);
-        }
+    while 16 <= s.len() - i && calm(s, i, 16, 1) {
         i += 16;
     }
     bar(s, i)
@@ -62,19 +55,13 @@ pub fn item_at(body: &[u8], at: usize) -> Item
     let next = end + 1;
     let whole = Item::Malformed {
         start: at,
-        end: end,
-        next: next,
+        end,
+        next,
     };
-    if mark == at {
+    if mark == at || mark == end || body[mark] != b'=' {
         return whole;
     }
-    if mark == end {
-        return whole;
-    }
-    if body[mark] != 61 {
-        return whole;
-    }
-    if body[at] == 48 {
+    if body[at] == b'0' {
         return whole;
     }
     let start = mark + 1;
@@ -90,34 +77,14 @@ pub fn item_at(body: &[u8], at: usize) -> Item
 pub fn begins_with_type(b: &[u8]) -> bool
     ensures { result ≡ starts (fix "35=") b.now }
 {
-    if b.len() < 3 {
-        return false;
-    }
-    if b[0] != 51 {
-        return false;
-    }
-    if b[1] != 53 {
-        return false;
-    }
-    if b[2] != 61 {
-        return false;
-    }
-    true
+    matches!(b, [b'3', b'5', b'=', ..])
 }
 
 // 5 to 2,048 bytes that begin `35=` and end with `|`.
+#[tactic(auto, unfolding(crate::specs::Field::is_body))]
 pub fn is_body(b: &[u8]) -> bool
     ensures { result ≡ is_body b.now }
 {
     let n = b.len();
-    if n < 5 {
-        return false;
-    }
-    if 2048 < n {
-        return false;
-    }
-    if !begins_with_type(b) {
-        return false;
-    }
-    b[n - 1] == 1
+    5 <= n && n <= 2_048 && begins_with_type(b) && b[n - 1] == 1
 }

@@ -1,26 +1,21 @@
 -- The pass over the header: what was met of 34, 49 and 56. Only the code's walk needs this: nothing here states document 01.
-use Rattle.std.specs.Prelude.{ℕ, ◌*◌, ◌+◌, ◌≤◌, ◌<◌, ◌≡◌, [], ◌∷◌, Bool, cond, ◌||◌, eqb, drop}
-use Rattle.octets.specs.Bytes.{Bytes, starts}
-use Rattle.fields.specs.First.{or_else}
-use Rattle.fields.specs.declared.Place.{Place}
-use Rattle.fields.specs.declared.Place.TheVariants.{At, Absent}
-use Rattle.fields.specs.declared.header.Spot.{Spot}
-use Rattle.fields.specs.declared.header.Spots.{Spots}
+use Rattle.std.specs.Prelude.{◌≡◌, Bool, cond, ◌&&◌, is_some, Some, None}
+use Rattle.std.specs.Option.{option_or}
+use Rattle.octets.specs.Bytes.{Bytes, fix, starts}
+use Rattle.fields.specs.First.{Place}
+use Rattle.fields.specs.declared.Heads.{Heads}
+use Rattle.fields.specs.declared.Span.{Span}
 
--- r is the two bytes a and b, as one number, of a part from `at` on that begins with them and `=`
-abbrev pub TagAt : Bytes → ℕ → ℕ → Type 0
-TagAt s at r = (a b : ℕ) → 1 ≤ a → b < 256 → eqb r (a * 256 + b) ≡ starts (a ∷ b ∷ 61 ∷ []) (drop at s)
+-- all three were met
+abbrev pub complete : Heads → Bool
+complete h = is_some h.target && (is_some h.sender && is_some h.number)
 
--- the place that a spot stands for
-abbrev pub place_of : Spot → Place
-place_of p = cond (eqb p.start 0) Absent (At p.start p.end)
+-- what was met of a field stands; else the value of a part, where that part begins with the field's tag and `=`
+abbrev pub kept : Place → Bytes → Bytes → Span → Place
+kept p t part value = option_or p (cond (starts t part) (Some value) None)
 
--- one of the three is not met yet
-abbrev pub missing : Spots → Bool
-missing f = eqb f.target.start 0 || (eqb f.sender.start 0 || eqb f.number.start 0)
-
--- g is f with the value of a part, if its tag is one of the three: `34`, `49` or `56` as one number
-pub record Noted (f : Spots) (tag start end : ℕ) (g : Spots) : Type 0 where
-  pub number : place_of g.number ≡ or_else (place_of f.number) (cond (eqb tag 13108) (At start end) Absent)
-  pub sender : place_of g.sender ≡ or_else (place_of f.sender) (cond (eqb tag 13369) (At start end) Absent)
-  pub target : place_of g.target ≡ or_else (place_of f.target) (cond (eqb tag 13622) (At start end) Absent)
+-- g is h with the value of a part, if its tag is one of the three
+pub record Noted (h : Heads) (part : Bytes) (value : Span) (g : Heads) : Type 0 where
+  pub number : g.number ≡ kept h.number (fix "34=") part value
+  pub sender : g.sender ≡ kept h.sender (fix "49=") part value
+  pub target : g.target ≡ kept h.target (fix "56=") part value

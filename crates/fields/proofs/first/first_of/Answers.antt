@@ -1,16 +1,10 @@
 -- `first_of`: the search from the start is the search from the place reached.
 use native.Mathlib.Omega.{arith}
-use mathlib.Core.Path.{refl, sym, ◌∙◌, subst}
+use mathlib.Core.Path.{sym, ◌∙◌, subst}
 use Rattle.fields.specs.Item.{Cut}
 use Rattle.fields.proofs.Bars.{first_ends}
-use Rattle.fields.proofs.Firsts.{first_found, first_passed, first_malformed, first_other, first_end, first_behind, first_from}
+use Rattle.fields.proofs.Firsts.{first_found, first_passed, first_malformed, first_other, first_behind, first_from}
 use Rattle.fields.proofs.first.first_of.Goals as goal
-
-pub loop-at-init : goal.loop-at-init
-loop-at-init c = refl
-
-pub loop-at-smaller-then-body-at : goal.loop-at-smaller-then-body-at
-loop-at-smaller-then-body-at c = omega (arith, c.byte_from-at.ensures.low)
 
 pub loop-at-preserved-then-body-at : goal.loop-at-preserved-then-body-at
 loop-at-preserved-then-body-at c =
@@ -20,44 +14,20 @@ loop-at-preserved-then-body-at c =
 pub returns-then-t-tag : goal.returns-then-t-tag
 returns-then-t-tag c =
     let s = c.args in
-    let C = subst (Cut s.body.now c.loop-at.at) c.in-Field.is c.item_at-item.ensures in
+    let C = subst (Cut s.body.now c.loop-at.at) c.in-Field.is c.item_at.ensures in
     first_from s.tag s.body.now _ c.requires.0 c.requires.1 (first_found s.tag c.requires.0 c.requires.1 s.body.now c.loop-at.at _ _ _ _ C c.if-t-tag.true ∙ sym c.loop-at.invariant)
-
-pub loop-at-smaller-in-Field : goal.loop-at-smaller-in-Field
-loop-at-smaller-in-Field c =
-    let s = c.args in
-    let C = subst (Cut s.body.now c.loop-at.at) c.in-Field.is c.item_at-item.ensures in
-    omega (arith, C.lies.2)
 
 pub loop-at-preserved-in-Field : goal.loop-at-preserved-in-Field
 loop-at-preserved-in-Field c =
     let s = c.args in
-    let C = subst (Cut s.body.now c.loop-at.at) c.in-Field.is c.item_at-item.ensures in
+    let C = subst (Cut s.body.now c.loop-at.at) c.in-Field.is c.item_at.ensures in
     c.loop-at.invariant ∙ first_passed s.tag c.requires.0 c.requires.1 s.body.now c.loop-at.at _ _ _ _ C c.if-t-tag.false
-
-pub loop-at-smaller : goal.loop-at-smaller
-loop-at-smaller c =
-    let s = c.args in
-    let C = subst (Cut s.body.now c.loop-at.at) c.in-Malformed.is c.item_at-item.ensures in
-    omega (arith, C.lies.1)
 
 pub loop-at-preserved : goal.loop-at-preserved
 loop-at-preserved c =
     let s = c.args in
-    let C = subst (Cut s.body.now c.loop-at.at) c.in-Malformed.is c.item_at-item.ensures in
+    let C = subst (Cut s.body.now c.loop-at.at) c.in-Malformed.is c.item_at.ensures in
     c.loop-at.invariant ∙ first_malformed s.tag c.requires.0 c.requires.1 s.body.now c.loop-at.at _ _ _ C
-
-pub returns-in-End : goal.returns-in-End
-returns-in-End c =
-    let s = c.args in
-    let C = subst (Cut s.body.now c.loop-at.at) c.in-End.is c.item_at-item.ensures in
-    first_from s.tag s.body.now _ c.requires.0 c.requires.1 (first_end s.tag c.requires.0 c.requires.1 s.body.now c.loop-at.at C ∙ sym c.loop-at.invariant)
-
-pub returns-in-NoBody : goal.returns-in-NoBody
-returns-in-NoBody c =
-    let s = c.args in
-    let C = subst (Cut s.body.now c.loop-at.at) c.in-NoBody.is c.item_at-item.ensures in
-    absurd C.lies
 
 pub returns : goal.returns
 returns c =

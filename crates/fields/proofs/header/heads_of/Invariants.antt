@@ -5,7 +5,7 @@ use Rattle.fields.proofs.Heading.{Mets}
 use Rattle.fields.proofs.header.heads_of.Given as goal
 
 abbrev pub invariant-loop-at : goal.invariant-loop-at
-invariant-loop-at l = Mets l.body l.at l.f
+invariant-loop-at l = Mets l.body l.at l.h
 
 abbrev pub decreases-loop-at : goal.decreases-loop-at
 decreases-loop-at l = length l.body + 1 - l.at

@@ -6,6 +6,7 @@ use Rattle.fields.specs.Item.{item_at}
 use Rattle.octets.proofs.Numerals.{read_below}
 use Rattle.fields.proofs.Items.{field_item, malformed_item}
 use Rattle.fields.proofs.part.item_at.Goals as goal
+use Rattle.fields.proofs.part.item_at.Goals.{then-mark-at-via-then-mark-at, then-mark-at-via-else-mark-at+then-mark-end, then-mark-at-via-else-mark-at+else-mark-end+then-body-mark-ne61}
 
 pub returns-then-body-at : goal.returns-then-body-at
 unfolding item_at
@@ -22,15 +23,12 @@ value_end-end-requires c = let N = c.digits-read.ensures.inside (omega arith) (o
 
 pub returns-then-mark-at : goal.returns-then-mark-at
 returns-then-mark-at c =
-    malformed_item _ _ _ _ _ (c.digits-read.ensures.inside (omega arith) (omega arith)) c.value_end-end.ensures c.if-body-at.false (λ some_digit m e z. omega arith)
-
-pub returns-then-mark-end : goal.returns-then-mark-end
-returns-then-mark-end c =
-    malformed_item _ _ _ _ _ (c.digits-read.ensures.inside (omega arith) (omega arith)) c.value_end-end.ensures c.if-body-at.false (λ some_digit m e z. m c.if-mark-end.true)
-
-pub returns-then-body-mark-ne61 : goal.returns-then-body-mark-ne61
-returns-then-body-mark-ne61 c =
-    malformed_item _ _ _ _ _ (c.digits-read.ensures.inside (omega arith) (omega arith)) c.value_end-end.ensures c.if-body-at.false (λ some_digit m e z. c.if-body-mark-ne61.true e)
+    let whole = malformed_item _ _ _ _ _ (c.digits-read.ensures.inside (omega arith) (omega arith)) c.value_end-end.ensures c.if-body-at.false in
+    elim c.then-mark-at.branch [
+      | then-mark-at-via-then-mark-at w ↦ whole (λ some_digit m e z. omega arith)
+      | then-mark-at-via-else-mark-at+then-mark-end w ↦ whole (λ some_digit m e z. m w.if-mark-end.true)
+      | then-mark-at-via-else-mark-at+else-mark-end+then-body-mark-ne61 w ↦ whole (λ some_digit m e z. w.if-body-mark-ne61.true e)
+    ]
 
 pub returns-then-body-at-eq48 : goal.returns-then-body-at-eq48
 returns-then-body-at-eq48 c =

@@ -5,10 +5,7 @@ use Rattle.fields.proofs.Bars.{Same}
 use Rattle.fields.proofs.part.value_end.Given as goal
 
 abbrev pub invariant-loop-k : goal.invariant-loop-k
-invariant-loop-k l = (l.k ≤ 8) × Same l.s l.at (l.at + l.k)
-
-abbrev pub decreases-loop-k : goal.decreases-loop-k
-decreases-loop-k l = 8 - l.k
+invariant-loop-k l = Same l.s l.at (l.at + l.k)
 
 abbrev pub invariant-loop-i : goal.invariant-loop-i
 invariant-loop-i l = (l.i ≤ length l.s) × Same l.s l.at l.i
