@@ -17,8 +17,7 @@ use Rattle.table.specs.code.Held.{all_rows, tags}
 use Rattle.table.specs.declared.MsgType.{MsgType}
 use Rattle.table.specs.declared.MsgType.TheVariants.{Heartbeat, TestRequest, ResendRequest, Reject, SequenceReset, Logout, Logon, OrderCancelRequest, TradeCaptureReportRequest, TradeCaptureReport}
 use Rattle.table.proofs.Lists.{all_ten}
-use Rattle.dictionary.specs.Verdict.{walk, nothing_yet, verdict}
-use Rattle.dictionary.specs.declared.Verdict.TheVariants.{Clean}
+use Rattle.dictionary.specs.Verdict.{Clean, walk, nothing_yet, verdict}
 use Rattle.dictionary.specs.Groups.{required, fields_among, Grouped, AllGrouped}
 use Rattle.dictionary.specs.Promise.{AllPassed, CleanBody}
 use Rattle.dictionary.proofs.Saying.{unknown_tag}

@@ -1,5 +1,6 @@
 -- What a clean walk says: each part is a field that passed, so the first field of a tag of the dictionary is of its kind; and each required tag
 -- is there.
+use Rattle.std.specs.Prelude.{Ok, Err}
 use Prim.Native.Nat.{ℕ, ◌≤◌}
 use native.Mathlib.Omega.{arith}
 use borrow.Author.Tests.{eqb-true}
@@ -14,12 +15,8 @@ use Rattle.octets.specs.Bytes.{Bytes, has, starts, within}
 use Rattle.fields.specs.Field.{Part, field, malformed, part_of, parts, first_of_parts, first_field, is_body}
 use Rattle.fields.proofs.Firsts.{tagged, starts-append, tag_part, part_split}
 use Rattle.table.specs.Dictionary.{Row, header, fields, rows_of, listed, administrative, in_dictionary}
-use Rattle.dictionary.specs.Verdict.{Open, Past, ◌when◌, first_of, missing, closing_all, left, rule1, rule2, rule4, rule6, rule9, rule10, said, skipped, taken, after, verdict_by, walk, nothing_yet, msg_type, judged_as, verdict}
+use Rattle.dictionary.specs.Verdict.{Says, Nothing, reason◌tag◌, Verdict, Clean, no_body, Open, Past, ◌when◌, first_of, missing, closing_all, left, rule1, rule2, rule4, rule6, rule9, rule10, said, skipped, taken, after, verdict_by, walk, nothing_yet, msg_type, judged_as, verdict}
 use Rattle.table.specs.declared.MsgType.{MsgType}
-use Rattle.dictionary.specs.declared.Says.{Says}
-use Rattle.dictionary.specs.declared.Says.TheVariants.{Nothing, Reason}
-use Rattle.dictionary.specs.declared.Verdict.{Verdict}
-use Rattle.dictionary.specs.declared.Verdict.TheVariants.{Clean, NoBody}
 use Rattle.dictionary.specs.Promise.{OfKind, Passed, PassedPart, AllPassed}
 use Rattle.dictionary.specs.Groups.{required}
 use Rattle.octets.proofs.Numerals.{within_is}
@@ -32,8 +29,8 @@ part-starts t p v e = ap (starts (tagged t)) (part_split p v t e) ∙ starts-app
 
 -- a clean walk found no fault with the part that it began with, and goes on clean
 pub by_clean : (s : Says) (x : Verdict) → verdict_by s x ≡ Clean → (s ≡ Nothing) × (x ≡ Clean)
-by_clean Nothing x h = (refl, h)
-by_clean (Reason a t) x h = let z : ◌≡◌ {A = ℕ} 0 1 = cc in absurd (omega arith)
+by_clean (Ok _) x h = (refl, h)
+by_clean (Err f) x h = let z : ◌≡◌ {A = ℕ} 0 1 = cc in absurd (omega arith)
 
 -- the tags met behind a field: a member leaves none
 pub seen-taken : (m : MsgType) (seen : List ℕ) (u : ℕ) (v : Bytes) → (taken m seen [] u v).seen ≡ u ∷ seen
@@ -45,11 +42,11 @@ unfolding taken
 seen-member m seen g gs u v = refl
 
 -- KINDS
-when_not : (b : Bool) (a t : ℕ) → (Reason a t when not b) ≡ Nothing → b ≡ true
+when_not : (b : Bool) (a t : ℕ) → (reason a tag t when not b) ≡ Nothing → b ≡ true
 when_not true a t h = refl
 when_not false a t h = let z : ◌≡◌ {A = ℕ} 0 1 = cc in absurd (omega arith)
 
-pub when_so : (b : Bool) (a t : ℕ) → (Reason a t when b) ≡ Nothing → b ≡ false
+pub when_so : (b : Bool) (a t : ℕ) → (reason a tag t when b) ≡ Nothing → b ≡ false
 when_so true a t h = let z : ◌≡◌ {A = ℕ} 0 1 = cc in absurd (omega arith)
 when_so false a t h = refl
 
@@ -71,7 +68,7 @@ passed-field m w t v h =
 passed-part : (m : MsgType) (w : Past) (q : Part) → said m w q ≡ Nothing → PassedPart m q
 unfolding said rule2
 passed-part m w malformed h =
-    let n = silent_at (rule1 w.inside malformed ∷ Reason 0 0 ∷ []) (sym h) 1 (omega arith) in
+    let n = silent_at (rule1 w.inside malformed ∷ reason 0 tag 0 ∷ []) (sym h) 1 (omega arith) in
     let z : ◌≡◌ {A = ℕ} 0 1 = cc in
     absurd (omega arith)
 passed-part m w (field t v) h = passed-field m w t v h
@@ -86,7 +83,7 @@ pub none_missing : (rows : List Row) (met : List ℕ) (t : ℕ) → required row
 none_missing [] met t r h = absurd (false≢true r)
 none_missing (x ∷ rows) met t r h = go x.required (eqb x.tag t) (has met x.tag) refl refl r h (none_missing rows met t)
   where
-    go : (q b c : Bool) → eqb x.tag t ≡ b → has met x.tag ≡ c → ((b && q) || required rows t) ≡ true → cond (q && not c) (Reason 1 x.tag) (missing rows met) ≡ Nothing
+    go : (q b c : Bool) → eqb x.tag t ≡ b → has met x.tag ≡ c → ((b && q) || required rows t) ≡ true → cond (q && not c) (reason 1 tag x.tag) (missing rows met) ≡ Nothing
         → (required rows t ≡ true → missing rows met ≡ Nothing → has met t ≡ true) → has met t ≡ true
     go true b false p s k e ih = let z : ◌≡◌ {A = ℕ} 0 1 = cc in absurd (omega arith)
     go true true true p s k e ih = ap (has met) (sym (eqb-true x.tag t p)) ∙ s
@@ -161,7 +158,7 @@ pub clean-walk : (m : MsgType) (body : Bytes) → verdict body ≡ Clean → msg
 unfolding verdict
 clean-walk m body h t = go (is_body body) (rw t at h)
   where
-    go : (b : Bool) → cond b (walk m nothing_yet (parts body)) NoBody ≡ Clean → walk m nothing_yet (parts body) ≡ Clean
+    go : (b : Bool) → cond b (walk m nothing_yet (parts body)) no_body ≡ Clean → walk m nothing_yet (parts body) ≡ Clean
     go true e = e
     go false e = let z : ◌≡◌ {A = ℕ} 0 1 = cc in absurd (omega arith)
 
@@ -170,7 +167,7 @@ pub clean-type : (body : Bytes) → verdict body ≡ Clean → (m : MsgType) × 
 unfolding verdict
 clean-type body h = go (is_body body) (msg_type body) h
   where
-    go : (b : Bool) (o : Option MsgType) → cond b (judged_as o body) NoBody ≡ Clean → (m : MsgType) × (o ≡ some m)
+    go : (b : Bool) (o : Option MsgType) → cond b (judged_as o body) no_body ≡ Clean → (m : MsgType) × (o ≡ some m)
     go true none e = let z : ◌≡◌ {A = ℕ} 0 1 = cc in absurd (omega arith)
     go true (some m) e = (m, refl)
     go false o e = let z : ◌≡◌ {A = ℕ} 0 1 = cc in absurd (omega arith)

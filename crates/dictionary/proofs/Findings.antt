@@ -1,4 +1,6 @@
 -- Which reasons and tags a finding has: those that the rules name, of the tags of the table and of the body's fields.
+use Rattle.std.specs.Prelude.{Ok, Err}
+use Rattle.dictionary.specs.declared.Unclean.TheVariants.{Found as Finds, NoBody}
 use Prim.Native.Nat.{ℕ, ◌+◌, ◌^◌, ◌≤◌, ◌<◌}
 use native.Mathlib.Omega.{arith}
 use mathlib.Core.Path.{◌≡◌, refl, subst}
@@ -15,17 +17,13 @@ use Rattle.fields.specs.Field.{Part, field, malformed, part_of, is_tag, before, 
 use Rattle.kinds.specs.Kind.{formed, allowed}
 use Rattle.table.specs.declared.MsgType.{MsgType}
 use Rattle.table.specs.declared.MsgType.TheVariants.{Heartbeat, TestRequest, ResendRequest, Reject, SequenceReset, Logout, Logon, OrderCancelRequest, TradeCaptureReportRequest, TradeCaptureReport}
-use Rattle.dictionary.specs.declared.Says.{Says}
-use Rattle.dictionary.specs.declared.Says.TheVariants.{Nothing, Reason}
-use Rattle.dictionary.specs.declared.Verdict.{Verdict}
-use Rattle.dictionary.specs.declared.Verdict.TheVariants.{Clean, Finding, NoBody}
 use Rattle.table.specs.Dictionary.{Row, Group, №453, №580, №552, groups, header, fields, groups_among, all_members, deeper, groups_of, member, rows_of, listed, kind_in, administrative, frame_tag, in_dictionary}
-use Rattle.dictionary.specs.Verdict.{Open, Past, ◌when◌, first_of, missing, incomplete, miscounted, closing, closing_all, ends, begins, first_member, rule1, left, rule2, skipped, rule3, rule4, rule5, rule6, rule7, rule8, rule9, rule10, rules4to10, said, opened, joined, taken, after, verdict_by, walk, msg_type, nothing_yet, judged_as, verdict, numbers}
+use Rattle.dictionary.specs.Verdict.{Says, reason◌tag◌, Verdict, Clean, found, no_body, Open, Past, ◌when◌, first_of, missing, incomplete, miscounted, closing, closing_all, ends, begins, first_member, rule1, left, rule2, skipped, rule3, rule4, rule5, rule6, rule7, rule8, rule9, rule10, rules4to10, said, opened, joined, taken, after, verdict_by, walk, msg_type, nothing_yet, judged_as, verdict, numbers}
 use Rattle.dictionary.specs.Promise.{reasons, Found}
 
 abbrev Small : Says → Type 0
-Small Nothing = Unit {0}
-Small (Reason r t) = Found r t
+Small (Ok _) = Unit {0}
+Small (Err f) = Found f.reason f.tag
 
 abbrev AllSmall : List Says → Type 0
 AllSmall [] = Unit {0}
@@ -33,8 +31,8 @@ AllSmall (x ∷ l) = Small x × AllSmall l
 
 small_first : (l : List Says) → AllSmall l → Small (first_of l)
 small_first [] h = tt
-small_first (Nothing ∷ l) h = small_first l h.1
-small_first ((Reason r t) ∷ l) h = h.0
+small_first ((Ok _) ∷ l) h = small_first l h.1
+small_first ((Err f) ∷ l) h = h.0
 
 small_when : (x : Says) (b : Bool) → Small x → Small (x when b)
 small_when x true h = h
@@ -48,7 +46,7 @@ small_missing : (rows : List Row) (met : List ℕ) → all low rows ≡ true →
 small_missing [] met h = tt
 small_missing (r ∷ rs) met h = go (r.required && not (has met r.tag)) (small_missing rs met (both (low r) (all low rs) h).1)
   where
-    go : (b : Bool) → Small (missing rs met) → Small (cond b (Reason 1 r.tag) (missing rs met))
+    go : (b : Bool) → Small (missing rs met) → Small (cond b (reason 1 tag r.tag) (missing rs met))
     go true k = (refl, leb-true r.tag 99_999 (both (low r) (all low rs) h).0)
     go false k = k
 
@@ -101,7 +99,7 @@ small_incomplete g h = small_when (missing g.group.members g.last) (not (eqb g.b
 small_closing : (g : Open) → LowGroup g.group → Small (closing g)
 unfolding closing
 small_closing g h =
-    small_first (incomplete g ∷ miscounted g ∷ []) (small_incomplete g h, (small_when (Reason 16 g.group.counter) (not (eqb g.begun g.count)) (refl, h.counter), tt))
+    small_first (incomplete g ∷ miscounted g ∷ []) (small_incomplete g h, (small_when (reason 16 tag g.group.counter) (not (eqb g.begun g.count)) (refl, h.counter), tt))
 
 abbrev LowPart : Part → Type 0
 LowPart malformed = Unit {0}
@@ -141,15 +139,15 @@ low_left (g ∷ gs) p h = go (ends g.group.members p) (low_left gs p h.1)
     go true k = k
     go false k = h
 
-reason_when : (r t : ℕ) (b : Bool) → has reasons r ≡ true → t ≤ 99_999 → Small (Reason r t when b)
-reason_when r t b h l = small_when (Reason r t) b (h, l)
+reason_when : (r t : ℕ) (b : Bool) → has reasons r ≡ true → t ≤ 99_999 → Small (reason r tag t when b)
+reason_when r t b h l = small_when (reason r tag t) b (h, l)
 
 small_rule8 : (m : MsgType) (gs : List Open) (t : ℕ) → t ≤ 99_999 → Small (rule8 m gs t)
 unfolding rule8
 small_rule8 m [] t l = reason_when 15 t (member m t) refl l
 small_rule8 m (g ∷ gs) t l =
-    small_when (first_of ((Reason 15 t when eqb g.begun 0) ∷ (Reason 13 t when has g.last t) ∷ [])) (not (first_member g.group.members t))
-    (small_first ((Reason 15 t when eqb g.begun 0) ∷ (Reason 13 t when has g.last t) ∷ [])
+    small_when (first_of ((reason 15 tag t when eqb g.begun 0) ∷ (reason 13 tag t when has g.last t) ∷ [])) (not (first_member g.group.members t))
+    (small_first ((reason 15 tag t when eqb g.begun 0) ∷ (reason 13 tag t when has g.last t) ∷ [])
     (reason_when 15 t (eqb g.begun 0) refl l, (reason_when 13 t (has g.last t) refl l, tt)))
 
 small_known : (m : MsgType) (w : Past) (t : ℕ) (v : Bytes) → t ≤ 99_999 → AllSmall (rules4to10 m w t v)
@@ -225,13 +223,13 @@ low_after m w (field t v) h = go (skipped m t)
 
 -- a walk ends with a clean verdict or with such a finding
 abbrev Told : Verdict → Type 0
-Told Clean = Unit {0}
-Told (Finding r t) = Found r t
-Told NoBody = ⊥
+Told (Ok _) = Unit {0}
+Told (Err (Finds f)) = Found f.reason f.tag
+Told (Err NoBody) = ⊥
 
 told_by : (x : Says) (v : Verdict) → Small x → Told v → Told (verdict_by x v)
-told_by Nothing v h k = k
-told_by (Reason r t) v h k = h
+told_by (Ok _) v h k = k
+told_by (Err f) v h k = h
 
 told-walk : (m : MsgType) (ps : List Bytes) (w : Past) → LowOpen w.inside → Told (walk m w ps)
 told-walk m [] w h =
@@ -245,11 +243,11 @@ told_as none body = (refl, omega arith)
 told_as (some m) body = told-walk m (parts body) nothing_yet tt
 
 -- A FINDING has one of the reasons, and a tag of at most five digits
-pub verdict_finds : (body : Bytes) (r t : ℕ) → verdict body ≡ Finding r t → Found r t
+pub verdict_finds : (body : Bytes) (r t : ℕ) → verdict body ≡ found r t → Found r t
 unfolding verdict
 verdict_finds body r t e = go (is_body body) (judged_as (msg_type body) body) (told_as (msg_type body) body) e
   where
-    go : (b : Bool) (v : Verdict) → Told v → cond b v NoBody ≡ Finding r t → Found r t
+    go : (b : Bool) (v : Verdict) → Told v → cond b v no_body ≡ found r t → Found r t
     go true v h e = subst Told e h
     go false v h e = let z : ◌≡◌ {A = ℕ} 0 1 = cc in absurd (omega arith)
 
@@ -258,10 +256,10 @@ pub verdict-refuses : (body : Bytes) → (numbers (verdict body)).0 ≡ cond (is
 unfolding verdict numbers
 verdict-refuses body = go (is_body body) (judged_as (msg_type body) body) (told_as (msg_type body) body)
   where
-    go : (b : Bool) (v : Verdict) → Told v → (numbers (cond b v NoBody)).0 ≡ cond b none (some 10)
-    go true Clean h = refl
-    go true (Finding r t) h = refl
-    go true NoBody h = absurd h
+    go : (b : Bool) (v : Verdict) → Told v → (numbers (cond b v no_body)).0 ≡ cond b none (some 10)
+    go true (Ok _) h = refl
+    go true (Err (Finds f)) h = refl
+    go true (Err NoBody) h = absurd h
     go false v h = refl
 
 -- the reasons are small, so reason and tag are numbers that a Reject can carry
@@ -277,14 +275,14 @@ pub reason_low : (r : ℕ) → has reasons r ≡ true → r ≤ 16
 reason_low r h = has_low 16 reasons r refl h
 
 abbrev pub SmallVerdict : Verdict → Type 0
-SmallVerdict Clean = Unit {0}
-SmallVerdict (Finding r t) = (r ≤ 99) × (t ≤ 99_999)
-SmallVerdict NoBody = Unit {0}
+SmallVerdict (Ok _) = Unit {0}
+SmallVerdict (Err (Finds f)) = (f.reason ≤ 99) × (f.tag ≤ 99_999)
+SmallVerdict (Err NoBody) = Unit {0}
 
 pub verdict_small : (body : Bytes) → SmallVerdict (verdict body)
 verdict_small body = go (verdict body) refl
   where
     go : (v : Verdict) → verdict body ≡ v → SmallVerdict v
-    go Clean e = tt
-    go (Finding r t) e = let w = verdict_finds body r t e in (omega (arith, reason_low r w.0), w.1)
-    go NoBody e = tt
+    go (Ok _) e = tt
+    go (Err (Finds f)) e = let w = verdict_finds body f.reason f.tag e in (omega (arith, reason_low f.reason w.0), w.1)
+    go (Err NoBody) e = tt

@@ -12,9 +12,7 @@ use Rattle.octets.specs.Bytes.{Bytes, has, value}
 use Rattle.fields.specs.Field.{Part, field, malformed, part_of}
 use Rattle.table.specs.Dictionary.{Group, header, fields, groups_of, member, listed}
 use Rattle.table.specs.declared.MsgType.{MsgType}
-use Rattle.dictionary.specs.Verdict.{Open, Past, ◌when◌, first_of, missing, first_member, incomplete, miscounted, closing, closing_all, rule1, rule2, rule3, rules4to10, rule8, left, skipped, said, opened, joined, taken, after, walk, nothing_yet}
-use Rattle.dictionary.specs.declared.Says.TheVariants.{Nothing, Reason}
-use Rattle.dictionary.specs.declared.Verdict.TheVariants.{Clean}
+use Rattle.dictionary.specs.Verdict.{Nothing, reason◌tag◌, Clean, Open, Past, ◌when◌, first_of, missing, first_member, incomplete, miscounted, closing, closing_all, rule1, rule2, rule3, rules4to10, rule8, left, skipped, said, opened, joined, taken, after, walk, nothing_yet}
 use Rattle.dictionary.specs.Groups.{kept, fields_among, Whole, Instances, ended, begins, follows}
 use Rattle.dictionary.proofs.Turns.{silent, silent_at, known_not_skipped}
 use Rattle.dictionary.proofs.Clean.{by_clean, when_so, none_missing}
@@ -28,7 +26,7 @@ said-rule1 m w (field t v) h = silent_at (rule1 w.inside (field t v) ∷ rule2 (
 
 pub malformed-said : (m : MsgType) (w : Past) → said m w malformed ≡ Nothing → ⊥
 unfolding said rule2
-malformed-said m w h = let n = silent_at (rule1 w.inside malformed ∷ Reason 0 0 ∷ []) (sym h) 1 (omega arith) in let z : ◌≡◌ {A = ℕ} 0 1 = cc in omega arith
+malformed-said m w h = let n = silent_at (rule1 w.inside malformed ∷ reason 0 tag 0 ∷ []) (sym h) 1 (omega arith) in let z : ◌≡◌ {A = ℕ} 0 1 = cc in omega arith
 
 -- a walk that leaves the same open says the same, and goes on as it
 module _ (m : MsgType) (seen : List ℕ) (os gs : List Open) (t : ℕ) (v : Bytes) (e : left os (field t v) ≡ left gs (field t v)) where
@@ -84,7 +82,7 @@ module _ (g : Group) where
       let s = two_silent (incomplete (at g c b l)) (miscounted (at g c b l)) h in
       (whole_by c b l B s.0, eqb-true b c (so (eqb b c) s.1))
     where
-      so : (z : Bool) → (Reason 16 g.counter when not z) ≡ Nothing → z ≡ true
+      so : (z : Bool) → (reason 16 tag g.counter when not z) ≡ Nothing → z ≡ true
       so true k = refl
       so false k = let z : ◌≡◌ {A = ℕ} 0 1 = cc in absurd (omega arith)
 
@@ -160,7 +158,7 @@ module _ (m : MsgType) (g : Group) (F : Fit m g) where
       said_8 : listed g.members t ≡ true → first_member g.members t ≡ false → (eqb b 0 ≡ false) × (has l t ≡ false)
       unfolding rule8
       said_8 x f =
-          let s = two_silent (Reason 15 t when eqb b 0) (Reason 13 t when has l t) (rw (left_here t v x I, f) at (silent m w t v (F.known t x) (sym h)).silent8) in
+          let s = two_silent (reason 15 tag t when eqb b 0) (reason 13 tag t when has l t) (rw (left_here t v x I, f) at (silent m w t v (F.known t x) (sym h)).silent8) in
           (when_so (eqb b 0) 15 t s.0, when_so (has l t) 13 t s.1)
 
     follows_one : (w : Past) (c b : ℕ) (l : List ℕ) (gs : List Open) (I : In m g c b l gs w.inside) → Away g gs → (B : Begun b l) (t : ℕ) (v : Bytes) → said m w (field t v) ≡ Nothing → walk m (after m w (field t v)) ps ≡ Clean

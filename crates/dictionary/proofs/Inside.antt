@@ -1,6 +1,7 @@
 -- Where a walk stands beside one group of its message: outside it, or in it with groups of its members open further in; and what a field that no
 -- rule spoke of does to that.
 -- Assumes nothing.
+use Rattle.std.specs.Prelude.{Ok, Err}
 use Prim.Native.Nat.{ℕ, ◌+◌}
 use native.Mathlib.Omega.{arith}
 use borrow.Author.Tests.{eqb-true, not-true}
@@ -14,9 +15,7 @@ use Rattle.octets.proofs.Tests.{both, neither}
 use Rattle.fields.specs.Field.{Part, field}
 use Rattle.table.specs.Dictionary.{Row, Group, groups_of, member, listed, in_dictionary}
 use Rattle.table.specs.declared.MsgType.{MsgType}
-use Rattle.dictionary.specs.Verdict.{Open, ◌when◌, first_of, first_member, begins, ends, incomplete, closing, closing_all, rule1, left, opened, joined, taken}
-use Rattle.dictionary.specs.declared.Says.{Says}
-use Rattle.dictionary.specs.declared.Says.TheVariants.{Nothing, Reason}
+use Rattle.dictionary.specs.Verdict.{Says, Nothing, Open, ◌when◌, first_of, first_member, begins, ends, incomplete, closing, closing_all, rule1, left, opened, joined, taken}
 use Rattle.dictionary.proofs.FourToEight.{listed_all}
 
 -- all open groups are such
@@ -47,9 +46,9 @@ pub data In (m : MsgType) (g : Group) (c b : ℕ) (l : List ℕ) (gs : List Open
 
 -- SAYINGS
 pub two_silent : (a b : Says) → first_of (a ∷ b ∷ []) ≡ Nothing → (a ≡ Nothing) × (b ≡ Nothing)
-two_silent Nothing Nothing h = (refl, refl)
-two_silent Nothing (Reason r t) h = let z : ◌≡◌ {A = ℕ} 0 1 = cc in absurd (omega arith)
-two_silent (Reason r t) b h = let z : ◌≡◌ {A = ℕ} 0 1 = cc in absurd (omega arith)
+two_silent (Ok _) (Ok _) h = (refl, refl)
+two_silent (Ok _) (Err f) h = let z : ◌≡◌ {A = ℕ} 0 1 = cc in absurd (omega arith)
+two_silent (Err f) b h = let z : ◌≡◌ {A = ℕ} 0 1 = cc in absurd (omega arith)
 
 -- WHAT A FIELD LEAVES OPEN
 pub left_all : (P : Open → Type 0) (os : List Open) (p : Part) → AllOpen P os → AllOpen P (left os p)

@@ -10,7 +10,6 @@ pub mod Reported
 pub mod Nesting
 pub mod TwoWalks
 pub mod TopWalk
-pub mod Closings
 pub mod Reports
 pub mod Types
 pub mod Clean

@@ -1,4 +1,7 @@
 -- A group of a report in the words: what is said where it ends, and what is remembered behind each of its members, whatever groups are open around it.
+use Rattle.std.specs.Prelude.{Option, Some, None, Ok, Err}
+use Rattle.dictionary.specs.declared.Finding.{Finding}
+use Rattle.dictionary.specs.declared.Unclean.TheVariants.{Found}
 use Prim.Native.Nat.{ℕ, ◌+◌, ◌-◌}
 use native.Mathlib.Omega.{arith}
 use borrow.Author.Tests.{eqb-true, eq-eqb}
@@ -15,34 +18,25 @@ use Rattle.fields.specs.declared.Item.{Item}
 use Rattle.fields.specs.declared.Item.TheVariants.{Field, Malformed, End, NoBody}
 use Rattle.fields.proofs.Rows.{Step}
 use Rattle.table.specs.Dictionary.{Row, Group, №453, №580, №552, groups, header, fields, listed, groups_of}
-use Rattle.table.specs.code.Held.{Three}
-use Rattle.dictionary.specs.Verdict.{Open, Past, first_of, missing, closing, closing_all, ends, first_member, rule1, left, rule2, rule3, rule8, skipped, rules4to10, said, opened, joined, taken, after, verdict_by, walk}
-use Rattle.dictionary.specs.code.Held.{InGroup, Stood, away, within, Closing, begun_of}
-use Rattle.dictionary.specs.code.Nested.{AE, past, MemberAt, ends_group, MemberBy, MemberIn, OfMember, Opened, onward, reached_by, Goes, GroupWalk, Along, Turned}
+use Rattle.table.specs.code.Held.{tag_at, Three}
+use Rattle.dictionary.specs.Verdict.{Says, Nothing, reason◌tag◌, Verdict, Clean, Open, Past, first_of, missing, closing, closing_all, ends, first_member, rule1, left, rule2, rule3, rule8, skipped, rules4to10, said, opened, joined, taken, after, verdict_by, walk}
+use Rattle.dictionary.specs.code.Held.{InGroup, Stood, Closing, Opened, begun_of}
+use Rattle.dictionary.specs.code.Nested.{AE, past, MemberAt, ends_group, MemberBy, MemberIn, OfMember, Reached, to, onward, Goes, GroupWalk, Along, Turned}
 use Rattle.table.specs.declared.MsgType.{MsgType}
-use Rattle.dictionary.specs.declared.Says.{Says}
-use Rattle.dictionary.specs.declared.Says.TheVariants.{Nothing, Reason}
-use Rattle.dictionary.specs.declared.Verdict.{Verdict}
-use Rattle.dictionary.specs.declared.Verdict.TheVariants.{Clean, Finding}
-use Rattle.dictionary.specs.declared.groups.State.{State}
-use Rattle.table.specs.declared.lines.Entry.{Entry}
+use Rattle.dictionary.specs.declared.groups.OpenGroup.{OpenGroup}
 use Rattle.dictionary.specs.declared.members.Head.{Head}
-use Rattle.dictionary.specs.declared.members.Head.TheVariants.{Member, Other}
-use Rattle.dictionary.specs.declared.nested.Reached.{Reached}
-use Rattle.dictionary.specs.declared.nested.Reached.TheVariants.{To}
-use Rattle.dictionary.proofs.Ending.{counted}
-use Rattle.dictionary.proofs.FourToEight.{leads}
-use Rattle.dictionary.proofs.Saying.{known_entry, rule6_silent}
+use Rattle.dictionary.proofs.Ending.{stood_none, stood_one}
+use Rattle.dictionary.proofs.Saying.{known_tag, rule6_silent}
 use Rattle.dictionary.proofs.Reported.{opened-reported}
 use Rattle.dictionary.proofs.Opening.{opens_none}
 use Rattle.dictionary.proofs.Walking.{mark_more, no_marks, walk_on, field_lies, field_step, malformed_step, end_row, never_none}
 use Rattle.dictionary.proofs.Turns.{Silent, silent, after-taken}
 
 -- the head as the code finds it
-pub the_member : {item : Item} {group : ℕ} {head : Head} {e : Entry} {p start end next : ℕ} → MemberIn item group head → head ≡ Member e p start end next → MemberAt item group e p start end next
-the_member {item} {group} M h = subst (MemberBy item group) h M.is
+pub the_member : {item : Item} {group : ℕ} {head : Option Head} {h : Head} → MemberIn item group head → head ≡ Some h → MemberAt item group h
+the_member {item} {group} M q = subst (MemberBy item group) q M.is
 
-pub the_other : {item : Item} {group : ℕ} {head : Head} → MemberIn item group head → head ≡ Other → MemberBy item group Other
+pub the_other : {item : Item} {group : ℕ} {head : Option Head} → MemberIn item group head → head ≡ None → MemberBy item group None
 the_other {item} {group} M h = subst (MemberBy item group) h M.is
 
 -- THE END OF A GROUP, in the words: what is said of it stands before all that is said of the part that ends it, and then the groups around go on
@@ -51,9 +45,9 @@ ended members [] = true
 ended members (p ∷ ps) = ends members (part_of p)
 
 two_say : (c x : Says) (l : List Says) (r : Verdict) → verdict_by (first_of (first_of (c ∷ x ∷ []) ∷ l)) r ≡ verdict_by c (verdict_by (first_of (x ∷ l)) r)
-two_say Nothing Nothing l r = refl
-two_say Nothing (Reason a t) l r = refl
-two_say (Reason a t) x l r = refl
+two_say (Ok _) (Ok _) l r = refl
+two_say (Ok _) (Err f) l r = refl
+two_say (Err f) x l r = refl
 
 pop_part : (m : MsgType) (s : List ℕ) (g : Open) (gs : List Open) (p : Part) (next : List Bytes) → ends g.group.members p ≡ true
     → verdict_by (said m (past s (g ∷ gs)) p) (walk m (after m (past s (g ∷ gs)) p) next) ≡ verdict_by (closing g) (verdict_by (said m (past s gs) p) (walk m (after m (past s gs) p) next))
@@ -61,8 +55,8 @@ unfolding said after rule1 left rule2 rules4to10
 pop_part m s g gs malformed next h = two_say (closing g) (rule1 gs malformed) (rule2 malformed ∷ []) (walk m (past s (g ∷ gs)) next) ∙ malformed_stops (rule1 gs malformed)
   where
     malformed_stops : (x : Says) → verdict_by (closing g) (verdict_by (first_of (x ∷ rule2 malformed ∷ [])) (walk m (past s (g ∷ gs)) next)) ≡ verdict_by (closing g) (verdict_by (first_of (x ∷ rule2 malformed ∷ [])) (walk m (past s gs) next))
-    malformed_stops Nothing = refl
-    malformed_stops (Reason a t) = refl
+    malformed_stops (Ok _) = refl
+    malformed_stops (Err f) = refl
 pop_part m s g gs (field t v) next h =
     rw h (two_say (closing g) (rule1 gs (field t v)) (rule2 (field t v) ∷ rule3 m t ∷ cond (skipped m t) [] (rules4to10 m (past s gs) t v)) (walk m (after m (past s gs) (field t v)) next))
 
@@ -80,24 +74,22 @@ ended_by members (Malformed s e n) C h = let S = malformed_step C refl in rw (S.
 ended_by members End C h = rw (end_row C refl)
 ended_by members NoBody C h = absurd (never_none C refl)
 
-outward : (w : Past) (body : Bytes) (r : Says) (at : ℕ) (item : Item) → onward w body (reached_by r at item) ≡ verdict_by r (walk AE w (parts (drop at body)))
-outward w body Nothing at item = refl
-outward w body (Reason a t) at item = refl
+-- a finding, or on from a part
+abbrev pub reached_by : Says → ℕ → Item → Reached
+reached_by (Ok _) at item = to at item
+reached_by (Err f) at item = Err f
 
-one_closes : (g : Open) → closing_all (g ∷ []) ≡ closing g
-one_closes g = go (closing g)
-  where
-    go : (s : Says) → first_of (s ∷ Nothing ∷ []) ≡ s
-    go Nothing = refl
-    go (Reason a t) = refl
+outward : (w : Past) (body : Bytes) (r : Says) (at : ℕ) (item : Item) → onward w body (reached_by r at item) ≡ verdict_by r (walk AE w (parts (drop at body)))
+outward w body (Ok _) at item = refl
+outward w body (Err f) at item = refl
 
 -- the code leaves the group
-pub leaves : {body : Bytes} {s : List ℕ} {g : Open} {gs : List Open} {from at : ℕ} {item : Item} {met : List Bool} {st : State} {r : Says} {w : Reached}
-    → Along body s g gs from met st (To at item) → Cut body at item → MemberBy item st.group Other → Closing met st r → w ≡ reached_by r at item
-    → onward (past s gs) body w ≡ walk AE (past s (g ∷ gs)) (parts (drop from body))
-leaves {body} {s} {g} {gs} {from} {at} {item} {met} {st} {r} A C H Z e =
+pub leaves : {body : Bytes} {s : List ℕ} {g : Open} {gs : List Open} {from at : ℕ} {item : Item} {met : List Bool} {c : OpenGroup} {r : Says}
+    → Along body s g gs from met c (to at item) → Cut body at item → MemberBy item c.counter None → Closing met c r
+    → onward (past s gs) body (reached_by r at item) ≡ walk AE (past s (g ∷ gs)) (parts (drop from body))
+leaves {body} {s} {g} {gs} {from} {at} {item} {met} {c} {r} A C H Z =
     let I = A.goes.group in
-    ap (onward (past s gs) body) e ∙ outward (past s gs) body r at item ∙ ap (λ (x : Says). verdict_by x (walk AE (past s gs) (parts (drop at body)))) (Z.is (A.later ∷ []) (within I) ∙ one_closes A.later)
+    outward (past s gs) body r at item ∙ ap (λ (x : Says). verdict_by x (walk AE (past s gs) (parts (drop at body)))) (Z.is A.later I)
     ∙ sym (pop AE s A.later gs (parts (drop at body)) (ended_by A.later.group.members item C (H A.later.group A.goes.reported (sym I.counter)))) ∙ A.is
 
 -- A MEMBER of the innermost open group
@@ -112,134 +104,122 @@ first_no_count g t (inl e) h = let k : eqb 448 t ≡ true = rw e at h in rw (sym
 first_no_count g t (inr (inl e)) h = let k : eqb 75 t ≡ true = rw e at h in rw (sym (eqb-true 75 t k))
 first_no_count g t (inr (inr e)) h = let k : eqb 54 t ≡ true = rw e at h in rw (sym (eqb-true 54 t k))
 
--- what stands where a count opened a group, or none
-pub stood_none : {gs : List Open} {met : List Bool} {st : State} → Stood gs met st → st.group ≡ 0 → gs ≡ []
-stood_none (away z) h = refl
-stood_none (within {g} I) h = absurd (counted g.group I.three (sym I.counter ∙ h))
-
-pub stood_one : {gs : List Open} {met : List Bool} {st : State} → Stood gs met st → (st.group ≡ 0 → ⊥) → (g : Open) × ((gs ≡ (g ∷ [])) × InGroup g met st)
-stood_one (away z) h = absurd (h z)
-stood_one (within {g} I) h = (g, (refl, I))
-
 abbrev pub value_in : Bytes → ℕ → ℕ → Bytes
 value_in body start end = take (end - start) (drop start body)
 
-module _ {body : Bytes} {at : ℕ} {item : Item} (C : Cut body at item) {group : ℕ} {e : Entry} {p start end next : ℕ} (M : MemberAt item group e p start end next) where
-  pub member_lies : Span body at start end next
+module _ {body : Bytes} {at : ℕ} {item : Item} (C : Cut body at item) {group : ℕ} {h : Head} (M : MemberAt item group h) where
+  pub member_lies : Span body at h.start h.end h.next
   member_lies = field_lies C M.is
 
-  member_step : Step body at (take (end - at) (drop at body)) (field e.tag (value_in body start end)) next
+  member_step : Step body at (take (h.end - at) (drop at body)) (field (tag_at h.k.place) (value_in body h.start h.end)) h.next
   member_step = field_step C M.is refl
 
-module _ {body : Bytes} {at : ℕ} {item : Item} (C : Cut body at item) {st : State} {e : Entry} {p start end next : ℕ} (M : MemberAt item st.group e p start end next) where
-  module _ {g : Open} {met : List Bool} (G : Goes g met st) where
-    same_group : eqb g.group.counter e.member.group ≡ true
-    same_group = eq-eqb g.group.counter e.member.group (sym G.group.counter ∙ sym M.belongs)
+module _ {body : Bytes} {at : ℕ} {item : Item} (C : Cut body at item) {c : OpenGroup} {h : Head} (M : MemberAt item c.counter h) where
+  module _ {g : Open} {met : List Bool} (G : Goes g met c) where
+    in_group : listed g.group.members (tag_at h.k.place) ≡ true
+    in_group = (M.belongs g.group G.group.three (sym G.group.counter)).0
 
-    in_group : listed g.group.members e.tag ≡ true
-    in_group = sym (M.looked.right.member_of g.group G.group.three) ∙ same_group
+    is_first : first_member g.group.members (tag_at h.k.place) ≡ h.first
+    is_first = (M.belongs g.group G.group.three (sym G.group.counter)).1
 
-    is_first : first_member g.group.members e.tag ≡ e.member.first
-    is_first = leads e met st M.looked.right g G.group same_group
+  module _ {met : List Bool} {r : Says} (K : OfMember met c (tag_at h.k.place) h.first (value_in body h.start h.end) r) where
+    module _ {s : List ℕ} {g : Open} {gs : List Open} {from : ℕ} (A : Along body s g gs from met c (to at item)) where
+      said_here : r ≡ said AE (past s (A.later ∷ gs)) (field (tag_at h.k.place) (value_in body h.start h.end))
+      said_here = K.is s A.later gs A.goes.group A.goes.reported (in_group A.goes) (is_first A.goes)
 
-  module _ {met : List Bool} {r : Says} (K : OfMember met st e.tag (value_in body start end) r) where
-    module _ {s : List ℕ} {g : Open} {gs : List Open} {from : ℕ} (A : Along body s g gs from met st (To at item)) where
-      said_here : r ≡ said AE (past s (A.later ∷ gs)) (field e.tag (value_in body start end))
-      said_here = K.is s A.later gs A.goes.group A.goes.reported (in_group A.goes)
-
-      walked : walk AE (past s (A.later ∷ gs)) (parts (drop at body)) ≡ verdict_by r (walk AE (after AE (past s (A.later ∷ gs)) (field e.tag (value_in body start end))) (parts (drop next body)))
-      walked = walk_on AE (past s (A.later ∷ gs)) body _ _ at next (member_step C M) ∙ ap (λ (x : Says). verdict_by x (walk AE (after AE (past s (A.later ∷ gs)) (field e.tag (value_in body start end))) (parts (drop next body)))) (sym said_here)
+      walked : walk AE (past s (A.later ∷ gs)) (parts (drop at body)) ≡ verdict_by r (walk AE (after AE (past s (A.later ∷ gs)) (field (tag_at h.k.place) (value_in body h.start h.end))) (parts (drop h.next body)))
+      walked = walk_on AE (past s (A.later ∷ gs)) body _ _ at h.next (member_step C M) ∙ ap (λ (x : Says). verdict_by x (walk AE (after AE (past s (A.later ∷ gs)) (field (tag_at h.k.place) (value_in body h.start h.end))) (parts (drop h.next body)))) (sym said_here)
 
       -- a rule speaks
-      pub faults : {a t : ℕ} → r ≡ Reason a t → Finding a t ≡ walk AE (past s (g ∷ gs)) (parts (drop from body))
+      pub faults : {f : Finding} → r ≡ Err f → Err (Found f) ≡ walk AE (past s (g ∷ gs)) (parts (drop from body))
       faults q = sym (walked ∙ rw q) ∙ A.is
 
       -- none does
       module _ (q : r ≡ Nothing) where
-        quiet : Silent AE (past s (A.later ∷ gs)) e.tag (value_in body start end)
-        quiet = silent AE (past s (A.later ∷ gs)) e.tag (value_in body start end) (known_entry M.looked) (sym q ∙ said_here)
+        quiet : Silent AE (past s (A.later ∷ gs)) (tag_at h.k.place) (value_in body h.start h.end)
+        quiet = silent AE (past s (A.later ∷ gs)) (tag_at h.k.place) (value_in body h.start h.end) (known_tag h.k.place h.k.within) (sym q ∙ said_here)
 
-        quiet8 : rule8 AE (A.later ∷ gs) e.tag ≡ Nothing
-        quiet8 = rw (left-inner A.later gs e.tag (value_in body start end) (in_group A.goes)) at quiet.silent8
+        quiet8 : rule8 AE (A.later ∷ gs) (tag_at h.k.place) ≡ Nothing
+        quiet8 = rw (left-inner A.later gs (tag_at h.k.place) (value_in body h.start h.end) (in_group A.goes)) at quiet.silent8
 
-        onto : walk AE (past s (opened (groups_of AE) e.tag (value_in body start end) ++ (joined A.later e.tag ∷ gs))) (parts (drop next body)) ≡ walk AE (past s (g ∷ gs)) (parts (drop from body))
+        onto : walk AE (past s (opened (groups_of AE) (tag_at h.k.place) (value_in body h.start h.end) ++ (joined A.later (tag_at h.k.place) ∷ gs))) (parts (drop h.next body)) ≡ walk AE (past s (g ∷ gs)) (parts (drop from body))
         unfolding taken
         onto =
-            ap (λ (x : Past). walk AE x (parts (drop next body))) (sym (after-taken AE (past s (A.later ∷ gs)) e.tag (value_in body start end) (A.later ∷ gs) (known_entry M.looked) (left-inner A.later gs e.tag (value_in body start end) (in_group A.goes))))
+            ap (λ (x : Past). walk AE x (parts (drop h.next body))) (sym (after-taken AE (past s (A.later ∷ gs)) (tag_at h.k.place) (value_in body h.start h.end) (A.later ∷ gs) (known_tag h.k.place h.k.within) (left-inner A.later gs (tag_at h.k.place) (value_in body h.start h.end) (in_group A.goes))))
             ∙ sym (walked ∙ rw q) ∙ A.is
 
         -- the first member begins an instance: in a first one rule 8 asks for it, behind another no other member can stand
-        leads_off : (st.begun ≡ 0) ⊎ Turned st.group (To at item) → e.member.first ≡ true
+        leads_off : (c.begun ≡ 0) ⊎ Turned c.counter (to at item) → h.first ≡ true
         unfolding rule8
-        leads_off T = go e.member.first (is_first A.goes) T
+        leads_off T = go h.first (is_first A.goes) T
           where
-            I : InGroup A.later met st
+            I : InGroup A.later met c
             I = A.goes.group
 
-            go : (f : Bool) → first_member A.later.group.members e.tag ≡ f → (st.begun ≡ 0) ⊎ Turned st.group (To at item) → f ≡ true
-            go true h x = refl
-            go false h (inl z) =
-                let k : Reason 15 e.tag ≡ Nothing = rw (h, eq-eqb A.later.begun 0 (sym I.begun ∙ z)) at quiet8 in
-                let y : ◌≡◌ {A = ℕ} 0 1 = cc in absurd (omega arith)
-            go false h (inr x) =
+            go : (f : Bool) → first_member A.later.group.members (tag_at h.k.place) ≡ f → (c.begun ≡ 0) ⊎ Turned c.counter (to at item) → f ≡ true
+            go true y x = refl
+            go false y (inl z) =
+                let k : reason 15 tag (tag_at h.k.place) ≡ Nothing = rw (y, eq-eqb A.later.begun 0 (sym I.begun ∙ z)) at quiet8 in
+                let u : ◌≡◌ {A = ℕ} 0 1 = cc in absurd (omega arith)
+            go false y (inr x) =
                 let k = x A.later.group A.goes.reported (sym I.counter) in
-                absurd (false≢true (rw (M.is, in_group A.goes, h) at k))
+                absurd (false≢true (rw (M.is, in_group A.goes, y) at k))
 
-        pub begins_one : (st.begun ≡ 0) ⊎ Turned st.group (To at item) → (i : Item) → Along body s g gs from (set (replicate 128 false) p true) (begun_of st) (To next i)
+        pub begins_one : (c.begun ≡ 0) ⊎ Turned c.counter (to at item) → (i : Item) → Along body s g gs from (set (replicate 128 false) h.k.place true) (begun_of c) (to h.next i)
         begins_one T i =
             let f = leads_off T in
             let I = A.goes.group in
-            let n = opens_none AE e.tag (value_in body start end) (first_no_count A.later.group e.tag I.three (is_first A.goes ∙ f)) in
+            let n = opens_none AE (tag_at h.k.place) (value_in body h.start h.end) (first_no_count A.later.group (tag_at h.k.place) I.three (is_first A.goes ∙ f)) in
             record {
-              later = record { group = A.later.group; count = A.later.count; begun = A.later.begun + 1; last = e.tag ∷ [] };
+              later = record { group = A.later.group; count = A.later.count; begun = A.later.begun + 1; last = (tag_at h.k.place) ∷ [] };
               goes = record {
                 reported = A.goes.reported;
-                group = record { three = I.three; counter = I.counter; count = I.count; begun = ap (λ (y : ℕ). y + 1) I.begun; last = λ z. mark_more M.looked (length-replicate 128 false) no_marks };
+                group = record { three = I.three; counter = I.counter; count = I.count; begun = ap (λ (y : ℕ). y + 1) I.begun; last = λ z. mark_more h.k.within (length-replicate 128 false) no_marks };
               };
               is = rw (n, is_first A.goes ∙ f) at onto;
             }
 
         -- another member
-        module _ (f : e.member.first ≡ false) (long : length met ≡ 128) {inner : State} (P : Opened e.tag (value_in body start end) inner) where
+        module _ (f : h.first ≡ false) (long : length met ≡ 128) {inner : Option OpenGroup} (P : Opened (tag_at h.k.place) (value_in body h.start h.end) inner) where
           joins_to : Open
-          joins_to = record { group = A.later.group; count = A.later.count; begun = A.later.begun; last = e.tag ∷ A.later.last }
+          joins_to = record { group = A.later.group; count = A.later.count; begun = A.later.begun; last = (tag_at h.k.place) ∷ A.later.last }
 
-          joined_goes : Goes joins_to (set met p true) st
+          joined_goes : Goes joins_to (set met h.k.place true) c
           unfolding joins_to
           joined_goes =
               let I = A.goes.group in
               record {
                 reported = A.goes.reported;
-                group = record { three = I.three; counter = I.counter; count = I.count; begun = I.begun; last = λ z. mark_more M.looked long (I.last z) };
+                group = record { three = I.three; counter = I.counter; count = I.count; begun = I.begun; last = λ z. mark_more h.k.within long (I.last z) };
               }
 
-          onto_joined : walk AE (past s (opened (groups_of AE) e.tag (value_in body start end) ++ (joins_to ∷ gs))) (parts (drop next body)) ≡ walk AE (past s (g ∷ gs)) (parts (drop from body))
+          onto_joined : walk AE (past s (opened (groups_of AE) (tag_at h.k.place) (value_in body h.start h.end) ++ (joins_to ∷ gs))) (parts (drop h.next body)) ≡ walk AE (past s (g ∷ gs)) (parts (drop from body))
           unfolding joins_to
           onto_joined = rw (is_first A.goes ∙ f) at onto
 
-          opening : Stood (opened (groups_of AE) e.tag (value_in body start end)) [] inner
-          opening = P.opens AE [] (rule6_silent AE e.tag (sym quiet.silent6)) (quiet.silent9, quiet.silent10)
+          opening : Stood (opened (groups_of AE) (tag_at h.k.place) (value_in body h.start h.end)) [] inner
+          opening = P.opens AE [] (rule6_silent AE (tag_at h.k.place) (sym quiet.silent6)) (quiet.silent9, quiet.silent10)
 
-          pub joins : inner.group ≡ 0 → (i : Item) → Along body s g gs from (set met p true) st (To next i)
+          pub joins : inner ≡ None → (i : Item) → Along body s g gs from (set met h.k.place true) c (to h.next i)
           joins z i = record { later = joins_to; goes = joined_goes; is = rw (stood_none opening z) at onto_joined }
 
           -- the count of a group in the group: the group walk goes through it
-          pub nests : (inner.group ≡ 0 → ⊥) → {w : Reached} → GroupWalk body inner next w → Along body s g gs from (set met p true) st w
+          pub nests : {d : OpenGroup} → inner ≡ Some d → {w : Reached} → GroupWalk body d h.next w → Along body s g gs from (set met h.k.place true) c w
           nests y {w} W =
               let x = stood_one opening y in
               record {
                 later = joins_to;
                 goes = joined_goes;
-                is = W.is s x.0 (joins_to ∷ gs) [] (record { group = x.1.1; reported = opened-reported e.tag (value_in body start end) x.0 x.1.0 })
-                    ∙ ap (λ (l : List Open). walk AE (past s (l ++ (joins_to ∷ gs))) (parts (drop next body))) (sym x.1.0) ∙ onto_joined;
+                is = W.is s x.0 (joins_to ∷ gs) [] (record { group = x.1.1; reported = opened-reported (tag_at h.k.place) (value_in body h.start h.end) x.0 x.1.0 })
+                    ∙ ap (λ (l : List Open). walk AE (past s (l ++ (joins_to ∷ gs))) (parts (drop h.next body))) (sym x.1.0) ∙ onto_joined;
               }
 
 -- one walk behind another
-pub chains : {body : Bytes} {s : List ℕ} {g : Open} {gs : List Open} {from next : ℕ} {i : Item} {met met2 : List Bool} {st : State} {r : Reached}
-    → (A : Along body s g gs from met st (To next i)) → Along body s A.later gs next met2 st r → Along body s g gs from met2 st r
+pub chains : {body : Bytes} {s : List ℕ} {g : Open} {gs : List Open} {from next : ℕ} {i : Item} {met met2 : List Bool} {c : OpenGroup} {r : Reached}
+    → (A : Along body s g gs from met c (to next i)) → Along body s A.later gs next met2 c r → Along body s g gs from met2 c r
 chains A B = record { later = B.later; goes = B.goes; is = B.is ∙ A.is }
 
-pub before_any : {g : Open} {met met2 : List Bool} {st : State} → st.begun ≡ 0 → Goes g met st → Goes g met2 st
+pub before_any : {g : Open} {met met2 : List Bool} {c : OpenGroup} → c.begun ≡ 0 → Goes g met c → Goes g met2 c
 before_any {g} z G =
     let I = G.group in
     record { reported = G.reported; group = record { three = I.three; counter = I.counter; count = I.count; begun = I.begun; last = λ n. absurd (false≢true (sym n ∙ eq-eqb g.begun 0 (sym I.begun ∙ z))) } }

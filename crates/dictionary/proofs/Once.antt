@@ -14,9 +14,7 @@ use Rattle.fields.specs.Field.{Part, field, malformed, part_of}
 use Rattle.kinds.specs.Kind.{Y/N}
 use Rattle.table.specs.Dictionary.{Row, Group, row, groups_of, all_members, member, listed, frame_tag, in_dictionary}
 use Rattle.table.specs.declared.MsgType.{MsgType}
-use Rattle.dictionary.specs.Verdict.{Open, Past, rule5, left, skipped, said, opened, taken, after, walk, nothing_yet}
-use Rattle.dictionary.specs.declared.Says.TheVariants.{Nothing}
-use Rattle.dictionary.specs.declared.Verdict.TheVariants.{Clean}
+use Rattle.dictionary.specs.Verdict.{Nothing, Clean, Open, Past, rule5, left, skipped, said, opened, taken, after, walk, nothing_yet}
 use Rattle.dictionary.specs.Groups.{kept, fields_among}
 use Rattle.dictionary.proofs.Saying.{rules_heard, known_says}
 use Rattle.dictionary.proofs.Turns.{silent_at, after-taken, taken_outside}

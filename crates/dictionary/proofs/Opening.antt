@@ -1,51 +1,46 @@
 -- The state behind a field outside groups: the header that may be over, and the group that a count field opens.
+use Rattle.std.specs.Prelude.{Option, Some, None}
 use Prim.Native.Nat.{ℕ, ◌≤◌, ◌<◌}
 use native.Mathlib.Omega.{arith}
 use borrow.Author.Tests.{eqb-true, leb-true, not-true}
-use mathlib.Core.Path.{◌≡◌, refl, ap, sym, ◌∙◌, subst}
+use mathlib.Core.Path.{◌≡◌, refl, ap, sym, ◌∙◌}
 use mathlib.Core.List.{List, [], ◌∷◌, ◌++◌, append_assoc}
 use mathlib.Core.Bool.{Bool, true, false, cond, not, ◌||◌, false≢true}
 use mathlib.Core.Logic.{inl, inr}
 use lib.Dec.{eqb}
 use Rattle.octets.specs.Bytes.{Bytes, any, all, value}
 use Rattle.kinds.specs.Kind.{Kind, text, number◌to◌, Y/N, time, day, decimal, among, formed, allowed, is_number}
-use Rattle.kinds.specs.Judged.{meaning, number_of}
-use Rattle.kinds.specs.declared.Number.{Number}
-use Rattle.kinds.specs.declared.Number.TheVariants.{Is, Bad}
-use Rattle.table.specs.Dictionary.{Row, Group, №453, №580, №552, groups, header, fields, listed, groups_among, all_members, groups_of, rows_of}
-use Rattle.dictionary.specs.Verdict.{Open, ◌when◌, opened, rule9, rule10}
-use Rattle.table.specs.code.Held.{bit_of, is_numeric, kind_for, Three, Right}
-use Rattle.dictionary.specs.code.Held.{Flat, away, within, Over, Counted, RightValue, Noted, outside_of}
-use Rattle.dictionary.specs.code.Nested.{Opened}
+use Rattle.kinds.specs.Judged.{number_of}
+use Rattle.table.specs.Dictionary.{Row, Group, №453, №580, №552, groups, header, fields, listed, kind_in, groups_among, all_members, groups_of, rows_of}
+use Rattle.dictionary.specs.Verdict.{Nothing, reason◌tag◌, Open, ◌when◌, opened, rule9, rule10}
+use Rattle.table.specs.code.Held.{tag_count, tag_at, is_numeric, Three}
+use Rattle.dictionary.specs.code.Held.{Flat, away, within, Over, Counted, RightValue, Opened}
 use Rattle.table.specs.declared.MsgType.{MsgType}
-use Rattle.dictionary.specs.declared.Says.TheVariants.{Nothing, Reason}
-use Rattle.dictionary.specs.declared.groups.State.{State}
-use Rattle.table.specs.declared.lines.Entry.{Entry}
 use Rattle.octets.proofs.Tests.{any_append, both}
 use Rattle.octets.proofs.Numerals.{within_is}
+use Rattle.table.proofs.Places.{count_numeric}
 use Rattle.table.proofs.Groups.{closed_down}
-use Rattle.dictionary.proofs.FourToEight.{listed_rows}
 
 -- the header
-module _ {e : Entry} {over b : Bool} (R : Right e) (p : b ≡ bit_of e.marks 28) where
-  pub over_header : b ≡ true → Over over e.tag over
-  over_header q = record { is = λ seen h. rw (sym R.in_header ∙ sym p ∙ q) h }
+module _ {t : ℕ} {over b : Bool} (p : b ≡ listed header t) where
+  pub over_header : b ≡ true → Over over t over
+  over_header q = record { is = λ seen h. rw (sym p ∙ q) h }
 
-  pub over_other : b ≡ false → Over over e.tag true
-  over_other q = record { is = λ seen h. rw (sym R.in_header ∙ sym p ∙ q) }
+  pub over_other : b ≡ false → Over over t true
+  over_other q = record { is = λ seen h. rw (sym p ∙ q) }
 
 -- the count
-pub counted_is : (v : Bytes) (r : Number) (n : ℕ) → r ≡ number_of v → r ≡ Is n → Counted v n
+pub counted_is : (v : Bytes) (r : Option ℕ) (n : ℕ) → r ≡ number_of v → r ≡ Some n → Counted v n
 unfolding number_of
-counted_is v r n p q = record { is = λ h k. let e : Is n ≡ Is (value v) = sym q ∙ p ∙ rw h in cc }
+counted_is v r n p q = record { is = λ h k. let e : Some n ≡ Some (value v) = sym q ∙ p ∙ rw h in cc }
 
-pub counted_large : (v : Bytes) (r : Number) (n : ℕ) → r ≡ number_of v → r ≡ Is n → 999_999_999 < n → Counted v 0
+pub counted_large : (v : Bytes) (r : Option ℕ) (n : ℕ) → r ≡ number_of v → r ≡ Some n → 999_999_999 < n → Counted v 0
 unfolding number_of
-counted_large v r n p q l = record { is = λ h k. let e : Is n ≡ Is (value v) = sym q ∙ p ∙ rw h in let z : n ≡ value v = cc in absurd (omega arith) }
+counted_large v r n p q l = record { is = λ h k. let e : Some n ≡ Some (value v) = sym q ∙ p ∙ rw h in let z : n ≡ value v = cc in absurd (omega arith) }
 
-pub counted_bad : (v : Bytes) (r : Number) (n : ℕ) → r ≡ number_of v → r ≡ Bad → Counted v n
+pub counted_bad : (v : Bytes) (r : Option ℕ) (n : ℕ) → r ≡ number_of v → r ≡ None → Counted v n
 unfolding number_of
-counted_bad v r n p q = record { is = λ h k. let e : Bad ≡ Is (value v) = sym q ∙ p ∙ rw h in let z : ◌≡◌ {A = ℕ} 0 1 = cc in absurd (omega arith) }
+counted_bad v r n p q = record { is = λ h k. let e : None ≡ Some (value v) = sym q ∙ p ∙ rw h in let z : ◌≡◌ {A = ℕ} 0 1 = cc in absurd (omega arith) }
 
 -- the groups of a message that lists the count tag are those of the document with that count tag
 opened-among : (gs : List Group) (rows : List Row) (t : ℕ) (v : Bytes) → listed rows t ≡ true → opened (groups_among gs rows) t v ≡ opened gs t v
@@ -145,63 +140,39 @@ numeric_small day v h a = absurd (false≢true h)
 numeric_small decimal v h a = absurd (false≢true h)
 numeric_small (among l) v h a = absurd (false≢true h)
 
-silent_when : (b : Bool) (n t : ℕ) → (Reason n t when not b) ≡ Nothing → b ≡ true
+silent_when : (b : Bool) (n t : ℕ) → (reason n tag t when not b) ≡ Nothing → b ≡ true
 silent_when true n t h = refl
 silent_when false n t h = let z : ◌≡◌ {A = ℕ} 0 1 = cc in absurd (omega arith)
 
 -- a count of which nothing is said
-module _ {e : Entry} {v : Bytes} {n : ℕ} (R : Right e) (c : bit_of e.marks 30 ≡ true) (C : Counted v n) (m : MsgType) (l : listed (rows_of m) e.tag ≡ true) (s : RightValue m e.tag v) where
-  k : Kind
-  k = meaning (kind_for m e.kind)
+abbrev pub is_counter : ℕ → Bool
+is_counter t = any (λ g. eqb g.counter t) groups
 
-  formed_here : formed k v ≡ true
-  unfolding rule9 k
-  formed_here = ap (λ (x : Kind). formed x v) (R.kind_in_lem m l) ∙ silent_when _ 6 e.tag s.0
-
-  allowed_here : allowed k v ≡ true
-  unfolding rule10 k
-  allowed_here = ap (λ (x : Kind). allowed x v) (R.kind_in_lem m l) ∙ silent_when _ 5 e.tag s.1
-
+module _ {p : ℕ} {v : Bytes} {n : ℕ} (k : p < tag_count) (c : is_counter (tag_at p) ≡ true) (C : Counted v n) (m : MsgType) (l : listed (rows_of m) (tag_at p) ≡ true) (s : RightValue m (tag_at p) v) where
   count_is : n ≡ value v
-  unfolding k
+  unfolding rule9 rule10
   count_is =
-      let i = R.counts_number m c in
-      C.is (sym (numeric k v i) ∙ formed_here) (numeric_small k v i allowed_here)
-
-module _ {e : Entry} {st : State} {v : Bytes} {over b : Bool} (R : Right e) (O : Over st.over e.tag over) (p : b ≡ bit_of e.marks 30) where
-  pub noted_count : {n : ℕ} → b ≡ true → Counted v n → Noted st e.tag v (record { over = over; group = e.tag; count = n; begun = 0 })
-  unfolding newly
-  noted_count {n} q C = record {
-    over = O;
-    none = refl;
-    opens = λ m met l s.
-        let w = opens_three e.tag v (sym R.counts ∙ sym p ∙ q) in
-        let g = w.0 in
-        let f = own_field m e.tag (ap (listed header) w.1.1 ∙ no_header g w.1.0) l in
-        let k : listed (rows_of m) e.tag ≡ true = rw (listed_rows m e.tag, l) in
-        rw (opens_here m e.tag v (own_listed m e.tag f), w.1.2)
-        (within (record { three = w.1.0; counter = w.1.1; count = count_is R (sym p ∙ q) C m k s; begun = refl; last = λ z. absurd (false≢true (sym z)) }));
-  }
-
-  pub noted_other : {r : State} → b ≡ false → r ≡ outside_of over → Noted st e.tag v r
-  noted_other {r} q h = subst (Noted st e.tag v) (sym h) (record { over = O; none = refl; opens = λ m met l s. rw (opens_none m e.tag v (sym R.counts ∙ sym p ∙ q)) (away refl) })
+      let i = count_numeric p k m c l in
+      let f = silent_when (formed (kind_in (rows_of m) (tag_at p)) v) 6 (tag_at p) s.0 in
+      let a = silent_when (allowed (kind_in (rows_of m) (tag_at p)) v) 5 (tag_at p) s.1 in
+      C.is (sym (numeric _ v i) ∙ f) (numeric_small _ v i a)
 
 -- THE GROUP THAT A COUNT OPENS, outside groups or in one
 own_row : (m : MsgType) (t : ℕ) → listed header t ≡ false → listed (rows_of m) t ≡ true → listed (fields m ++ all_members (groups_of m)) t ≡ true
 unfolding rows_of
 own_row m t n h = rw (append_assoc header (fields m) (all_members (groups_of m)), any_append (λ (r : Row). eqb r.tag t) header (fields m ++ all_members (groups_of m)), n) at h
 
-module _ {e : Entry} {v : Bytes} {b : Bool} (R : Right e) (p : b ≡ bit_of e.marks 30) where
-  pub opened_count : {n : ℕ} → b ≡ true → Counted v n → Opened e.tag v (record { over = true; group = e.tag; count = n; begun = 0 })
+module _ {p : ℕ} {v : Bytes} {b : Bool} (k : p < tag_count) (h : b ≡ is_counter (tag_at p)) where
+  pub opened_count : {n : ℕ} → b ≡ true → Counted v n → Opened (tag_at p) v (Some (record { counter = tag_at p; count = n; begun = 0 }))
   unfolding newly
   opened_count {n} q C = record {
-    none = refl;
+    none = omega arith;
     opens = λ m met l s.
-        let w = opens_three e.tag v (sym R.counts ∙ sym p ∙ q) in
-        let f = own_row m e.tag (ap (listed header) w.1.1 ∙ no_header w.0 w.1.0) l in
-        rw (opens_here m e.tag v f, w.1.2)
-        (within (record { three = w.1.0; counter = w.1.1; count = count_is R (sym p ∙ q) C m l s; begun = refl; last = λ z. absurd (false≢true (sym z)) }));
+        let w = opens_three (tag_at p) v (sym h ∙ q) in
+        let f = own_row m (tag_at p) (ap (listed header) w.1.1 ∙ no_header w.0 w.1.0) l in
+        rw (opens_here m (tag_at p) v f, w.1.2)
+        (within refl (record { three = w.1.0; counter = w.1.1; count = count_is k (sym h ∙ q) C m l s; begun = refl; last = λ z. absurd (false≢true (sym z)) }));
   }
 
-  pub opened_other : {r : State} → b ≡ false → r ≡ outside_of true → Opened e.tag v r
-  opened_other {r} q h = subst (Opened e.tag v) (sym h) (record { none = refl; opens = λ m met l s. rw (opens_none m e.tag v (sym R.counts ∙ sym p ∙ q)) (away refl) })
+  pub opened_other : b ≡ false → Opened (tag_at p) v None
+  opened_other q = record { none = tt; opens = λ m met l s. rw (opens_none m (tag_at p) v (sym h ∙ q)) (away refl) }

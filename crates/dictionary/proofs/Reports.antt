@@ -8,9 +8,7 @@ use Rattle.decimals.specs.Decimal.{is_decimal}
 use Rattle.dates.specs.Date.{good_day, good_clock}
 use Rattle.kinds.specs.Kind.{kind_of, is_number, formed, allowed}
 use Rattle.table.specs.Dictionary.{№453, №580, №552, header, code35, fields, type_of, administrative, groups_of, member, rows_of, in_dictionary}
-use Rattle.dictionary.specs.Verdict.{incomplete, closing, rule1, left, rule2, skipped, rule3, rule4, rule5, rule6, rule7, rule8, rule9, rule10, rules4to10, said, taken, after, verdict}
-use Rattle.dictionary.specs.declared.Verdict.{Verdict}
-use Rattle.dictionary.specs.declared.Verdict.TheVariants.{Clean, Finding}
+use Rattle.dictionary.specs.Verdict.{Verdict, Clean, found, incomplete, closing, rule1, left, rule2, skipped, rule3, rule4, rule5, rule6, rule7, rule8, rule9, rule10, rules4to10, said, taken, after, verdict}
 
 -- a report up to its group 552, and what follows
 abbrev head : Bytes
@@ -25,21 +23,21 @@ pub nested : Told (
     ("552=1|54=1|", Clean) ∷
     ("552=1|54=1|1427=E|453=1|448=P|447=D|452=1|", Clean) ∷
     ("552=1|54=1|453=2|448=P|447=D|452=1|448=Q|452=3|447=D|1427=E|64=20240104|", Clean) ∷
-    ("552=1|54=1|453=2|448=P|447=D|452=1|452=3|", Finding 13 452) ∷
-    ("552=1|54=1|453=2|448=P|447=D|452=1|1427=E|", Finding 16 453) ∷
-    ("552=1|54=1|453=1|448=P|452=1|54=2|", Finding 1 447) ∷
-    ("552=1|54=1|453=2|448=P|447=D|452=1|54=2|", Finding 16 453) ∷
-    ("552=1|54=1|453=1|448=P|447=D|452=1|54=2|", Finding 16 552) ∷
-    ("552=1|453=1|448=P|447=D|452=1|", Finding 15 453) ∷
-    ("552=1|54=1|453=1|447=D|", Finding 15 447) ∷
-    ("552=1|54=1|453=1|448=P|447=D|452=1|453=1|", Finding 13 453) ∷
-    ("552=1|54=1|448=P|", Finding 15 448) ∷
-    ("552=2|", Finding 5 552) ∷
-    ("552=1|", Finding 16 552) ∷
-    ("552=1|54=1|453=1|448=P|447=D|452=1|x|", Finding 0 0) ∷
-    ("552=1|54=1|453=1|448=P|x|", Finding 1 447) ∷
-    ("453=1|", Finding 15 453) ∷
-    ("", Finding 1 552) ∷
+    ("552=1|54=1|453=2|448=P|447=D|452=1|452=3|", found 13 452) ∷
+    ("552=1|54=1|453=2|448=P|447=D|452=1|1427=E|", found 16 453) ∷
+    ("552=1|54=1|453=1|448=P|452=1|54=2|", found 1 447) ∷
+    ("552=1|54=1|453=2|448=P|447=D|452=1|54=2|", found 16 453) ∷
+    ("552=1|54=1|453=1|448=P|447=D|452=1|54=2|", found 16 552) ∷
+    ("552=1|453=1|448=P|447=D|452=1|", found 15 453) ∷
+    ("552=1|54=1|453=1|447=D|", found 15 447) ∷
+    ("552=1|54=1|453=1|448=P|447=D|452=1|453=1|", found 13 453) ∷
+    ("552=1|54=1|448=P|", found 15 448) ∷
+    ("552=2|", found 5 552) ∷
+    ("552=1|", found 16 552) ∷
+    ("552=1|54=1|453=1|448=P|447=D|452=1|x|", found 0 0) ∷
+    ("552=1|54=1|453=1|448=P|x|", found 1 447) ∷
+    ("453=1|", found 15 453) ∷
+    ("", found 1 552) ∷
     []
     )
 unfolding verdict said taken after rules4to10 rule1 rule2 rule3 rule4 rule5 rule6 rule7 rule8 rule9 rule10 left incomplete closing skipped №453 №580 №552 header code35 fields type_of administrative groups_of member rows_of in_dictionary part_of first_field is_body is_decimal kind_of is_number formed allowed good_day good_clock writes decimal
@@ -47,22 +45,22 @@ nested = (refl, (refl, (refl, (refl, (refl, (refl, (refl, (refl, (refl, (refl, (
 
 -- "walked as AD and F are": an unknown tag, another message's tag, a header tag and a tag again, in a group and behind it
 pub others : Told (
-    ("552=1|54=1|453=1|448=P|447=D|452=1|9999=x|", Finding 3 9999) ∷
-    ("552=1|54=1|453=1|448=P|447=D|9999=x|", Finding 1 452) ∷
-    ("552=1|54=1|453=2|448=P|447=D|452=1|9999=x|", Finding 16 453) ∷
-    ("552=1|54=1|453=9|", Finding 5 453) ∷
-    ("552=1|54=1|453=x|", Finding 6 453) ∷
-    ("552=1|54=1|453=1|448=|", Finding 4 448) ∷
-    ("552=1|54=1|75=20240102|", Finding 2 75) ∷
-    ("552=1|54=1|580=1|", Finding 2 580) ∷
-    ("552=1|54=1|43=Y|", Finding 14 43) ∷
-    ("552=1|54=1|571=R2|", Finding 13 571) ∷
-    ("552=1|54=1|552=1|", Finding 13 552) ∷
-    ("552=1|54=1|1427=E|1427=F|", Finding 13 1427) ∷
-    ("552=1|54=3|", Finding 5 54) ∷
-    ("552=1|1427=E|54=1|", Finding 15 1427) ∷
-    ("54=1|552=1|", Finding 15 54) ∷
-    ("552=1|54=1|8=x|", Finding 13 8) ∷
+    ("552=1|54=1|453=1|448=P|447=D|452=1|9999=x|", found 3 9999) ∷
+    ("552=1|54=1|453=1|448=P|447=D|9999=x|", found 1 452) ∷
+    ("552=1|54=1|453=2|448=P|447=D|452=1|9999=x|", found 16 453) ∷
+    ("552=1|54=1|453=9|", found 5 453) ∷
+    ("552=1|54=1|453=x|", found 6 453) ∷
+    ("552=1|54=1|453=1|448=|", found 4 448) ∷
+    ("552=1|54=1|75=20240102|", found 2 75) ∷
+    ("552=1|54=1|580=1|", found 2 580) ∷
+    ("552=1|54=1|43=Y|", found 14 43) ∷
+    ("552=1|54=1|571=R2|", found 13 571) ∷
+    ("552=1|54=1|552=1|", found 13 552) ∷
+    ("552=1|54=1|1427=E|1427=F|", found 13 1427) ∷
+    ("552=1|54=3|", found 5 54) ∷
+    ("552=1|1427=E|54=1|", found 15 1427) ∷
+    ("54=1|552=1|", found 15 54) ∷
+    ("552=1|54=1|8=x|", found 13 8) ∷
     []
     )
 unfolding verdict said taken after rules4to10 rule1 rule2 rule3 rule4 rule5 rule6 rule7 rule8 rule9 rule10 left incomplete closing skipped №453 №580 №552 header code35 fields type_of administrative groups_of member rows_of in_dictionary part_of first_field is_body is_decimal kind_of is_number formed allowed good_day good_clock writes decimal

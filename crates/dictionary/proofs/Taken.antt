@@ -16,12 +16,10 @@ use Rattle.octets.proofs.Decimals.{decimal-written, decimal-worth}
 use Rattle.fields.specs.Field.{part_of, field, parts, is_body}
 use Rattle.fields.proofs.Items.{field_part}
 use Rattle.table.specs.Dictionary.{Row, header, fields, administrative, listed, groups_of, member, rows_of, frame_tag, in_dictionary}
-use Rattle.dictionary.specs.Verdict.{Past, nothing_yet, said, after, taken, left, skipped, closing, missing, walk, rules4to10, rule1, rule2, rule3, rule4, rule5, rule6, rule7, rule8, rule9, rule10, msg_type, verdict}
+use Rattle.dictionary.specs.Verdict.{Nothing, reason◌tag◌, Clean, Past, nothing_yet, said, after, taken, left, skipped, closing, missing, walk, rules4to10, rule1, rule2, rule3, rule4, rule5, rule6, rule7, rule8, rule9, rule10, msg_type, verdict}
 use Rattle.dictionary.specs.Promise.{OfKind}
 use Rattle.dictionary.specs.Groups.{required}
 use Rattle.table.specs.declared.MsgType.{MsgType}
-use Rattle.dictionary.specs.declared.Says.TheVariants.{Nothing, Reason}
-use Rattle.dictionary.specs.declared.Verdict.TheVariants.{Clean}
 
 -- the walk outside groups, with these tags met
 abbrev pub at : List ℕ → Past
@@ -29,7 +27,7 @@ at seen = record { seen = seen; inside = [] }
 
 -- a field of which no rule speaks there
 pub record Taken (m : MsgType) (seen : List ℕ) (t : ℕ) (v : Bytes) : Type 0 where
-  pub tag : within 1 99_999 t ≡ true
+  pub low : within 1 99_999 t ≡ true
   pub known : in_dictionary t ≡ true
   pub fresh : (frame_tag t || has seen t) ≡ false
   pub no_member : member m t ≡ false
@@ -57,7 +55,7 @@ module _ (m : MsgType) (a : administrative m ≡ true) (g : groups_of m ≡ []) 
 
   -- ONE FIELD FURTHER
   pub walk_field : (t : ℕ) (v : Bytes) (ps : List Bytes) → Taken m seen t v → walk m (at seen) ((decimal t ++ (61 ∷ v)) ∷ ps) ≡ walk m (at (t ∷ seen)) ps
-  walk_field t v ps T = rw (part-written t v T.tag, said_nothing t v T, after_it t v T.known)
+  walk_field t v ps T = rw (part-written t v T.low, said_nothing t v T, after_it t v T.known)
 
 -- THE END
 pub walk-over : (m : MsgType) (seen : List ℕ) → ((t : ℕ) → required (header ++ fields m) t ≡ true → has seen t ≡ true) → walk m (at seen) [] ≡ Clean
@@ -73,7 +71,7 @@ walk-over m seen f = rw (none_missing (header ++ fields m) f)
         or_first true false d e k = absurd (false≢true k)
         or_first false c d e k = absurd (false≢true e)
 
-        go : (b : Bool) → r.required ≡ b → (c : Bool) → has seen r.tag ≡ c → missing rs seen ≡ Nothing → cond (b && not c) (Reason 1 r.tag) (missing rs seen) ≡ Nothing
+        go : (b : Bool) → r.required ≡ b → (c : Bool) → has seen r.tag ≡ c → missing rs seen ≡ Nothing → cond (b && not c) (reason 1 tag r.tag) (missing rs seen) ≡ Nothing
         go true e true k h = h
         go true e false k h = absurd (false≢true (sym k ∙ f r.tag (or_first _ _ _ (eq-eqb r.tag r.tag refl) e)))
         go false e c k h = h

@@ -1,5 +1,8 @@
 -- The walk along the parts of a body: where it stands before each part, and one turn of it for each way that a part can go.
-use Prim.Native.Nat.{ℕ, ◌+◌, ◌-◌, ◌≤◌, ◌<◌}
+use Rattle.std.specs.Prelude.{Option, None, Ok, Err}
+use Rattle.dictionary.specs.declared.Finding.{Finding}
+use Rattle.dictionary.specs.declared.Unclean.TheVariants.{Found}
+use Prim.Native.Nat.{ℕ, ◌+◌, ◌-◌, ◌<◌}
 use native.Mathlib.Omega.{arith}
 use borrow.Author.Tests.{eqb-true, eqb-false}
 use mathlib.Core.Path.{◌≡◌, refl, ap, sym, ◌∙◌, subst}
@@ -16,31 +19,27 @@ use Rattle.fields.specs.declared.Item.{Item}
 use Rattle.fields.specs.declared.Item.TheVariants.{Field, Malformed, End, NoBody}
 use Rattle.fields.proofs.Rows.{Step, Stepped, parts-step}
 use Rattle.table.specs.Dictionary.{Row, Group, №453, №580, №552, header, fields, groups_of}
-use Rattle.dictionary.specs.Verdict.{Open, Past, first_of, first_member, ends, left, rule1, rule2, skipped, said, opened, joined, taken, after, verdict_by, walk, nothing_yet, missing}
-use Rattle.table.specs.code.Held.{tag_count, tag_at, Looked, Marked}
-use Rattle.dictionary.specs.code.Held.{is_report, Flat, AllFlat, away, Stands, Closing, Missing, outside_of, Finished, EndedBy, Ended}
+use Rattle.dictionary.specs.Verdict.{Says, Nothing, reason◌tag◌, Verdict, Clean, Open, Past, first_of, first_member, ends, left, rule1, rule2, skipped, said, opened, joined, taken, after, verdict_by, walk, nothing_yet, missing}
+use Rattle.table.specs.code.Held.{tag_count, tag_at, Marked}
+use Rattle.dictionary.specs.code.Held.{is_report, Flat, AllFlat, away, Few, Stands, ClosingAll, Missing, Finished, EndedBy, Ended}
 use Rattle.table.specs.declared.MsgType.{MsgType}
 use Rattle.table.specs.declared.MsgType.TheVariants.{Heartbeat, TestRequest, ResendRequest, Reject, SequenceReset, Logout, Logon, OrderCancelRequest, TradeCaptureReportRequest, TradeCaptureReport}
-use Rattle.dictionary.specs.declared.Says.{Says}
-use Rattle.dictionary.specs.declared.Says.TheVariants.{Nothing, Reason}
-use Rattle.dictionary.specs.declared.Verdict.{Verdict}
-use Rattle.dictionary.specs.declared.Verdict.TheVariants.{Clean}
 use Rattle.dictionary.specs.declared.groups.State.{State}
-use Rattle.table.specs.declared.lines.Entry.{Entry}
+use Rattle.dictionary.specs.declared.groups.OpenGroup.{OpenGroup}
 use Rattle.table.proofs.Places.{one_place}
 use Rattle.dictionary.proofs.Ending.{alone}
 
 -- a mark that is set, and no marks
-pub mark_more : {e : Entry} {p : ℕ} {marks : List Bool} {met : List ℕ} → Looked e p → length marks ≡ 128 → Marked marks met → Marked (set marks p true) (e.tag ∷ met)
-mark_more {e} {p} {marks} {met} L n M = record { at = λ q h. go q h (eqb e.tag (tag_at q)) refl }
+pub mark_more : {p : ℕ} {marks : List Bool} {met : List ℕ} → p < tag_count → length marks ≡ 128 → Marked marks met → Marked (set marks p true) (tag_at p ∷ met)
+mark_more {p} {marks} {met} k n M = record { at = λ q h. go q h (eqb (tag_at p) (tag_at q)) refl }
   where
-    go : (q : ℕ) → q < tag_count → (b : Bool) → eqb e.tag (tag_at q) ≡ b → get_or (set marks p true) q false ≡ (b || has met (tag_at q))
+    go : (q : ℕ) → q < tag_count → (b : Bool) → eqb (tag_at p) (tag_at q) ≡ b → get_or (set marks p true) q false ≡ (b || has met (tag_at q))
     go q h true x =
-        let s : p ≡ q = one_place p q L.small h (L.tagged ∙ eqb-true e.tag (tag_at q) x) in
-        let k : q < tag_count = h in
+        let s : p ≡ q = one_place p q k h (eqb-true (tag_at p) (tag_at q) x) in
+        let j : q < tag_count = h in
         rw s (get_or-set_same marks q true false (omega arith))
     go q h false x =
-        get_or-set_other marks p q true false (λ s. eqb-false e.tag (tag_at q) x (sym L.tagged ∙ ap tag_at (sym s))) ∙ M.at q h
+        get_or-set_other marks p q true false (λ s. eqb-false (tag_at p) (tag_at q) x (ap tag_at (sym s))) ∙ M.at q h
 
 pub no_marks : Marked (replicate 128 false) []
 no_marks = record { at = λ p h. get_or-replicate 128 p false false (omega arith) }
@@ -109,45 +108,41 @@ pub record At (m : MsgType) (body : Bytes) (seen met : List Bool) (st : State) (
   pub stands : Stands past seen met st
   pub flat : AllFlat past.inside
   pub rest : walk m nothing_yet (parts body) ≡ walk m past (parts (drop at body))
-  pub few : st.begun ≤ at
+  pub few : Few st.group at
   pub seen_long : length seen ≡ 128
   pub met_long : length met ≡ 128
 
-pub begins : (m : MsgType) (body : Bytes) {st : State} → st ≡ outside_of false → At m body (replicate 128 false) (replicate 128 false) st 0
-begins m body e = subst (λ (x : State). At m body (replicate 128 false) (replicate 128 false) x 0) (sym e) (record {
+pub begins : (m : MsgType) (body : Bytes) → At m body (replicate 128 false) (replicate 128 false) (record { over = false; group = None }) 0
+begins m body = record {
   past = nothing_yet;
   stands = record { marked = no_marks; over = refl; stood = away refl };
   flat = tt;
   rest = refl;
-  few = omega arith;
+  few = tt;
   seen_long = length-replicate 128 false;
   met_long = length-replicate 128 false;
-})
+}
 
 -- a part that is found fault with, and one that is not
 pub walk_on : (m : MsgType) (w : Past) (body part : Bytes) (says : Part) (at next : ℕ) → Step body at part says next
     → walk m w (parts (drop at body)) ≡ verdict_by (said m w says) (walk m (after m w says) (parts (drop next body)))
 walk_on m w body part says at next S = ap (walk m w) S.row ∙ rw S.part_is
 
-by_reason : (s : Says) (a t : ℕ) (x y : Verdict) → s ≡ Reason a t → verdict_by s x ≡ verdict_by s y
-by_reason s a t x y e = rw e
-
 pub malformed-speaks : (m : MsgType) (w : Past) (x y : Verdict) → verdict_by (said m w malformed) x ≡ verdict_by (said m w malformed) y
 unfolding said rule2
 malformed-speaks m w x y = go (rule1 w.inside malformed)
   where
-    go : (s : Says) → verdict_by (first_of (s ∷ Reason 0 0 ∷ [])) x ≡ verdict_by (first_of (s ∷ Reason 0 0 ∷ [])) y
-    go Nothing = refl
-    go (Reason a t) = refl
+    go : (s : Says) → verdict_by (first_of (s ∷ reason 0 tag 0 ∷ [])) x ≡ verdict_by (first_of (s ∷ reason 0 tag 0 ∷ [])) y
+    go (Ok _) = refl
+    go (Err f) = refl
 
 module _ {m : MsgType} {body : Bytes} {seen met : List Bool} {st : State} {at : ℕ} (A : At m body seen met st at) where
-  pub ends_with : {part : Bytes} {says : Part} {next : ℕ} {r : Says} {f : Verdict} {a t : ℕ} → Step body at part says next → r ≡ said m A.past says → r ≡ Reason a t
-      → f ≡ verdict_by r Clean → f ≡ walk m nothing_yet (parts body)
-  ends_with {part} {says} {next} {r} {f} {a} {t} S s e v =
-      v ∙ by_reason r a t _ _ e ∙ ap (λ (x : Says). verdict_by x (walk m (after m A.past says) (parts (drop next body)))) s ∙ sym (walk_on m A.past body part says at next S) ∙ sym A.rest
+  pub ends_with : {part : Bytes} {says : Part} {next : ℕ} {r : Says} {f : Finding} → Step body at part says next → r ≡ said m A.past says → r ≡ Err f
+      → Err (Found f) ≡ walk m nothing_yet (parts body)
+  ends_with {part} {says} {next} S s e = sym (A.rest ∙ walk_on m A.past body part says at next S ∙ rw (sym s ∙ e))
 
   pub goes_on : {part : Bytes} {says : Part} {next : ℕ} {r : Says} {seen2 met2 : List Bool} {st2 : State} → Step body at part says next → r ≡ said m A.past says → r ≡ Nothing
-      → Stands (after m A.past says) seen2 met2 st2 → is_report m ≡ false → st2.begun ≤ next → length seen2 ≡ 128 → length met2 ≡ 128 → At m body seen2 met2 st2 next
+      → Stands (after m A.past says) seen2 met2 st2 → is_report m ≡ false → Few st2.group next → length seen2 ≡ 128 → length met2 ≡ 128 → At m body seen2 met2 st2 next
   goes_on {part} {says} {next} S s e T n f k l = record {
     past = after m A.past says;
     stands = T;
@@ -176,15 +171,15 @@ module _ {body : Bytes} {at : ℕ} {r : Item} (C : Cut body at r) where
   never_none h = subst (Lies body at) h C.lies
 
 -- what is no field
-pub other_ends : {m : MsgType} {seen met : List Bool} {st : State} {r : Verdict} (i : Item) → ((s e n : ℕ) → i ≡ Malformed s e n → ⊥) → (i ≡ End → ⊥) → Ended m seen met st i r
-other_ends (Field t s e n) k h = record { is = λ w S. tt }
+pub other_ends : {m : MsgType} {seen met : List Bool} {o : Option OpenGroup} {r : Verdict} (i : Item) → ((s e n : ℕ) → i ≡ Malformed s e n → ⊥) → (i ≡ End → ⊥) → Ended m seen met o i r
+other_ends (Field t s e n) k h = record { is = λ w M S. tt }
 other_ends (Malformed s e n) k h = absurd (k s e n refl)
 other_ends End k h = absurd (h refl)
-other_ends NoBody k h = record { is = λ w S. tt }
+other_ends NoBody k h = record { is = λ w M S. tt }
 
 pub ends-here : {m : MsgType} {body : Bytes} {seen met : List Bool} {st : State} {at : ℕ} (A : At m body seen met st at) {i : Item} {f : Verdict} → Cut body at i
-    → ((t s e n : ℕ) → i ≡ Field t s e n → ⊥) → Ended m seen met st i f → f ≡ walk m nothing_yet (parts body)
-ends-here {m} {body} A {i} {f} C K E = go i refl K (E.is A.past A.stands)
+    → ((t s e n : ℕ) → i ≡ Field t s e n → ⊥) → Ended m seen met st.group i f → f ≡ walk m nothing_yet (parts body)
+ends-here {m} {body} A {i} {f} C K E = go i refl K (E.is A.past A.stands.marked A.stands.stood)
   where
     go : (j : Item) → i ≡ j → ((t s e n : ℕ) → j ≡ Field t s e n → ⊥) → EndedBy m A.past j f → f ≡ walk m nothing_yet (parts body)
     go (Field t s e n) h k v = absurd (k t s e n refl)
@@ -198,17 +193,17 @@ missing-append [] l met = sym (alone (missing l met))
 missing-append (r ∷ k) l met = go (r.required && not (has met r.tag)) (missing-append k l met)
   where
     go : (b : Bool) → missing (k ++ l) met ≡ first_of (missing k met ∷ missing l met ∷ [])
-        → cond b (Reason 1 r.tag) (missing (k ++ l) met) ≡ first_of (cond b (Reason 1 r.tag) (missing k met) ∷ missing l met ∷ [])
+        → cond b (reason 1 tag r.tag) (missing (k ++ l) met) ≡ first_of (cond b (reason 1 tag r.tag) (missing k met) ∷ missing l met ∷ [])
     go true h = refl
     go false h = h
 
-module _ {m : MsgType} {seen met : List Bool} {st : State} {r : Says} (C : Closing met st r) where
-  pub finish_closing : {a t : ℕ} {f : Verdict} → r ≡ Reason a t → f ≡ verdict_by r Clean → Finished m seen met st f
-  finish_closing e v = record { is = λ w S. v ∙ rw (sym (C.is w.inside S.stood), e) }
+module _ {m : MsgType} {seen met : List Bool} {o : Option OpenGroup} {r : Says} (C : ClosingAll met o r) where
+  pub finish_closing : {f : Finding} → r ≡ Err f → Finished m seen met o (Err f)
+  finish_closing e = record { is = λ w M S. rw (sym (C.is w.inside S) ∙ e) }
 
   module _ {h : Says} (n : r ≡ Nothing) (H : Missing seen header h) where
-    pub finish_header : {a t : ℕ} {f : Verdict} → h ≡ Reason a t → f ≡ verdict_by h Clean → Finished m seen met st f
-    finish_header e v = record { is = λ w S. v ∙ rw (sym (C.is w.inside S.stood), n, missing-append header (fields m) w.seen, sym (H.is w.seen S.marked), e) }
+    pub finish_header : {f : Finding} → h ≡ Err f → Finished m seen met o (Err f)
+    finish_header e = record { is = λ w M S. rw (sym (C.is w.inside S) ∙ n, missing-append header (fields m) w.seen, sym (H.is w.seen M) ∙ e) }
 
-    pub finish_own : {o : Says} {f : Verdict} → h ≡ Nothing → Missing seen (fields m) o → f ≡ verdict_by o Clean → Finished m seen met st f
-    finish_own {o} e O v = record { is = λ w S. v ∙ rw (sym (C.is w.inside S.stood), n, missing-append header (fields m) w.seen, sym (H.is w.seen S.marked), e, sym (O.is w.seen S.marked), alone (first_of (o ∷ [])), alone o) }
+    pub finish_own : {x : Says} → h ≡ Nothing → Missing seen (fields m) x → Finished m seen met o x
+    finish_own {x} e O = record { is = λ w M S. rw (sym (C.is w.inside S) ∙ n, missing-append header (fields m) w.seen, sym (H.is w.seen M) ∙ e, sym (O.is w.seen M), alone (first_of (x ∷ [])), alone x) }

@@ -5,12 +5,10 @@ use Rattle.octets.specs.Bytes.{Bytes, has}
 use Rattle.fields.specs.Field.{Part, field, malformed, part_of, parts, first_field, is_body}
 use Rattle.kinds.specs.Kind.{formed, allowed}
 use Rattle.table.specs.Dictionary.{№552, header, fields, groups_of, member, rows_of, listed, kind_in, administrative, in_dictionary}
-use Rattle.dictionary.specs.Verdict.{msg_type, verdict, numbers}
+use Rattle.dictionary.specs.Verdict.{Verdict, Clean, found, msg_type, verdict, numbers}
 use Rattle.dictionary.specs.Groups.{required, fields_among, AllGrouped}
 use Rattle.table.specs.declared.MsgType.{MsgType}
 use Rattle.table.specs.declared.MsgType.TheVariants.{TradeCaptureReport}
-use Rattle.dictionary.specs.declared.Verdict.{Verdict}
-use Rattle.dictionary.specs.declared.Verdict.TheVariants.{Clean, Finding}
 
 -- "bad form: 6 (numbers, Y/N, the shape of dates)", "bad value: 5 (ranges, lists, string length, calendar)": a value with neither is of its kind
 pub record OfKind (m : MsgType) (t : ℕ) (v : Bytes) : Type 0 where
@@ -62,7 +60,7 @@ Found r t = (has reasons r ≡ true) × (t ≤ 99_999)
 
 pub record Promise : Type 0 where
   pub clean : (body : Bytes) → verdict body ≡ Clean → CleanBody body
-  pub finding : (body : Bytes) (r t : ℕ) → verdict body ≡ Finding r t → Found r t
+  pub finding : (body : Bytes) (r t : ℕ) → verdict body ≡ found r t → Found r t
   -- "Field reader and verdict answer refusal 10 for bytes that aren't 5 to 2,048 long, beginning `35=` and ending with `|`.": there, and only there
   pub refusal_10 : (body : Bytes) → (numbers (verdict body)).0 ≡ cond (is_body body) none (some 10)
   -- "a definition gives this paper's number and values for each case of the enum": they tell the cases apart

@@ -1,15 +1,14 @@
 -- The verdict on a body: "fields are walked from the left and the first finding stands."
-use Rattle.std.specs.Prelude.{ℕ, ◌+◌, List, [], ◌∷◌, ◌++◌, Bool, true, false, cond, not, ◌&&◌, ◌||◌, eqb, length}
+use Rattle.std.specs.Prelude.{ℕ, ◌+◌, List, [], ◌∷◌, ◌++◌, Bool, true, false, cond, not, ◌&&◌, ◌||◌, eqb, length, Result, Ok, Err}
 use Rattle.std.proofs.Math.Option.{Option, none, some}
 use Rattle.octets.specs.Bytes.{Bytes, any, has, value}
 use Rattle.fields.specs.Field.{parts, first_field, Part, field, malformed, part_of, is_body}
 use Rattle.kinds.specs.Kind.{formed, allowed}
 use Rattle.table.specs.Dictionary.{Row, Group, header, fields, groups_of, member, rows_of, listed, kind_in, type_of, administrative, frame_tag, in_dictionary}
 use Rattle.table.specs.declared.MsgType.{MsgType}
-use Rattle.dictionary.specs.declared.Says.{Says}
-use Rattle.dictionary.specs.declared.Says.TheVariants.{Nothing, Reason}
-use Rattle.dictionary.specs.declared.Verdict.{Verdict}
-use Rattle.dictionary.specs.declared.Verdict.TheVariants.{Clean, Finding, NoBody}
+use Rattle.dictionary.specs.declared.Finding.{Finding}
+use Rattle.dictionary.specs.declared.Unclean.{Unclean}
+use Rattle.dictionary.specs.declared.Unclean.TheVariants.{Found, NoBody}
 
 -- What the walk remembers of the fields before: the tags met outside groups (128 marks in the code), and the groups that are open, the innermost
 -- first. Document 02: "A group may hold groups .. count, first-member and missing-member checks apply at each level, innermost first."
@@ -26,8 +25,14 @@ pub record Past : Type 0 where
 -- What a rule says of a field: nothing, or a reason with a tag. Of several rules the first that speaks stands.
 infix 70 reason◌tag◌
 infix 68 ◌when◌
+abbrev pub Says : Type 0
+Says = Result (Unit {0}) Finding
+
+abbrev pub Nothing : Says
+Nothing = Ok tt
+
 abbrev pub reason◌tag◌ : ℕ → ℕ → Says
-reason◌tag◌ r t = Reason r t
+reason◌tag◌ r t = Err (record { reason = r; tag = t })
 
 abbrev pub ◌when◌ : Says → Bool → Says
 ◌when◌ s true = s
@@ -35,8 +40,8 @@ abbrev pub ◌when◌ : Says → Bool → Says
 
 abbrev pub first_of : List Says → Says
 first_of [] = Nothing
-first_of (Nothing ∷ l) = first_of l
-first_of ((Reason r t) ∷ l) = Reason r t
+first_of ((Ok _) ∷ l) = first_of l
+first_of ((Err f) ∷ l) = Err f
 
 -- The first required tag of some rows that is not among the tags met: reason 1.
 abbrev pub missing : List Row → List ℕ → Says
@@ -158,10 +163,23 @@ after m w malformed = w
 after m w (field t v) =
     let inside = left w.inside (field t v) in cond (skipped m t) (record { seen = w.seen; inside = inside }) (taken m w.seen inside t v)
 
+-- The verdict on a body: clean, the first finding, or no body.
+abbrev pub Verdict : Type 0
+Verdict = Result (Unit {0}) Unclean
+
+abbrev pub Clean : Verdict
+Clean = Ok tt
+
+abbrev pub found : ℕ → ℕ → Verdict
+found r t = Err (Found (record { reason = r; tag = t }))
+
+abbrev pub no_body : Verdict
+no_body = Err NoBody
+
 -- "the first finding stands"; "At the end, after step 1: the first missing required tag, header first, in the order above: 1."
 abbrev pub verdict_by : Says → Verdict → Verdict
-verdict_by Nothing rest = rest
-verdict_by (Reason r t) rest = Finding r t
+verdict_by (Ok _) rest = rest
+verdict_by (Err f) rest = Err (Found f)
 
 abbrev pub walk : MsgType → Past → List Bytes → Verdict
 walk m w [] = verdict_by (first_of (closing_all w.inside ∷ missing (header ++ fields m) w.seen ∷ [])) Clean
@@ -179,15 +197,15 @@ abbrev pub nothing_yet : Past
 nothing_yet = record { seen = []; inside = [] }
 
 abbrev pub judged_as : Option MsgType → Bytes → Verdict
-judged_as none body = Finding 11 35
+judged_as none body = found 11 35
 judged_as (some m) body = walk m nothing_yet (parts body)
 
 -- "Field reader and verdict answer refusal 10 for bytes that aren't 5 to 2,048 long, beginning `35=` and ending with `|`."
 unfoldable pub verdict : Bytes → Verdict
-verdict body = cond (is_body body) (judged_as (msg_type body) body) NoBody
+verdict body = cond (is_body body) (judged_as (msg_type body) body) no_body
 
 -- "a definition gives this paper's number and values for each case of the enum": the refusal's number, if it is one, and the values.
 unfoldable pub numbers : Verdict → Option ℕ × List ℕ
-numbers Clean = (none, [])
-numbers (Finding r t) = (none, r ∷ t ∷ [])
-numbers NoBody = (some 10, [])
+numbers (Ok _) = (none, [])
+numbers (Err (Found f)) = (none, f.reason ∷ f.tag ∷ [])
+numbers (Err NoBody) = (some 10, [])

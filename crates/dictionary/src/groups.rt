@@ -1,96 +1,104 @@
 // The open group: where the walk stands in it, rule 1 where it goes on or ends, and the states behind a field.
-ghost use Rattle.std.specs.Prelude.{◌≡◌, ◌<◌, length};
-ghost use Rattle.table.specs.code.Held.{Right, Looked};
-ghost use Rattle.dictionary.specs.code.Held.{inside_of, Incomplete, Closing, Rule1, Counted, Over, Noted, outside_of, begun_of, Remembered};
+ghost use Rattle.std.specs.Prelude.{ℕ, ◌≡◌, ◌<◌, length};
+ghost use Rattle.table.specs.code.Held.{tag_at};
+ghost use Rattle.dictionary.specs.code.Held.{StandsIn, Incomplete, Closing, ClosingAll, Rule1, Counted, Over, Opened, begun_of, Few, Remembered};
 
-use super::Says;
-use super::bits::bit;
-use super::missing::missing_member;
-use table::Entry;
+use super::ends::missing;
+use super::{Finding, Says};
+use table::{Known, lacking_member};
 
-// What the walk holds beside its marks: a tag outside the header was met; the open group by its count tag (0: none), its count, and the instances
-// begun.
+// An open group: its count tag, its count, and the instances begun.
 #[derive(Clone, Copy)]
-pub struct State {
-    pub over: bool,
-    pub group: u32,
+pub struct OpenGroup {
+    pub counter: u32,
     pub count: u32,
     pub begun: u32,
 }
 
-// The state where no group is open.
-pub fn outside(over: bool) -> State
-    ensures { result ≡ outside_of over }
-{
-    State {
-        over,
-        group: 0,
-        count: 0,
-        begun: 0,
-    }
+// What the walk holds beside its marks: a tag outside the header was met; the open group, if there is one.
+#[derive(Clone, Copy)]
+pub struct State {
+    pub over: bool,
+    pub group: Option<OpenGroup>,
 }
 
-// The field stands in the open group.
-pub fn is_inside(st: State, e: Entry) -> bool
-    ensures { result ≡ inside_of st e }
+// The open group where a member of it stands, and whether that is its first member.
+#[derive(Clone, Copy)]
+pub struct Inside {
+    pub group: OpenGroup,
+    pub first: bool,
+}
+
+// The open group, if the field stands in it.
+pub fn stands_in(group: Option<OpenGroup>, k: Known) -> Option<Inside>
+    ensures { StandsIn group (tag_at k.place) result }
 {
-    if st.group == 0 {
-        return false;
+    let g = group?;
+    let of = k.member()?;
+    if g.counter != of.group {
+        return None;
     }
-    st.group == e.member.group
+    Some(Inside {
+        group: g,
+        first: of.first,
+    })
 }
 
 // Rule 1, a required member missing from the last instance, if one began.
-pub fn incomplete(st: State, met: &[bool; 128]) -> Says
-    ensures { Incomplete met.now st result }
+#[inline(always)]
+pub fn incomplete(g: OpenGroup, met: &[bool; 128]) -> Says
+    ensures { Incomplete met.now g result }
 {
-    if st.begun == 0 {
-        return Says::Nothing;
+    if g.begun == 0 {
+        return Ok(());
     }
-    missing_member(met, st.group)
+    missing(lacking_member(met, g.counter))
 }
 
 // Rule 1, the two checks at the end of a group.
-pub fn closing(st: State, met: &[bool; 128]) -> Says
-    ensures { Closing met.now st result }
+#[inline(always)]
+pub fn closing(g: OpenGroup, met: &[bool; 128]) -> Says
+    ensures { Closing met.now g result }
 {
-    if st.group == 0 {
-        return Says::Nothing;
+    incomplete(g, met)?;
+    if g.begun == g.count {
+        return Ok(());
     }
-    let r = incomplete(st, met);
-    let Says::Nothing = r else {
-        return r;
-    };
-    if st.begun == st.count {
-        return Says::Nothing;
-    }
-    Says::Reason {
+    Err(Finding {
         reason: 16,
-        tag: st.group,
-    }
+        tag: g.counter,
+    })
 }
 
-// Rule 1 at a part that is a member of this group, or of none.
-pub fn rule_1(st: State, met: &[bool; 128], group: u32, first: bool) -> Says
-    ensures { Rule1 met.now st group first result }
+// Rule 1 where no group goes on: the two checks of the open one, if there is one.
+#[inline(always)]
+pub fn closing_all(group: Option<OpenGroup>, met: &[bool; 128]) -> Says
+    ensures { ClosingAll met.now group result }
 {
-    if st.group == 0 {
-        return Says::Nothing;
+    let Some(g) = group else {
+        return Ok(());
+    };
+    closing(g, met)
+}
+
+// Rule 1 at a field of the dictionary, by where it stands.
+pub fn rule_1(group: Option<OpenGroup>, inside: Option<Inside>, met: &[bool; 128]) -> Says
+    ensures { (t : ℕ) → StandsIn group t inside → Rule1 met.now group t result }
+{
+    let Some(at) = inside else {
+        return closing_all(group, met);
+    };
+    if at.first {
+        return incomplete(at.group, met);
     }
-    if st.group != group {
-        return closing(st, met);
-    }
-    if first {
-        return incomplete(st, met);
-    }
-    Says::Nothing
+    Ok(())
 }
 
 // The number that the value of a count field writes; a larger one than any count may be is none.
 pub fn count_of(v: &[u8]) -> u32
     ensures { Counted v.now result }
 {
-    let kinds::Number::Is(n) = kinds::read_number(v) else {
+    let Some(n) = kinds::read_number(v) else {
         return 0;
     };
     if 999999999 < n {
@@ -100,43 +108,37 @@ pub fn count_of(v: &[u8]) -> u32
 }
 
 // A tag outside the header was met, this one included.
-pub fn over_with(over: bool, e: Entry) -> bool
-    requires { Right e }
-    ensures { Over over e.tag result }
+pub fn over_with(over: bool, k: Known) -> bool
+    ensures { Over over (tag_at k.place) result }
 {
-    if bit(e.marks, 28) {
+    if k.is_header() {
         return over;
     }
     true
 }
 
-// The state behind a field outside groups; a count field opens its group.
-fn noted(st: State, e: Entry, v: &[u8]) -> State
-    requires { Right e }
-    ensures { Noted st e.tag v.now result }
+// The group that a count field opens; another field opens none.
+pub fn opened(k: Known, v: &[u8]) -> Option<OpenGroup>
+    ensures { Opened (tag_at k.place) v.now result }
 {
-    let over = over_with(st.over, e);
-    if bit(e.marks, 30) {
-        return State {
-            over,
-            group: e.tag,
-            count: count_of(v),
-            begun: 0,
-        };
+    if !k.is_count() {
+        return None;
     }
-    outside(over)
+    Some(OpenGroup {
+        counter: k.tag(),
+        count: count_of(v),
+        begun: 0,
+    })
 }
 
-// The state behind a first member, which begins an instance.
-pub fn begun(st: State) -> State
-    requires { st.begun < 4096 }
-    ensures { result ≡ begun_of st }
+// The group behind a first member, which begins an instance.
+pub fn begun(g: OpenGroup) -> OpenGroup
+    requires { g.begun < 4096 }
+    ensures { result ≡ begun_of g }
 {
-    State {
-        over: st.over,
-        group: st.group,
-        count: st.count,
-        begun: st.begun + 1,
+    OpenGroup {
+        begun: g.begun + 1,
+        ..g
     }
 }
 
@@ -144,24 +146,29 @@ pub fn begun(st: State) -> State
 // open group have marks of their own, at the same places (met).
 pub fn remembered(
     st: State,
-    e: Entry,
-    p: usize,
+    k: Known,
     v: &[u8],
     seen: &mut [bool; 128],
     met: &mut [bool; 128],
 ) -> State
-    requires { Looked e p × (length seen.old ≡ 128) × (length met.old ≡ 128) × (st.begun < 4096) }
-    ensures { Remembered seen.old met.old st e.tag v.now seen.new met.new result }
+    requires { (length seen.old ≡ 128) × (length met.old ≡ 128) × Few st.group 4095 }
+    ensures { Remembered seen.old met.old st (tag_at k.place) v.now seen.new met.new result }
 {
-    if !is_inside(st, e) {
-        seen[p] = true;
-        return noted(st, e, v);
-    }
-    if e.member.first {
+    let Some(at) = stands_in(st.group, k) else {
+        seen[k.place] = true;
+        return State {
+            over: over_with(st.over, k),
+            group: opened(k, v),
+        };
+    };
+    if at.first {
         *met = [false; 128];
-        met[p] = true;
-        return begun(st);
+        met[k.place] = true;
+        return State {
+            group: Some(begun(at.group)),
+            ..st
+        };
     }
-    met[p] = true;
+    met[k.place] = true;
     st
 }

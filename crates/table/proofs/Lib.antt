@@ -1,5 +1,6 @@
+pub mod Types
 pub mod Lists
-pub mod Numbers
+pub mod Fixed
 pub mod Places
 pub mod Needs
 pub mod Groups

@@ -1,84 +1,85 @@
--- The required tags of some rows that are not marked.
-use Prim.Native.Nat.{ℕ, zero, suc, ◌+◌, ◌-◌, ◌%◌, ◌≤◌, ◌<◌}
-use native.Mathlib.Numerals.{add-one}
+-- The required tags of some rows that are not marked, from one row to the next.
+use Prim.Native.Nat.{ℕ, suc, ◌+◌, ◌<◌}
 use native.Mathlib.Omega.{arith}
+use native.Mathlib.Numerals.{add-one}
 use borrow.Author.Tests.{eqb-true, ltb-true}
-use mathlib.Core.Path.{◌≡◌, refl, ap, sym, subst, ◌∙◌}
+use mathlib.Core.Path.{◌≡◌, refl, ap, sym, ◌∙◌}
 use mathlib.Core.List.{List, [], ◌∷◌}
-use mathlib.Core.Bool.{Bool, true, false, not, ◌&&◌, false≢true}
-use mathlib.Core.Option.{none, some}
-use lib.Dec.{eqb, leb, ltb}
-use lib.ListN.{length, get_or}
+use mathlib.Core.Bool.{Bool, true, false, not, ◌&&◌, and-false, false≢true}
+use mathlib.Core.Option.{some}
+use lib.Dec.{eqb, ltb}
+use lib.ListN.{length, drop, get_or, length-drop}
 use lib.Seq.{drop-cons}
 use Rattle.octets.specs.Bytes.{has}
 use Rattle.octets.proofs.Tests.{both}
 use Rattle.kinds.specs.Kind.{day}
-use Rattle.table.specs.Dictionary.{Row, №453, №580, №552, header, fields}
-use Rattle.table.specs.code.Held.{tag_count, row_count, agree, tag_at, all_rows, rows_in, right_row, right_rows, InRows, lacked_by, unmet, Lacking, Marked}
+use Rattle.table.specs.Dictionary.{Row}
+use Rattle.table.specs.code.Held.{tag_count, agree, tag_at, right_row, right_rows, unmet, Marked}
+use Rattle.table.specs.declared.rows.Listed.{Listed}
 use Rattle.table.proofs.Lists.{agree_true}
 
-row_at : (d : ℕ) (r : Row) (l : List ℕ) (rs : List Row) → right_rows l rs ≡ true → (k : ℕ) → k < length l → right_row (get_or l k d) (get_or rs k r) ≡ true
-row_at d r [] rs h k n = absurd (omega arith)
-row_at d r (x ∷ l) [] h k n = absurd (false≢true h)
-row_at d r (x ∷ l) (y ∷ rs) h zero n = (both (right_row x y) (right_rows l rs) h).0
-row_at d r (x ∷ l) (y ∷ rs) h (suc k) n = row_at d r l rs (both (right_row x y) (right_rows l rs) h).1 k (omega arith)
+rows_long : (l : List Listed) (rs : List Row) → right_rows l rs ≡ true → length l ≡ length rs
+rows_long [] [] h = refl
+rows_long [] (r ∷ rs) h = absurd (false≢true h)
+rows_long (x ∷ l) [] h = absurd (false≢true h)
+rows_long (x ∷ l) (r ∷ rs) h = ap suc (rows_long l rs (both (right_row x r) (right_rows l rs) h).1)
 
-all_long : length all_rows ≡ row_count
-unfolding all_rows header fields №453 №580 №552
-all_long = refl
-
--- one row further, or a tag that was not met
-module _ (l : List ℕ) (R : InRows l) (d k e : ℕ) (h : k < e) (w : e ≤ row_count) where
+module _ (l : List Listed) (rs : List Row) (k : ℕ) (d : Listed) (n : k < length l) (h : right_rows (drop k l) (drop k rs) ≡ true) where
   void : Row
   void = record { tag = 0; kind = day; required = false }
 
-  at : Row
-  at = get_or all_rows k void
+  at : Listed
+  at = get_or l k d
 
-  rest : rows_in k e ≡ at ∷ rows_in (k + 1) e
+  row : Row
+  row = get_or rs k void
+
+  longer : k < length rs
+  longer = omega (arith, n, length-drop k l, length-drop k rs, rows_long (drop k l) (drop k rs) h)
+
+  front : drop k l ≡ at ∷ drop (k + 1) l
   unfolding at
-  rest =
-      let f : e - k ≡ suc (e - (k + 1)) = omega arith in
-      rw (drop-cons all_rows k void (omega (arith, all_long)), f, add-one)
+  front = drop-cons l k d n ∙ ap (λ (i : ℕ). get_or l k d ∷ drop i l) (sym (add-one k))
 
-  right : right_row (get_or l k d) at ≡ true
+  line : drop k rs ≡ row ∷ drop (k + 1) rs
+  unfolding row
+  line = drop-cons rs k void longer ∙ ap (λ (i : ℕ). get_or rs k void ∷ drop i rs) (sym (add-one k))
+
+  one : right_rows (at ∷ drop (k + 1) l) (row ∷ drop (k + 1) rs) ≡ true
+  one = sym (ap (λ (u : List Listed). right_rows u (row ∷ drop (k + 1) rs)) front) ∙ sym (ap (right_rows (drop k l)) line) ∙ h
+
+  pub rest : right_rows (drop (k + 1) l) (drop (k + 1) rs) ≡ true
+  rest = (both (right_row at row) _ one).1
+
+  right : right_row at row ≡ true
+  right = (both (right_row at row) _ one).0
+
+  two : (ltb at.place tag_count ≡ true) × (eqb (tag_at at.place) row.tag ≡ true)
+  two = let b = both (ltb at.place tag_count) _ (both (agree at.required row.required) _ right).1 in (b.0, b.1)
+
+  pub place_small : (get_or l k d).place < tag_count
   unfolding at
-  right = row_at d void l all_rows R.rows k (omega (arith, R.long))
-
-  place : ℕ
-  place = get_or l k d % 128
-
-  two : (ltb place tag_count ≡ true) × (eqb (tag_at place) at.tag ≡ true)
-  unfolding place
-  two = let b = (both (agree (leb 128 (get_or l k d)) at.required) _ right).1 in
-      let c = both (ltb (get_or l k d % 128) tag_count) _ b in
-      (c.0, c.1)
-
-  pub place_small : get_or l k d % 128 < tag_count
-  unfolding place
   place_small = ltb-true _ tag_count two.0
 
   module _ (marks : List Bool) (met : List ℕ) (M : Marked marks met) where
-    lacks_is : lacked_by marks (get_or l k d) ≡ (at.required && not (has met at.tag))
-    unfolding place
+    lacks_is : (at.required && not (get_or marks at.place false)) ≡ (row.required && not (has met row.tag))
+    unfolding at
     lacks_is =
-        let a = agree_true (leb 128 (get_or l k d)) at.required (both (agree (leb 128 (get_or l k d)) at.required) _ right).0 in
-        let b = M.at (get_or l k d % 128) place_small ∙ ap (has met) (eqb-true (tag_at place) at.tag two.1) in
+        let a = agree_true at.required row.required (both (agree at.required row.required) _ right).0 in
+        let b = M.at at.place place_small ∙ ap (has met) (eqb-true (tag_at at.place) row.tag two.1) in
         rw (a, b)
 
-    pub needed_met : lacked_by marks (get_or l k d) ≡ false → unmet (rows_in k e) met ≡ unmet (rows_in (k + 1) e) met
-    needed_met f = rw (rest, sym lacks_is ∙ f)
+    pub needed_met : ((get_or l k d).required && not (get_or marks (get_or l k d).place false)) ≡ false → unmet (drop k rs) met ≡ unmet (drop (k + 1) rs) met
+    unfolding at row
+    needed_met f = rw (line, sym lacks_is ∙ f)
 
-    pub needed_not : lacked_by marks (get_or l k d) ≡ true → unmet (rows_in k e) met ≡ some (tag_at (get_or l k d % 128))
-    unfolding place
-    needed_not f = rw (rest, sym lacks_is ∙ f, eqb-true (tag_at place) at.tag two.1)
+    pub needed_not : ((get_or l k d).required && not (get_or marks (get_or l k d).place false)) ≡ true → unmet (drop k rs) met ≡ some (tag_at (get_or l k d).place)
+    unfolding at row
+    needed_not f = rw (line, sym lacks_is ∙ f, eqb-true (tag_at at.place) row.tag two.1)
 
--- at the end of the rows
-pub none_left : (k e : ℕ) (met : List ℕ) → e ≤ k → unmet (rows_in k e) met ≡ none
-none_left k e met h =
-    let f : e - k ≡ 0 = omega arith in
-    rw f
+    -- by either of the two tests
+    pub passed : (get_or l k d).required ≡ false → unmet (drop k rs) met ≡ unmet (drop (k + 1) rs) met
+    passed e = needed_met (ap (λ (b : Bool). b && not (get_or marks (get_or l k d).place false)) e)
 
--- the same rows by another name
-pub lacks_same : {marks : List Bool} {rows others : List Row} {p : ℕ} → Lacking marks rows p → rows ≡ others → Lacking marks others p
-lacks_same {marks} {rows} {others} {p} L e = subst (λ (l : List Row). Lacking marks l p) e L
+    pub met_one : get_or marks (get_or l k d).place false ≡ true → unmet (drop k rs) met ≡ unmet (drop (k + 1) rs) met
+    met_one e = needed_met (ap (λ (b : Bool). (get_or l k d).required && not b) e ∙ and-false (get_or l k d).required)

@@ -2,21 +2,22 @@
 use Prim.Native.Nat.{ℕ, zero, suc, ◌+◌, ◌<◌}
 use native.Mathlib.Omega.{arith}
 use borrow.Author.Tests.{eqb-true, ltb-true}
-use mathlib.Core.Path.{◌≡◌, refl, ap, sym, ◌∙◌, subst}
+use mathlib.Core.Path.{◌≡◌, refl, ap, sym, ◌∙◌}
 use mathlib.Core.List.{List, [], ◌∷◌, ◌++◌, map}
 use mathlib.Core.Bool.{Bool, true, false, cond, not, ◌&&◌, ◌||◌, false≢true}
 use mathlib.Core.Logic.{inl, inr}
 use lib.Dec.{eqb, ltb}
-use lib.ListN.{length, get_or, length-map}
-use Rattle.octets.specs.Bytes.{Bytes, all, has, same}
-use Rattle.kinds.specs.Kind.{Kind, text, number◌to◌, Y/N, time, day, decimal, among}
+use lib.ListN.{length, get_or}
+use Rattle.octets.specs.Bytes.{Bytes, any, all, has, same}
+use Rattle.kinds.specs.Kind.{Kind, text, number◌to◌, Y/N, time, day, decimal, among, kind_of}
 use Rattle.kinds.specs.Judged.{meaning}
 use Rattle.kinds.proofs.Values.{same_true}
-use Rattle.table.specs.Dictionary.{Group, №453, №580, №552, groups, the_ten, header, fields, listed, kind_in, member, rows_of, frame_tag}
-use Rattle.table.specs.code.Held.{tag_count, all_rows, tags, tag_at, Placed, index, bit_of, is_numeric, kind_for, written, same_all, agree, right_in, right_of, right, entry_of, Table, slot_of, slotted, InSlots, OnlyPlace, Three, Right, Looked}
+use Rattle.table.specs.Dictionary.{Group, №453, №580, №552, groups, the_ten, header, fields, listed, kind_in, member, groups_of, rows_of, frame_tag}
+use Rattle.table.specs.code.Held.{tag_count, all_rows, tags, tag_at, index, bit_of, is_numeric, kind_for, written, same_all, agree, in_group, leads, right_in, right_of, right, no_entry, entry_at, slot_of, slotted, OnlyPlace, Three, Right, MemberOf}
 use Rattle.table.specs.declared.MsgType.{MsgType}
 use Rattle.table.specs.declared.lines.Entry.{Entry}
-use Rattle.table.specs.declared.lines.Line.{Line}
+use Rattle.table.specs.declared.lines.TheConstants.{TABLE}
+use Rattle.table.specs.declared.lookup.TheConstants.{SLOTS}
 use Rattle.table.proofs.Lists.{agree_true, all_ten}
 use Rattle.octets.proofs.Tests.{both, all_at, map_at}
 
@@ -24,10 +25,22 @@ pub tags-long : length tags ≡ tag_count
 unfolding all_rows tags header fields №453 №580 №552
 tags-long = refl
 
-pub entry_tag : (t : List Line) (d : Line) (i : ℕ) → Table t → i < tag_count → (get_or t i d).0 ≡ tag_at i
-entry_tag t d i T h =
-    let e : length t ≡ tag_count = sym (length-map t (λ (x : Line). x.0)) ∙ ap length T.order ∙ tags-long in
-    sym (map_at (λ (x : Line). x.0) d 0 t i (omega arith)) ∙ ap (λ (l : List ℕ). get_or l i 0) T.order
+-- the constant table is that of the definitions: one computed test over all entries and all ten messages
+order : map (λ (e : Entry). e.tag) TABLE ≡ tags
+unfolding all_rows tags header fields №453 №580 №552
+order = refl
+
+rights : all right TABLE ≡ true
+unfolding all_rows tags bit_of right_in right_of right №453 №580 №552 header fields groups_of member rows_of kind_of
+rights = refl
+
+long : length TABLE ≡ tag_count
+long = refl
+
+pub entry_tag : (i : ℕ) → i < tag_count → (entry_at i).tag ≡ tag_at i
+unfolding entry_at
+entry_tag i h =
+    sym (map_at (λ (e : Entry). e.tag) no_entry 0 TABLE i (omega (arith, long))) ∙ ap (λ (l : List ℕ). get_or l i 0) order
 
 -- the place of a tag by its slot
 slot_of_lem : (l : List ℕ) (x p : ℕ) (ts : List ℕ) → slotted l p ts ≡ true → has ts x ≡ true → (k : ℕ) × ((get_or l (slot_of x) 0 ≡ p + k) × (get_or ts k 0 ≡ x))
@@ -45,21 +58,28 @@ slot_of_lem l x p (t ∷ ts) h m =
         (0, (sym (ap (λ (y : ℕ). get_or l (slot_of y) 0) q) ∙ f ∙ g, q))
     go false e n f later = let r = later n in (suc r.0, (omega (arith, r.1.0), r.1.1))
 
-pub slot_place : (l : List ℕ) (x : ℕ) → InSlots l → OnlyPlace x (get_or l (slot_of x) 0)
-slot_place l x S =
+slots : slotted SLOTS 0 tags ≡ true
+unfolding all_rows tags header fields №453 №580 №552
+slots = refl
+
+small_slots : all (λ p. ltb p tag_count) SLOTS ≡ true
+small_slots = refl
+
+pub slot_place : (x : ℕ) → OnlyPlace x (get_or SLOTS (slot_of x) 0)
+slot_place x =
     record {
-      small = ltb-true _ tag_count (all_at (λ (p : ℕ). ltb p tag_count) 0 l S.small (slot_of x) (omega (arith, S.long)));
-      only = λ h. let r = slot_of_lem l x 0 tags S.places h in
-          let e : get_or l (slot_of x) 0 ≡ r.0 = omega (arith, r.1.0) in
+      small = ltb-true _ tag_count (all_at (λ (p : ℕ). ltb p tag_count) 0 SLOTS small_slots (slot_of x) (omega arith));
+      only = λ h. let r = slot_of_lem SLOTS x 0 tags slots h in
+          let e : get_or SLOTS (slot_of x) 0 ≡ r.0 = omega (arith, r.1.0) in
           ap tag_at e ∙ r.1.1;
     }
 
 -- its line has another tag: no line has this one
-pub no_place : {t : List Line} (d : Line) {x p : ℕ} → Table t → OnlyPlace x p → ((get_or t p d).0 ≡ x → ⊥) → has tags x ≡ false
-no_place {t} d {x} {p} T O n = go (has tags x) refl
+pub no_place : {x p : ℕ} → OnlyPlace x p → ((entry_at p).tag ≡ x → ⊥) → has tags x ≡ false
+no_place {x} {p} O n = go (has tags x) refl
   where
     go : (b : Bool) → has tags x ≡ b → b ≡ false
-    go true e = absurd (n (entry_tag t d p T O.small ∙ O.only e))
+    go true e = absurd (n (entry_tag p O.small ∙ O.only e))
     go false e = refl
 
 -- no two places have the same tag
@@ -143,7 +163,7 @@ module _ (e : Entry) (h : right e ≡ true) (m : MsgType) where
   out = agree (bit_of e.marks (index m)) (listed (header ++ fields m) e.tag)
 
   mem : Bool
-  mem = agree (bit_of e.member.marks (index m)) (member m e.tag)
+  mem = agree (bit_of e.marks (10 + index m)) (member m e.tag)
 
   kin : Bool
   kin = not (listed (rows_of m) e.tag) || same_all (written (meaning (kind_for m e.kind))) (written (kind_in (rows_of m) e.tag))
@@ -170,27 +190,44 @@ right_is e h =
       outside_in = λ m. agree_true _ _ (four e h m).0;
       member_in = λ m. agree_true _ _ (four e h m).1;
       kind_in_lem = λ m l. same_kind _ _ (or_not (listed (rows_of m) e.tag) _ (four e h m).2 l);
-      member_of = λ x y. agree_true _ _ (both (agree (eqb x.counter e.member.group) (listed x.members e.tag)) _ (g x y)).0;
-      first_of = λ x y. agree_true _ _ (both (agree (eqb x.counter e.member.group) (listed x.members e.tag)) _ (g x y)).1;
+      member_of = λ x y. agree_true _ _ (both (agree (in_group x e.member) (listed x.members e.tag)) _ (g x y)).0;
+      first_of = λ x y. agree_true _ _ (both (agree (in_group x e.member) (listed x.members e.tag)) _ (g x y)).1;
       in_header = agree_true _ _ (both (agree (bit_of e.marks 28) (listed header e.tag)) _ h2).0;
       in_frame = agree_true _ _ (both (agree (bit_of e.marks 29) (frame_tag e.tag)) _ h3).0;
       counts = agree_true _ _ h4;
       counts_number = λ m b. or_not (bit_of e.marks 30) _ (four e h m).3 b;
     }
 
--- the entry of a line
-pub line_looked : {t : List Line} (d : Line) {p : ℕ} → Table t → p < tag_count → {e : Entry} → e ≡ entry_of (get_or t p d) → Looked e p
-line_looked {t} d {p} T small {e} h =
-    let n : length (map (λ (y : Line). y.0) t) ≡ tag_count = ap length T.order ∙ tags-long in
-    let R = right_is (entry_of (get_or t p d)) (all_at (λ (l : Line). right (entry_of l)) d t T.rights p (omega (arith, small, length-map t (λ (y : Line). y.0)))) in
-    subst (λ (y : Entry). Looked y p) (sym h) (record { right = R; small = small; tagged = sym (entry_tag t d p T small) })
+-- what the entry at a place says of its tag
+module _ (p : ℕ) (h : p < tag_count) where
+  says : Right (entry_at p)
+  unfolding entry_at
+  says = right_is (entry_at p) (all_at right no_entry TABLE rights p (omega (arith, long)))
 
-module _ {t : List Line} (d : Line) {x p : ℕ} (T : Table t) (P : Placed x p) (n : p ≡ tag_count → ⊥) where
-  small : p < tag_count
-  small = omega (arith, P.within)
+  pub in_message_at : (m : MsgType) → bit_of (entry_at p).marks (index m) ≡ listed (header ++ fields m) (tag_at p)
+  in_message_at m = says.outside_in m ∙ ap (listed (header ++ fields m)) (entry_tag p h)
 
-  pub entry_is : {e : Entry} → e ≡ entry_of (get_or t p d) → e.tag ≡ x
-  entry_is h = ap (λ (e : Entry). e.tag) h ∙ entry_tag t d p T small ∙ P.there small
+  pub shared_at : (m : MsgType) → bit_of (entry_at p).marks (10 + index m) ≡ member m (tag_at p)
+  shared_at m = says.member_in m ∙ ap (member m) (entry_tag p h)
 
-  pub looked : {e : Entry} → e ≡ entry_of (get_or t p d) → Looked e p
-  looked h = line_looked d T small h
+  pub member_at : MemberOf (tag_at p) (entry_at p).member
+  member_at =
+      record {
+        member_of = λ g three. says.member_of g three ∙ ap (listed g.members) (entry_tag p h);
+        first_of = λ g three. says.first_of g three ∙ ap (leads g.members) (entry_tag p h);
+      }
+
+  pub header_at : bit_of (entry_at p).marks 28 ≡ listed header (tag_at p)
+  header_at = says.in_header ∙ ap (listed header) (entry_tag p h)
+
+  pub frame_at : bit_of (entry_at p).marks 29 ≡ frame_tag (tag_at p)
+  frame_at = says.in_frame ∙ ap frame_tag (entry_tag p h)
+
+  pub counts_at : bit_of (entry_at p).marks 30 ≡ any (λ g. eqb g.counter (tag_at p)) groups
+  counts_at = says.counts ∙ ap (λ (t : ℕ). any (λ g. eqb g.counter t) groups) (entry_tag p h)
+
+  pub kind_at : (m : MsgType) → listed (rows_of m) (tag_at p) ≡ true → meaning (kind_for m (entry_at p).kind) ≡ kind_in (rows_of m) (tag_at p)
+  kind_at m l = says.kind_in_lem m (ap (listed (rows_of m)) (entry_tag p h) ∙ l) ∙ ap (kind_in (rows_of m)) (entry_tag p h)
+
+  pub count_numeric : (m : MsgType) → any (λ g. eqb g.counter (tag_at p)) groups ≡ true → listed (rows_of m) (tag_at p) ≡ true → is_numeric (kind_in (rows_of m) (tag_at p)) ≡ true
+  count_numeric m c l = sym (ap is_numeric (kind_at m l)) ∙ says.counts_number m (counts_at ∙ c)

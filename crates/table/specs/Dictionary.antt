@@ -1,13 +1,13 @@
 -- "The dictionary is one fixed table of tags with their kinds and messages. Y required, N optional." Document 02 adds the Trade Capture Report (AE).
 use Rattle.std.specs.Prelude.{ℕ, List, [], ◌∷◌, ◌++◌, Bool, true, false, cond, not, ◌||◌, eqb}
 use Prim.Native.String.{String}
+use Rattle.std.specs.Prelude as std
+use Rattle.std.specs.Prelude.{Some, None}
 use Rattle.std.proofs.Math.Option.{Option, none, some}
 use Rattle.octets.specs.Bytes.{Bytes, byte, fix, any, has, same}
 use Rattle.fields.specs.Field.{cut}
 use Rattle.kinds.specs.Kind.{Kind, text, number◌to◌, among, kind_of}
 use Rattle.table.specs.declared.MsgType.{MsgType}
-use Rattle.table.specs.declared.Named.{Named}
-use Rattle.table.specs.declared.Named.TheVariants.{Of, Other}
 use Rattle.table.specs.declared.MsgType.TheVariants.{Heartbeat, TestRequest, ResendRequest, Reject, SequenceReset, Logout, Logon, OrderCancelRequest, TradeCaptureReportRequest, TradeCaptureReport}
 
 pub record Row : Type 0 where
@@ -116,13 +116,13 @@ unfoldable pub type_of : Bytes → Option MsgType
 type_of v = type_among the_ten v
 
 -- the code's answer for it, and what such an answer stands for
-abbrev pub named : Option MsgType → Named
-named (some m) = Of m
-named none = Other
+abbrev pub named : Option MsgType → std.Option MsgType
+named (some m) = Some m
+named none = None
 
-abbrev pub type_is : Named → Option MsgType
-type_is (Of m) = some m
-type_is Other = none
+abbrev pub type_is : std.Option MsgType → Option MsgType
+type_is (Some m) = some m
+type_is None = none
 
 -- AD and F are application messages, and AE is "walked as AD and F are"; the others are administrative
 unfoldable pub administrative : MsgType → Bool

@@ -1,176 +1,187 @@
 // The constant table of the dictionary, looked up at each field.
-ghost use Rattle.std.specs.Prelude.{◌≡◌, ◌<◌};
-ghost use Rattle.table.specs.code.Held.{tag_count, tag_at, group_of, entry_of, Table};
+use super::MsgType;
+use kinds::{Choice, Kind};
 
-use super::judging::{
-    COUNTED, D, DAY, DECIMAL, EIGHT, FLAG, MATCHES, NINE, NUMBER, ONCE, ONE_OR_TWO, ROLES, STRING,
-    STRING_64, STRING_256, TIME, UP_TO_2, UP_TO_8, UP_TO_60, ZERO, ZERO_OR_54,
-};
-
-// A tag's line of the dictionary: the number of its kind; the messages that have it outside groups; and the group that has it as a member.
+// A tag's line of the dictionary: the kind of its values; where it stands outside groups; and its place in the group that has it as a member.
 #[derive(Clone, Copy)]
 pub struct Entry {
     pub tag: u32,
-    pub kind: u32,
+    pub kind: Kind,
     pub marks: u32,
-    pub member: Member,
+    pub member: Option<Member>,
 }
 
-// A member's group by its count tag (0: none), whether it is the group's first, and the messages that have the group.
+// A member's group by its count tag, and whether it is the group's first.
 #[derive(Clone, Copy)]
 pub struct Member {
     pub group: u32,
     pub first: bool,
-    pub marks: u32,
 }
 
-// The word of a line: bits 0 to 9 for the messages that have the tag outside groups; 10 to 14 for the number of its kind; 15 to 17 for the messages F, AD
-// and AE that have the group of which it is a member, and 18 and 19 for that group; 28 for the header, 29 for a tag of the frame, 30 for the count of a
-// group, 31 for the first member of one. (One word, since the table is laid out at each verdict: sixteen bytes are one store.)
-const IN_0: u32 = 1;
+const STRING: Kind = Kind::Text { most: 32 };
 
-const IN_1: u32 = 2;
+const STRING_64: Kind = Kind::Text { most: 64 };
 
-const IN_2: u32 = 4;
+const STRING_256: Kind = Kind::Text { most: 256 };
 
-const IN_3: u32 = 8;
+const NUMBER: Kind = Kind::Number {
+    least: 0,
+    most: 999999999,
+};
 
-const IN_4: u32 = 16;
+const COUNTED: Kind = Kind::Number {
+    least: 1,
+    most: 999999999,
+};
 
-const IN_5: u32 = 32;
+const UP_TO_60: Kind = Kind::Number { least: 1, most: 60 };
 
-const IN_A: u32 = 64;
+const UP_TO_8: Kind = Kind::Number { least: 1, most: 8 };
 
-const IN_F: u32 = 128;
+const UP_TO_2: Kind = Kind::Number { least: 1, most: 2 };
 
-const IN_AD: u32 = 256;
+const ONCE: Kind = Kind::Number { least: 1, most: 1 };
 
-const IN_AE: u32 = 512;
+const ZERO: Kind = Kind::OneOf(Choice::Zero);
+
+const EIGHT: Kind = Kind::OneOf(Choice::Eight);
+
+const NINE: Kind = Kind::OneOf(Choice::Nine);
+
+const D: Kind = Kind::OneOf(Choice::D);
+
+const ONE_OR_TWO: Kind = Kind::OneOf(Choice::OneOrTwo);
+
+const ZERO_OR_54: Kind = Kind::OneOf(Choice::ZeroOr54);
+
+const MATCHES: Kind = Kind::OneOf(Choice::Matches);
+
+const ROLES: Kind = Kind::OneOf(Choice::Roles);
+
+// The marks of a line: a bit for each message that has the tag outside groups, by the type's number; ten bits more for those that have it in a group;
+// and 28 for the header, 29 for a tag of the frame, 30 for the count of a group.
+const IN_0: u32 = 1 << MsgType::Heartbeat as u32;
+
+const IN_1: u32 = 1 << MsgType::TestRequest as u32;
+
+const IN_2: u32 = 1 << MsgType::ResendRequest as u32;
+
+const IN_3: u32 = 1 << MsgType::Reject as u32;
+
+const IN_4: u32 = 1 << MsgType::SequenceReset as u32;
+
+const IN_5: u32 = 1 << MsgType::Logout as u32;
+
+const IN_A: u32 = 1 << MsgType::Logon as u32;
+
+const IN_F: u32 = 1 << MsgType::OrderCancelRequest as u32;
+
+const IN_AD: u32 = 1 << MsgType::TradeCaptureReportRequest as u32;
+
+const IN_AE: u32 = 1 << MsgType::TradeCaptureReport as u32;
 
 const IN_ALL: u32 = 1023;
 
-const HEADER: u32 = IN_ALL + 268435456;
+const HEADER: u32 = IN_ALL + (1 << 28);
 
-const FRAME: u32 = 536870912;
+const FRAME: u32 = 1 << 29;
 
-const COUNT: u32 = 1073741824;
+const COUNT: u32 = 1 << 30;
 
-const FIRST: u32 = 2147483648;
+const IN_453: u32 = (IN_F + IN_AD + IN_AE) << 10;
 
-// A number of a kind is that many of KIND.
-const KIND: u32 = 1024;
+const IN_580: u32 = IN_AD << 10;
 
-// A member of a group, with the messages that have it.
-const OF_453: u32 = 256 * (IN_F + IN_AD + IN_AE) + 262144;
+const IN_552: u32 = IN_AE << 10;
 
-const OF_580: u32 = 256 * IN_AD + 2 * 262144;
-
-const OF_552: u32 = 256 * IN_AE + 3 * 262144;
-
-// A line of the table: tag, word.
-#[derive(Clone, Copy)]
-pub struct Line(pub u32, pub u32);
-
-// The count tag of a group by its number in a word (0: none).
-fn group_of(n: u32) -> u32
-    ensures { result ≡ group_of n }
-{
-    match n {
-        0 => 0,
-        1 => 453,
-        2 => 580,
-        _ => 552,
-    }
+// A member of a group, and the first of one.
+macro_rules! member {
+    ($group:expr, $first:expr) => {
+        Some(Member {
+            group: $group,
+            first: $first,
+        })
+    };
 }
 
-// The entry that a line is.
-pub fn entry_of(line: Line) -> Entry
-    ensures { result ≡ entry_of line }
-{
-    let word = line.1;
-    Entry {
-        tag: line.0,
-        kind: word / KIND % 32,
-        marks: word,
-        member: Member {
-            group: group_of(word / 262144 % 4),
-            first: (word >> 31) % 2 == 1,
-            marks: word / 32768 % 8 * 128,
-        },
-    }
-}
+const FIRST_OF_453: Option<Member> = member!(453, true);
 
-// How many tags there are.
-pub const TAGS: usize = 51;
+const OF_453: Option<Member> = member!(453, false);
+
+const FIRST_OF_580: Option<Member> = member!(580, true);
+
+const OF_580: Option<Member> = member!(580, false);
+
+const FIRST_OF_552: Option<Member> = member!(552, true);
+
+const OF_552: Option<Member> = member!(552, false);
+
+// A line of the table: tag, kind, marks, and the group if it is a member of one.
+macro_rules! entry {
+    ($tag:expr, $kind:expr, $marks:expr) => {
+        entry!($tag, $kind, $marks, None)
+    };
+    ($tag:expr, $kind:expr, $marks:expr, $member:expr) => {
+        Entry {
+            tag: $tag,
+            kind: $kind,
+            marks: $marks,
+            member: $member,
+        }
+    };
+}
 
 // The tags of the frame, then those of the lists below as they come; a line's place is also the place of its tag's mark.
-const TABLE: [Line; TAGS] = [
-    Line(8, KIND * STRING + FRAME),
-    Line(9, KIND * STRING + FRAME),
-    Line(10, KIND * STRING + FRAME),
-    Line(35, KIND * STRING + HEADER),
-    Line(49, KIND * STRING + HEADER),
-    Line(56, KIND * STRING + HEADER),
-    Line(34, KIND * COUNTED + HEADER),
-    Line(52, KIND * TIME + HEADER),
-    Line(43, KIND * FLAG + HEADER),
-    Line(97, KIND * FLAG + HEADER),
-    Line(122, KIND * TIME + HEADER),
-    Line(1128, KIND * NINE + HEADER),
-    Line(112, KIND * STRING_64 + IN_0 + IN_1),
-    Line(7, KIND * COUNTED + IN_2),
-    Line(16, KIND * NUMBER + IN_2),
-    Line(45, KIND * COUNTED + IN_3),
-    Line(371, KIND * NUMBER + IN_3),
-    Line(372, KIND * STRING + IN_3),
-    Line(373, KIND * NUMBER + IN_3),
-    Line(58, KIND * STRING_256 + IN_3 + IN_5 + IN_AD),
-    Line(36, KIND * COUNTED + IN_4),
-    Line(123, KIND * FLAG + IN_4),
-    Line(1409, KIND * NUMBER + IN_5),
-    Line(98, KIND * ZERO + IN_A),
-    Line(108, KIND * UP_TO_60 + IN_A),
-    Line(1137, KIND * NINE + IN_A),
-    Line(141, KIND * FLAG + IN_A),
-    Line(11, KIND * STRING + IN_F),
-    Line(41, KIND * STRING + IN_F),
-    Line(54, KIND * ONE_OR_TWO + IN_F + FIRST + OF_552),
-    Line(48, KIND * STRING + IN_F + IN_AD + IN_AE),
-    Line(22, KIND * EIGHT + IN_F + IN_AD + IN_AE),
-    Line(60, KIND * TIME + IN_F + IN_AE + OF_580),
-    Line(453, KIND * UP_TO_8 + IN_F + IN_AD + COUNT + OF_552),
-    Line(568, KIND * STRING + IN_AD),
-    Line(569, KIND * ZERO + IN_AD),
-    Line(263, KIND * ZERO + IN_AD),
-    Line(828, KIND * ZERO_OR_54 + IN_AD + IN_AE),
-    Line(580, KIND * UP_TO_2 + IN_AD + COUNT),
-    Line(1041, KIND * STRING + IN_AD),
-    Line(448, KIND * STRING + FIRST + OF_453),
-    Line(447, KIND * D + OF_453),
-    Line(452, KIND * ROLES + OF_453),
-    Line(75, KIND * DAY + FIRST + OF_580),
-    Line(571, KIND * STRING + IN_AE),
-    Line(32, KIND * DECIMAL + IN_AE),
-    Line(31, KIND * DECIMAL + IN_AE),
-    Line(64, KIND * DAY + IN_AE),
-    Line(574, KIND * MATCHES + IN_AE),
-    Line(552, KIND * ONCE + IN_AE + COUNT),
-    Line(1427, KIND * STRING + OF_552),
+pub static TABLE: [Entry; 51] = [
+    entry!(8, STRING, FRAME),
+    entry!(9, STRING, FRAME),
+    entry!(10, STRING, FRAME),
+    entry!(35, STRING, HEADER),
+    entry!(49, STRING, HEADER),
+    entry!(56, STRING, HEADER),
+    entry!(34, COUNTED, HEADER),
+    entry!(52, Kind::Time, HEADER),
+    entry!(43, Kind::Flag, HEADER),
+    entry!(97, Kind::Flag, HEADER),
+    entry!(122, Kind::Time, HEADER),
+    entry!(1128, NINE, HEADER),
+    entry!(112, STRING_64, IN_0 + IN_1),
+    entry!(7, COUNTED, IN_2),
+    entry!(16, NUMBER, IN_2),
+    entry!(45, COUNTED, IN_3),
+    entry!(371, NUMBER, IN_3),
+    entry!(372, STRING, IN_3),
+    entry!(373, NUMBER, IN_3),
+    entry!(58, STRING_256, IN_3 + IN_5 + IN_AD),
+    entry!(36, COUNTED, IN_4),
+    entry!(123, Kind::Flag, IN_4),
+    entry!(1409, NUMBER, IN_5),
+    entry!(98, ZERO, IN_A),
+    entry!(108, UP_TO_60, IN_A),
+    entry!(1137, NINE, IN_A),
+    entry!(141, Kind::Flag, IN_A),
+    entry!(11, STRING, IN_F),
+    entry!(41, STRING, IN_F),
+    entry!(54, ONE_OR_TWO, IN_F + IN_552, FIRST_OF_552),
+    entry!(48, STRING, IN_F + IN_AD + IN_AE),
+    entry!(22, EIGHT, IN_F + IN_AD + IN_AE),
+    entry!(60, Kind::Time, IN_F + IN_AE + IN_580, OF_580),
+    entry!(453, UP_TO_8, IN_F + IN_AD + COUNT + IN_552, OF_552),
+    entry!(568, STRING, IN_AD),
+    entry!(569, ZERO, IN_AD),
+    entry!(263, ZERO, IN_AD),
+    entry!(828, ZERO_OR_54, IN_AD + IN_AE),
+    entry!(580, UP_TO_2, IN_AD + COUNT),
+    entry!(1041, STRING, IN_AD),
+    entry!(448, STRING, IN_453, FIRST_OF_453),
+    entry!(447, D, IN_453, OF_453),
+    entry!(452, ROLES, IN_453, OF_453),
+    entry!(75, Kind::Day, IN_580, FIRST_OF_580),
+    entry!(571, STRING, IN_AE),
+    entry!(32, Kind::Decimal, IN_AE),
+    entry!(31, Kind::Decimal, IN_AE),
+    entry!(64, Kind::Day, IN_AE),
+    entry!(574, MATCHES, IN_AE),
+    entry!(552, ONCE, IN_AE + COUNT),
+    entry!(1427, STRING, IN_552, OF_552),
 ];
-
-// The one function that names the table: whoever looks into it takes it into a local, once.
-pub fn table() -> [Line; TAGS]
-    ensures { Table result }
-{
-    TABLE
-}
-
-// The tag of a line.
-pub fn tag_at(p: usize) -> u32
-    requires { p < tag_count }
-    ensures { result ≡ tag_at p }
-{
-    let t = table();
-    let line = t[p];
-    line.0
-}

@@ -1,9 +1,13 @@
 // The place of a tag in the table by its slot: each tag has one of its own, which holds its place.
-ghost use Rattle.table.specs.code.Held.{InSlots, OnlyPlace};
+ghost use Rattle.table.specs.code.Held.{OnlyPlace};
+ghost use Rattle.table.specs.code.Known.{LookedUp};
 
-// The slot of a tag is tag * 4673 / 64 % 128: so no two tags have the same. A slot of no tag holds 0. (A constant array costs one store for each sixteen
-// bytes, so these are bytes; the place of a tag is then one load.)
-const SLOTS: [u8; 128] = [
+use super::known::Known;
+use super::lines::TABLE;
+
+// The slot of a tag is tag * 4673 / 64 % 128: so no two tags have the same. A slot of no tag holds 0. (As bytes, so
+// that they stay near each other; the place of a tag is then one load.)
+pub static SLOTS: [u8; 128] = [
     34, // 568
     50, // 1427
     0, 36, // 263
@@ -57,18 +61,21 @@ const SLOTS: [u8; 128] = [
     0, 13, // 7
 ];
 
-// Whoever looks for tags takes the slots into a local, once.
-pub fn slots() -> [u8; 128]
-    ensures { InSlots result }
-{
-    SLOTS
-}
-
 // The only place that a tag can have: if the line there has another tag, no line has this one.
-pub fn place_in(slots: &[u8; 128], tag: u32) -> usize
-    requires { InSlots slots.now }
+fn place_in(tag: u32) -> usize
     ensures { OnlyPlace tag result }
 {
     let slot = ((tag as u64) * 4673 / 64 % 128) as usize;
-    slots[slot] as usize
+    SLOTS[slot] as usize
+}
+
+// The tag of a field, if the dictionary has it.
+pub fn look_up(tag: u32) -> Option<Known>
+    ensures { LookedUp tag result }
+{
+    let place = place_in(tag);
+    if TABLE[place].tag != tag {
+        return None;
+    }
+    Some(Known { place })
 }

@@ -9,14 +9,14 @@ decreases-group_walk l = length l.body.now + 1 - l.from
 abbrev pub decreases-instance_walk : goal.decreases-instance_walk
 decreases-instance_walk l = length l.body.now + 1 - l.from
 
-abbrev pub invariant-group_walk-loop-e : goal.invariant-group_walk-loop-e
-invariant-group_walk-loop-e l = InGroupWalk l.body l.initial.st l.from l.met l.st l.at l.item
+abbrev pub invariant-group_walk-loop-head : goal.invariant-group_walk-loop-head
+invariant-group_walk-loop-head l = InGroupWalk l.body l.initial.g l.from l.met l.g l.at l.item
 
-abbrev pub decreases-group_walk-loop-e : goal.decreases-group_walk-loop-e
-decreases-group_walk-loop-e l = length l.body + 1 - l.at
+abbrev pub decreases-group_walk-loop-head : goal.decreases-group_walk-loop-head
+decreases-group_walk-loop-head l = length l.body + 1 - l.at
 
-abbrev pub invariant-instance_walk-loop-e : goal.invariant-instance_walk-loop-e
-invariant-instance_walk-loop-e l = InInstanceWalk l.body l.initial.met l.st l.from l.met l.at l.item
+abbrev pub invariant-instance_walk-loop-head : goal.invariant-instance_walk-loop-head
+invariant-instance_walk-loop-head l = InInstanceWalk l.body l.initial.met l.g l.from l.met l.at l.item
 
-abbrev pub decreases-instance_walk-loop-e : goal.decreases-instance_walk-loop-e
-decreases-instance_walk-loop-e l = length l.body + 1 - l.at
+abbrev pub decreases-instance_walk-loop-head : goal.decreases-instance_walk-loop-head
+decreases-instance_walk-loop-head l = length l.body + 1 - l.at

@@ -2,14 +2,14 @@
 use Rattle.dictionary.proofs.FourToEight.{rule5_frame, rule5_member, rule5_seen, rule5_new}
 use Rattle.dictionary.proofs.rules.rule_5.Goals as goal
 
-pub returns-then-bit : goal.returns-then-bit
-returns-then-bit c = rule5_frame c.requires c.bit.ensures c.if-bit.true
+pub returns-then-is_frame : goal.returns-then-is_frame
+returns-then-is_frame c = rw c.tag.ensures (rule5_frame c.is_frame.ensures c.if-is_frame.true)
 
-pub returns-then-is_in : goal.returns-then-is_in
-returns-then-is_in c = rule5_member c.requires c.bit.ensures c.if-bit.false c.is_in.ensures c.if-is_in.true
+pub returns-then-is_member : goal.returns-then-is_member
+returns-then-is_member c = rule5_member c.is_frame.ensures c.if-is_frame.false c.is_member.ensures c.if-is_member.true
 
 pub returns-then-seen : goal.returns-then-seen
-returns-then-seen c = rule5_seen c.requires c.bit.ensures c.if-bit.false c.is_in.ensures c.if-is_in.false c.if-seen.true
+returns-then-seen c = rw c.tag-then-seen.ensures (rule5_seen c.is_frame.ensures c.if-is_frame.false c.is_member.ensures c.if-is_member.false c.if-seen.true)
 
 pub returns : goal.returns
-returns c = rule5_new c.requires c.bit.ensures c.if-bit.false c.is_in.ensures c.if-is_in.false c.if-seen.false
+returns c = rule5_new c.is_frame.ensures c.if-is_frame.false c.is_member.ensures c.if-is_member.false c.if-seen.false

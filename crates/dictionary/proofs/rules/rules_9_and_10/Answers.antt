@@ -1,9 +1,9 @@
--- Rules 9 and 10 by the judgement on a value of the entry's kind.
+-- Rules 9 and 10 by the judgement on a value of the tag's kind.
 use Rattle.dictionary.proofs.Saying.{judged_well, judged_ill}
 use Rattle.dictionary.proofs.rules.rules_9_and_10.Goals as goal
 
-pub returns-then-found-eq0 : goal.returns-then-found-eq0
-returns-then-found-eq0 c = judged_well c.requires c.judge_by-found.ensures c.if-found-eq0.true
+pub returns-in_default : goal.returns-in_default
+returns-in_default c = judged_well c.judge.ensures c.in_default.is
 
 pub returns : goal.returns
-returns c = judged_ill c.requires c.judge_by-found.ensures c.if-found-eq0.false
+returns c = rw (c.number.ensures, c.tag.ensures) (judged_ill c.judge.ensures c.in-Err.is)

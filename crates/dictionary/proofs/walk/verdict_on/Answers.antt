@@ -1,8 +1,8 @@
 -- The verdict: no body, another type, or the walk.
 use mathlib.Core.Bool.{not}
 use mathlib.Core.Path.{ap, sym, ◌∙◌}
-use Rattle.table.specs.declared.Named.TheVariants.{Of}
-use Rattle.dictionary.proofs.Types.{is_body_lem, verdict_nobody, verdict_other, verdict_walked, report_is}
+use Rattle.std.specs.Prelude.{Some}
+use Rattle.dictionary.proofs.Types.{is_body_lem, verdict_nobody, verdict_other, verdict_walked, report_is, not_report}
 use Rattle.dictionary.proofs.walk.verdict_on.Goals as goal
 
 pub returns-then-not-is_body : goal.returns-then-not-is_body
@@ -15,15 +15,14 @@ pub returns-in_default : goal.returns-in_default
 returns-in_default c = verdict_other _ (sym c.is_body.ensures ∙ c.if-not-is_body.false) c.type_at_front.ensures c.in_default.is
 
 pub report_walk-requires : goal.report_walk-requires
-report_walk-requires c = ((is_body_lem _ (sym c.is_body.ensures ∙ c.if-not-is_body.false)).most, c.slots-places.ensures)
+report_walk-requires c = (is_body_lem _ (sym c.is_body.ensures ∙ c.if-not-is_body.false)).most
 
-pub returns-then-is_report : goal.returns-then-is_report
-returns-then-is_report c =
-    verdict_walked _ (sym c.is_body.ensures ∙ c.if-not-is_body.false) c.type_at_front.ensures (c.in-Of.is ∙ ap Of (report_is _ (sym c.is_report.ensures ∙ c.if-is_report.true))) c.report_walk.ensures
+pub returns-then-eq : goal.returns-then-eq
+returns-then-eq c =
+    verdict_walked _ (sym c.is_body.ensures ∙ c.if-not-is_body.false) c.type_at_front.ensures (c.in-Some.is ∙ ap Some (report_is _ c.if-eq.ensures)) c.report_walk.ensures
 
 pub walk-requires : goal.walk-requires
-walk-requires c =
-    ((is_body_lem _ (sym c.is_body.ensures ∙ c.if-not-is_body.false)).most, sym c.is_report.ensures ∙ c.if-is_report.false, c.slots-places.ensures)
+walk-requires c = ((is_body_lem _ (sym c.is_body.ensures ∙ c.if-not-is_body.false)).most, not_report _ c.if-eq.ensures)
 
 pub returns : goal.returns
-returns c = verdict_walked _ (sym c.is_body.ensures ∙ c.if-not-is_body.false) c.type_at_front.ensures c.in-Of.is c.walk.ensures
+returns c = verdict_walked _ (sym c.is_body.ensures ∙ c.if-not-is_body.false) c.type_at_front.ensures c.in-Some.is c.walk.ensures

@@ -1,30 +1,17 @@
 -- The search for a required tag that is not marked: up to the row at hand, the rows lack nothing.
-use borrow.Author.Rules.{rules}
-use native.Mathlib.Omega.{arith}
-use mathlib.Core.Path.{refl, sym, ◌∙◌}
-use Rattle.table.proofs.Needs.{place_small, needed_met, needed_not, none_left}
+use mathlib.Core.Path.{◌∙◌}
+use mathlib.Core.Bool.{false}
+use Rattle.table.proofs.Needs.{rest, passed, met_one}
+use Rattle.table.proofs.rows.lacking.Goals.{else-row-via-then-row+else-not-marks-place, else-row-via-else-row}
 use Rattle.table.proofs.rows.lacking.Goals as goal
 
-pub loop-k-init : goal.loop-k-init
-loop-k-init c = (search rules, λ met M. refl)
-
-pub returns-then-lacks : goal.returns-then-lacks
-returns-then-lacks c =
-    let R = c.requires.in_rows in
-    let h = c.loop-k-test.true in
-    record {
-      within = omega (arith, place_small _ R 0 _ _ h c.requires.to_le_row_count);
-      nothing = λ e. absurd (omega (arith, e, place_small _ R 0 _ _ h c.requires.to_le_row_count));
-      first = λ e met M. c.loop-k.invariant.1 met M ∙ needed_not _ R 0 _ _ h c.requires.to_le_row_count _ met M (sym c.lacks.ensures ∙ c.if-lacks.true);
-    }
-
-pub loop-k-preserved : goal.loop-k-preserved
-loop-k-preserved c =
-    (omega arith, λ met M. c.loop-k.invariant.1 met M ∙ needed_met _ c.requires.in_rows 0 _ _ c.loop-k-test.true c.requires.to_le_row_count _ met M (sym c.lacks.ensures ∙ c.if-lacks.false))
-
-pub returns : goal.returns
-returns c = record {
-  within = omega arith;
-  nothing = λ e met M. c.loop-k.invariant.1 met M ∙ none_left _ _ met c.loop-k-test.false;
-  first = λ e. absurd (omega (arith, e));
-}
+pub loop-row-preserved : goal.loop-row-preserved
+loop-row-preserved c =
+    λ lines h. let R = c.loop-row.invariant lines h in (
+      rest _ lines c.loop-row.row-index (record { place = 0; required = false }) c.loop-row-test.true R.0,
+      λ met M. R.1 met M
+          ∙ elim c.else-row.branch [
+            | else-row-via-then-row+else-not-marks-place w ↦ met_one _ lines c.loop-row.row-index _ c.loop-row-test.true R.0 _ met M w.if-not-marks-place.false
+            | else-row-via-else-row w ↦ passed _ lines c.loop-row.row-index _ c.loop-row-test.true R.0 _ met M w.if-row.false
+          ],
+    )

@@ -1,12 +1,11 @@
--- The search for a required tag that is not marked: up to the row at hand, the rows lack nothing.
-use Prim.Native.Nat.{ℕ, ◌≤◌, ◌-◌}
-use mathlib.Core.Path.{◌≡◌}
-use mathlib.Core.List.{List}
-use Rattle.table.specs.code.Held.{Marked, rows_in, unmet}
+-- The rows before this one lack nothing.
+use Rattle.std.proofs.Common.{◌≡◌, true, ℕ, List, drop}
+use Rattle.table.specs.Dictionary.{Row}
+use Rattle.table.specs.code.Held.{Marked, unmet, right_rows}
 use Rattle.table.proofs.rows.lacking.Given as goal
 
-abbrev pub invariant-loop-k : goal.invariant-loop-k
-invariant-loop-k l = (l.k ≤ l.to) × ((met : List ℕ) → Marked l.marks met → unmet (rows_in l.from l.to) met ≡ unmet (rows_in l.k l.to) met)
-
-abbrev pub decreases-loop-k : goal.decreases-loop-k
-decreases-loop-k l = l.to - l.k
+abbrev pub invariant-loop-row : goal.invariant-loop-row
+invariant-loop-row l =
+    (lines : List Row) → right_rows l.rows lines ≡ true
+    → (right_rows (drop l.row-index l.rows) (drop l.row-index lines) ≡ true)
+    × ((met : List ℕ) → Marked l.marks met → unmet lines met ≡ unmet (drop l.row-index lines) met)

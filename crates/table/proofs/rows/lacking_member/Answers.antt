@@ -1,20 +1,20 @@
--- Where the members of a group stand among the rows.
-use borrow.Author.Tests.{eq-eqb, ne_eqb}
+-- The list of each group.
+use Rattle.std.proofs.Common.{arith}
+use borrow.Author.Tests.{ne_eqb}
+use mathlib.Core.Path.{refl}
 use Rattle.table.specs.Dictionary.{№453, №580, №552, header, fields}
-use Rattle.table.specs.code.Held.{all_rows}
-use Rattle.table.proofs.Needs.{lacks_same}
+use Rattle.table.specs.code.Held.{all_rows, tags}
 use Rattle.table.proofs.rows.lacking_member.Goals as goal
 
-pub returns-then-group-eq453 : goal.returns-then-group-eq453
-unfolding all_rows №453 №580 №552 header fields
-returns-then-group-eq453 c = lacks_same c.lacking.ensures (rw (eq-eqb _ 453 c.if-group-eq453.true))
+pub returns-in-453 : goal.returns-in-453
+unfolding all_rows tags №453 №580 №552 header fields
+returns-in-453 c = rw c.in-453.is (c.lacking.ensures №453.members refl)
 
-pub returns-then-group-eq580 : goal.returns-then-group-eq580
-unfolding all_rows №453 №580 №552 header fields
-returns-then-group-eq580 c =
-    lacks_same c.lacking-then-group-eq580.ensures (rw (ne_eqb _ 453 c.if-group-eq453.false, eq-eqb _ 580 c.if-group-eq580.true))
+pub returns-in-580 : goal.returns-in-580
+unfolding all_rows tags №453 №580 №552 header fields
+returns-in-580 c = rw c.in-580.is (c.lacking-in-580.ensures №580.members refl)
 
-pub returns : goal.returns
-unfolding all_rows №453 №580 №552 header fields
-returns c =
-    lacks_same c.lacking-2.ensures (rw (ne_eqb _ 453 c.if-group-eq453.false, ne_eqb _ 580 c.if-group-eq580.false))
+pub returns-in_default : goal.returns-in_default
+unfolding all_rows tags №453 №580 №552 header fields
+returns-in_default c =
+    rw (ne_eqb c.args.group 453 (omega arith), ne_eqb c.args.group 580 (omega arith)) (c.lacking-in_default.ensures №552.members refl)
