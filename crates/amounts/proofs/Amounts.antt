@@ -15,7 +15,10 @@ use Rattle.octets.proofs.Numerals.{Written, digit_is, is_digit, is_within, digit
 use Rattle.octets.proofs.Rightmost.{padded-length}
 use Rattle.octets.proofs.Decimals.{decimal-worth, decimal-written, written-decimal}
 use Rattle.decimals.specs.Decimal.{leading, trailing, plain, pointed, is_decimal, places_of, whole_of, in_range, ranged_of, decimal_of}
-use Rattle.decimals.specs.declared.Decimal.TheVariants.{Is, OutOfRange, Bad}
+use Rattle.std.specs.Prelude.{Result, Ok, Err}
+use Rattle.decimals.specs.declared.Decimal.{Decimal}
+use Rattle.fault.specs.declared.Fault.{Fault}
+use Rattle.fault.specs.declared.Fault.TheVariants.{Value, Form}
 use Rattle.kinds.specs.Kind.{Kind, formed, allowed}
 use Rattle.calendar.proofs.Texts.{padded_from}
 use Rattle.message.proofs.Pointed.{leading-digits, decimal-length}
@@ -114,8 +117,12 @@ pointing_reads w (suc k) =
     let R = reads_by (pointing w (suc k)) (decimal q) (46 ∷ ds) (leading-first (decimal q) (46 ∷ ds) (decimal_all q) refl) (trailing_last (decimal q) (46 ∷ ds) (decimal_all q) refl) (decimal-plain q) g in
     record { form = R.form; whole = R.whole ∙ joined (suc k) w; places = R.places ∙ n }
 
+-- the decimal of a whole number and its places
+abbrev pub is : ℕ → ℕ → Result Decimal Fault
+is w k = Ok (record { whole = w; places = k })
+
 -- in their ranges: (d) "reading gives back both"
-pub decimal_back : (w k : ℕ) → w ≤ 999_999_999_999_999 → k ≤ 8 → decimal_of (pointing w k) ≡ Is w k
+pub decimal_back : (w k : ℕ) → w ≤ 999_999_999_999_999 → k ≤ 8 → decimal_of (pointing w k) ≡ is w k
 unfolding decimal_of
 decimal_back w k h g =
     let R = pointing_reads w k in
@@ -177,22 +184,23 @@ pointing_only v h =
     pointing_by (leading v) (trailing v) w.0 (leading-digits v) w.1 ∙ split v
 
 -- each text has one pair, each pair one text
-pub decimal_only : (v : Bytes) (w k : ℕ) → decimal_of v ≡ Is w k → pointing w k ≡ v
+pub decimal_only : (v : Bytes) (w k : ℕ) → decimal_of v ≡ is w k → pointing w k ≡ v
 unfolding decimal_of
 decimal_only v w k e = go (is_decimal v) refl e
   where
-    ranged : (b : Bool) → is_decimal v ≡ true → cond b (Is (whole_of v) (length (places_of v))) OutOfRange ≡ Is w k → pointing w k ≡ v
+    ranged : (b : Bool) → is_decimal v ≡ true → cond b (is (whole_of v) (length (places_of v))) (Err Value) ≡ is w k → pointing w k ≡ v
     ranged true f g =
-        let a : whole_of v ≡ w = cc in
-        let c : length (places_of v) ≡ k = cc in
+        let q : (◌≡◌ {A = Decimal} (record { whole = whole_of v; places = length (places_of v) }) (record { whole = w; places = k })) = cc in
+        let a : whole_of v ≡ w = ap (λ (d : Decimal). d.whole) q in
+        let c : length (places_of v) ≡ k = ap (λ (d : Decimal). d.places) q in
         ap (λ (x : ℕ). pointing x k) (sym a) ∙ ap (pointing (whole_of v)) (sym c) ∙ pointing_only v f
     ranged false f g = let z : ◌≡◌ {A = ℕ} 0 1 = cc in absurd (omega arith)
 
-    go : (b : Bool) → is_decimal v ≡ b → cond b (ranged_of (whole_of v) (length (places_of v))) Bad ≡ Is w k → pointing w k ≡ v
+    go : (b : Bool) → is_decimal v ≡ b → cond b (ranged_of (whole_of v) (length (places_of v))) (Err Form) ≡ is w k → pointing w k ≡ v
     go true f g = ranged (in_range (whole_of v) (length (places_of v))) f g
     go false f g = let z : ◌≡◌ {A = ℕ} 0 1 = cc in absurd (omega arith)
 
-pub one_text : (u v : Bytes) (w k : ℕ) → decimal_of u ≡ Is w k → decimal_of v ≡ Is w k → u ≡ v
+pub one_text : (u v : Bytes) (w k : ℕ) → decimal_of u ≡ is w k → decimal_of v ≡ is w k → u ≡ v
 one_text u v w k e f = sym (decimal_only u w k e) ∙ decimal_only v w k f
 
 -- so that the amount of a decimal tells its text

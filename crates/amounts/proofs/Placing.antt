@@ -1,59 +1,27 @@
 -- The text of an amount as the code puts it: the last digits first, then the point, then the digits before it.
-use Prim.Native.Nat.{ℕ, zero, suc, ◌+◌, ◌-◌, ◌/◌, ◌≤◌, ◌<◌}
+use Prim.Native.Nat.{ℕ, zero, suc, ◌+◌, ◌-◌, ◌/◌, ◌^◌, ◌≤◌, ◌<◌}
 use native.Mathlib.Decide.{dec_lt}
+use native.Mathlib.Nat.{div-one}
 use native.Mathlib.Omega.{arith}
-use mathlib.Core.Path.{◌≡◌, refl, sym, ap, ◌∙◌, subst}
+use mathlib.Core.Path.{◌≡◌, refl, sym, ap, ◌∙◌}
 use mathlib.Core.List.{[], ◌∷◌, ◌++◌}
-use lib.ListN.{length, set, drop_of_length-le}
-use lib.Seq.{sets, take_all}
+use lib.ListN.{length, set}
+use lib.Seq.{sets}
 use Rattle.octets.specs.Bytes.{Bytes, decimal, padded}
 use Rattle.octets.proofs.Decimals.{some_digit}
-use Rattle.octets.proofs.Rightmost.{length_small, length-step, padded-length, all_padded}
+use Rattle.octets.proofs.Rightmost.{length_small, length-step, all_padded}
 use Rattle.message.specs.Wrote.{Wrote}
-use Rattle.message.proofs.Leftward.{Left, left_none, set_before}
-use Rattle.message.proofs.Writes.{chain, reword}
+use Rattle.message.proofs.Leftward.{set_before, rest_more}
+use Rattle.message.proofs.Writes.{chain, reword, few_digits}
 use Rattle.amounts.specs.Amount.{without, pointing}
 
--- k digits counted off, where there are more
-off : (k n : ℕ) → 1 ≤ without k n → length (decimal n) ≡ length (decimal (without k n)) + k
-off zero n h = omega arith
-off (suc k) n h = omega (arith, off k (n / 10) h, length-step n (go k n h))
-  where
-    none_left : (k : ℕ) → without k 0 ≡ 0
-    none_left zero = refl
-    none_left (suc k) = none_left k
+pub fifteen : (w : ℕ) → w ≤ 999_999_999_999_999 → length (decimal w) ≤ 15
+fifteen w h = omega (arith, few_digits 14 w (omega arith))
 
-    go : (k n : ℕ) → 1 ≤ without k (n / 10) → 10 ≤ n
-    go k n h = by (dec_lt n 10)
-      where
-        by : Dec (n < 10) → 10 ≤ n
-        by (yes l) = let z : n / 10 ≡ 0 = omega arith in absurd (omega (arith, ap (without k) z, none_left k))
-        by (no l) = omega arith
-
-pub width_above : (k n : ℕ) → 100_000_000 ≤ n → k ≡ length (decimal (n / 100_000_000)) → 8 + k ≡ length (decimal n)
-width_above k n h e =
-    let w : without 8 n ≡ n / 100_000_000 = omega arith in
-    omega (arith, off 8 n (omega (arith, w)), ap (λ (x : ℕ). length (decimal x)) w)
-
--- THE LAST k DIGITS, from the right
--- none stands yet
-pub left-digits : (d : Bytes) (at k n : ℕ) → Left d d (padded k n) at k n
-left-digits d at k n =
-    record {
-      within = omega (arith, padded-length k n);
-      coming = take_all k (padded k n) (omega (arith, padded-length k n));
-      bytes = ap (λ (x : Bytes). sets d (at + k) x) (sym (drop_of_length-le (padded k n) {i = k} (omega (arith, padded-length k n))));
-    }
-
--- all of them stand
-pub all_digits : (d d' : Bytes) (at k n i r : ℕ) → i ≡ 0 → Left d d' (padded k n) at i r → Wrote d d' at (at + k) (padded k n)
-all_digits d d' at k n i r e F = left_none d d' (padded k n) at i r e F k (sym (padded-length k n))
-
-pub rest_more : (i j r w : ℕ) → i ≡ suc j → without i r ≡ w → without j (r / 10) ≡ w
-rest_more i j r w e h = ap (λ (x : ℕ). without x r) (sym e) ∙ h
-
-pub rest_none : (i r w : ℕ) → i ≡ 0 → without i r ≡ w → r ≡ w
-rest_none i r w e h = ap (λ (x : ℕ). without x r) (sym e) ∙ h
+-- the number without its last k digits, divided
+pub without_last : (k n : ℕ) → n / 10 ^ k ≡ without k n
+without_last zero n = div-one n
+without_last (suc k) n = sym (rest_more (suc k) k n (n / 10 ^ suc k) refl refl) ∙ without_last k (n / 10)
 
 -- THE DIGITS BEFORE THE POINT: a lone 0 if no other
 front_length : (p w : ℕ) → length (decimal (without p w)) ≡ length (decimal w) - p - 1 + 1
@@ -81,14 +49,10 @@ before {d} {d₁} {d₂} {at} {mid} {to} {xs} {ys} a b =
     chain A B
 
 -- the whole text
-pub pointed : {d d₁ d₂ : Bytes} (at f p w r : ℕ) → (p ≡ 0 → ⊥) → f ≡ length (decimal w) - p - 1 + 1 → r ≡ without p w → Wrote d d₁ (at + f + 1) (at + f + 1 + p) (padded p w)
-    → Wrote (set d₁ (at + f) 46) d₂ at (at + f) (padded f r) → Wrote d d₂ at (at + f + 1 + p) (pointing w p)
-pointed at f zero w r h e q a b = absurd (h refl)
-pointed {d} {d₁} {d₂} at f (suc p) w r h e q a b =
+pub pointed : {d d₁ d₂ d₃ : Bytes} {at mid from to : ℕ} (f p w r : ℕ) → 1 ≤ p → f ≡ length (decimal w) - p - 1 + 1 → r ≡ w / 10 ^ p → Wrote d d₁ from to (padded p w)
+    → Wrote d₁ d₂ mid from (46 ∷ []) → Wrote d₂ d₃ at mid (padded f r) → Wrote d d₃ at to (pointing w p)
+pointed f zero w r h e q a b c = absurd (omega arith)
+pointed f (suc p) w r h e q a b c =
+    let s : r ≡ without (suc p) w = q ∙ without_last (suc p) w in
     let n : f ≡ length (decimal (without (suc p) w)) = e ∙ sym (front_length (suc p) w) in
-    let c : Wrote d₁ (set d₁ (at + f) 46) (at + f) (at + f + 1) (46 ∷ []) = record { next = omega arith; bytes = refl } in
-    let l : padded f r ≡ decimal (without (suc p) w) = ap (padded f) q ∙ all_padded f (without (suc p) w) n in
-    before (before a c) (reword l b)
-
-pub unpointed : {d d' : Bytes} (at k w p : ℕ) → p ≡ 0 → k ≡ length (decimal w) → Wrote d d' at (at + k) (padded k w) → Wrote d d' at (at + k) (pointing w p)
-unpointed {d} {d'} at k w p e n a = subst (λ (x : ℕ). Wrote d d' at (at + k) (pointing w x)) (sym e) (reword (all_padded k w n) a)
+    before (before a b) (reword (ap (padded f) s ∙ all_padded f (without (suc p) w) n) c)

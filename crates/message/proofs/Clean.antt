@@ -10,9 +10,8 @@ use borrow.Author.Tests.{eqb-true, eq-eqb, not-true}
 use Rattle.octets.specs.Bytes.{Bytes, any, all, has, within}
 use Rattle.octets.proofs.Tests.{both, neither, or_last}
 use Rattle.table.specs.declared.MsgType.{MsgType}
-use Rattle.dictionary.specs.declared.Verdict.TheVariants.{Clean}
 use Rattle.table.specs.Dictionary.{Row, header, fields, administrative, listed, groups_of, member, rows_of, frame_tag, in_dictionary}
-use Rattle.dictionary.specs.Verdict.{nothing_yet, walk}
+use Rattle.dictionary.specs.Verdict.{Clean, nothing_yet, walk}
 use Rattle.dictionary.proofs.Taken.{at, Taken, walk_field, walk-over}
 use Rattle.message.specs.Message.{Value, ◌is◌, shown, order, valued}
 use Rattle.message.specs.Unfit.{required, unwritable, unfit}
@@ -74,7 +73,7 @@ in_place_lem m past seen t v h less A =
     let e = both (not (listed header t && any (λ s. not (listed header s)) past)) (within 1 99_999 t) d.1 in
     let f = neither (frame_tag t) (has past t) (not-true _ b.0) in
     record {
-      tag = e.1;
+      low = e.1;
       known = a.0;
       fresh = rw f.0 (less (λ y. eqb y t) f.1);
       no_member = not-true _ c.0;

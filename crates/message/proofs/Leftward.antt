@@ -1,13 +1,13 @@
 -- The digits of a number put from the right: one more in front of those that stand.
-use Prim.Native.Nat.{ℕ, suc, ◌+◌, ◌/◌, ◌%◌, ◌≤◌, ◌<◌}
-use native.Mathlib.Nat.{add-zero, add-suc}
+use Prim.Native.Nat.{ℕ, suc, ◌+◌, ◌/◌, ◌%◌, ◌^◌, ◌≤◌, ◌<◌}
+use native.Mathlib.Nat.{add-zero, add-suc, pow-succ', div-div-eq-div-mul}
 use native.Mathlib.Omega.{arith}
 use mathlib.Core.Path.{◌≡◌, refl, sym, ap, ◌∙◌, subst}
 use mathlib.Core.List.{[], ◌∷◌, ◌++◌, append_cancel_left}
 use lib.ListN.{length, take, drop, get_or, set, drop_of_length-le}
 use lib.Seq.{sets, set_comm, take-suc, take_all, drop-cons, length-take-le}
-use Rattle.octets.specs.Bytes.{Bytes, decimal, padded}
-use Rattle.octets.proofs.Rightmost.{padded-length, all_padded}
+use Rattle.octets.specs.Bytes.{Bytes, padded}
+use Rattle.octets.proofs.Rightmost.{padded-length}
 use Rattle.frame.proofs.Good.{same_start}
 use Rattle.message.specs.Wrote.{Wrote}
 
@@ -17,13 +17,12 @@ pub record Left (d d' l : Bytes) (at j r : ℕ) : Type 0 where
   pub coming : take j l ≡ padded j r
   pub bytes : d' ≡ sets d (at + j) (drop j l)
 
-pub left_all : (d : Bytes) (at n k : ℕ) → k ≡ length (decimal n) → Left d d (decimal n) at k n
-left_all d at n k e =
+pub left_all : (d : Bytes) (at k n : ℕ) → Left d d (padded k n) at k n
+left_all d at k n =
     record {
-      within = omega arith;
-      coming =
-          take_all k (decimal n) (omega arith) ∙ sym (all_padded k n e);
-      bytes = ap (λ (x : Bytes). sets d (at + k) x) (sym (drop_of_length-le (decimal n) {i = k} (omega arith)));
+      within = omega (arith, padded-length k n);
+      coming = take_all k (padded k n) (omega (arith, padded-length k n));
+      bytes = ap (λ (x : Bytes). sets d (at + k) x) (sym (drop_of_length-le (padded k n) {i = k} (omega (arith, padded-length k n))));
     }
 
 pub set_before : (ys l : Bytes) (i k v : ℕ) → i < k → set (sets l k ys) i v ≡ sets (set l i v) k ys
@@ -55,9 +54,13 @@ left_suc d d' l at j r F =
 pub left_more : (d d' l : Bytes) (at i j r : ℕ) → i ≡ suc j → Left d d' l at i r → Left d (set d' (at + j) (48 + r % 10)) l at j (r / 10)
 left_more d d' l at i j r e F = left_suc d d' l at j r (subst (λ (x : ℕ). Left d d' l at x r) e F)
 
-pub left_none : (d d' l : Bytes) (at i r : ℕ) → i ≡ 0 → Left d d' l at i r → (k : ℕ) → k ≡ length l → Wrote d d' at (at + k) l
-left_none d d' l at i r e F k w =
+pub left_none : (d d' : Bytes) (at k n r : ℕ) → Left d d' (padded k n) at 0 r → Wrote d d' at (at + k) (padded k n)
+left_none d d' at k n r F =
     record {
-      next = ap (λ (x : ℕ). at + x) w;
-      bytes = F.bytes ∙ ap (λ (x : ℕ). sets d (at + x) (drop x l)) e ∙ ap (λ (x : ℕ). sets d x l) (add-zero at);
+      next = ap (λ (x : ℕ). at + x) (sym (padded-length k n));
+      bytes = F.bytes ∙ ap (λ (x : ℕ). sets d x (padded k n)) (add-zero at);
     }
+
+-- WHAT IS LEFT of the number, divided once for each digit that stands
+pub rest_more : (i j r w : ℕ) → i ≡ suc j → r / 10 ^ i ≡ w → r / 10 / 10 ^ j ≡ w
+rest_more i j r w e h = div-div-eq-div-mul r 10 (10 ^ j) ∙ ap (λ (x : ℕ). r / x) (sym (ap (λ (x : ℕ). 10 ^ x) e ∙ pow-succ' 10 j)) ∙ h

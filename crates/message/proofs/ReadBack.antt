@@ -13,9 +13,8 @@ use Rattle.frame.specs.Frame.{fixt, Good}
 use Rattle.fields.specs.Field.{first_field}
 use Rattle.octets.proofs.Tests.{both, or_last}
 use Rattle.table.specs.declared.MsgType.{MsgType}
-use Rattle.dictionary.specs.declared.Verdict.TheVariants.{Clean}
 use Rattle.table.specs.Dictionary.{code35, administrative}
-use Rattle.dictionary.specs.Verdict.{verdict, walk, nothing_yet}
+use Rattle.dictionary.specs.Verdict.{Clean, verdict, walk, nothing_yet}
 use Rattle.message.specs.ReadsBack.{ReadsBack}
 use Rattle.message.specs.Message.{Value, bytes, shown, row, order, valued, message, written}
 use Rattle.message.specs.Unfit.{unwritable}

@@ -1,12 +1,13 @@
 -- What stands in a buffer after bytes were written into it, one behind the other; and the digits of a number, one by one.
-use Prim.Native.Nat.{ℕ, zero, suc, ◌+◌, ◌-◌, ◌/◌, ◌^◌, ◌≤◌, ◌<◌}
-use native.Mathlib.Nat.{add-zero, add-suc, suc-add}
+use Prim.Native.Nat.{ℕ, zero, suc, ◌+◌, ◌-◌, ◌*◌, ◌/◌, ◌^◌, ◌≤◌, ◌<◌, max}
+use native.Mathlib.Nat.{add-zero, add-suc, suc-add, pow-succ', one-le-pow}
 use native.Mathlib.Numerals.{add-one}
 use native.Mathlib.Omega.{arith}
-use mathlib.Core.Path.{◌≡◌, refl, sym, ap, ◌∙◌}
+use mathlib.Core.Path.{◌≡◌, refl, sym, ap, ◌∙◌, subst}
 use mathlib.Core.List.{List, [], ◌∷◌, ◌++◌, append_assoc}
 use lib.ListN.{length, take, drop, get_or, set, length-append}
-use lib.Seq.{sets, sets-eq, take-suc, drop_at, length-take-le, take-append_seam}
+use lib.Seq.{sets, sets-eq, take-suc, drop_at, drop-drop, length-take-le, take-append_seam}
+use borrow.Rule.Slice.PartMut.{put_mid}
 use Rattle.octets.specs.Bytes.{Bytes, decimal}
 use Rattle.octets.proofs.Decimals.{decimal-written}
 use Rattle.octets.proofs.Rightmost.{length_small, length-step}
@@ -48,6 +49,19 @@ part_of {d} {d'} {at} {to} {xs} w h =
 pub front_of : {d d' : Bytes} {to : ℕ} {xs : Bytes} → Wrote d d' 0 to xs → to ≤ length d → take to d' ≡ xs
 front_of {d} {d'} {to} {xs} w h = let e : to ≡ to - 0 = omega arith in ap (λ (k : ℕ). take k d') e ∙ part_of w h
 
+-- a part of the buffer written over by the bytes of a slice
+pub copied : {d : Bytes} {at k to : ℕ} (xs ys : Bytes) → ys ≡ xs → k ≡ length xs → to ≡ at + length xs → at + length xs ≤ length d → Wrote d (put_mid at k d ys) at to xs
+copied {d} {at} {k} {to} xs ys e n t h =
+    let m : at + k ≡ at + length xs = omega arith in
+    record {
+      next = t;
+      bytes =
+          ap (λ (l : Bytes). put_mid at k d l) e
+          ∙ sym (append_assoc (take at d) xs (drop k (drop at d)))
+          ∙ ap (λ (l : Bytes). take at d ++ xs ++ l) (drop-drop k at d ∙ ap (λ (i : ℕ). drop i d) m)
+          ∙ sym (sets-eq xs d at h);
+    }
+
 -- one byte more of what is copied
 pub byte_more : {d d₁ : Bytes} {at i : ℕ} (s : Bytes) → i < length s → Wrote d d₁ at (at + i) (take i s) → Wrote d (set d₁ (at + i) (get_or s i 0)) at (at + (i + 1)) (take (i + 1) s)
 byte_more {d} {d₁} {at} {i} s h w =
@@ -68,15 +82,19 @@ unfolding decimal
 few_digits k zero h = (omega arith, omega arith)
 few_digits k (suc n) h = let N = decimal-written k (suc n) (omega arith) h in (N.some_digit, N.few)
 
--- the four sizes of a body's length
-pub digits_1 : (n : ℕ) → n < 10 → n + 22 ≡ n + length (decimal n) + 21
-digits_1 n h = omega (arith, length_small n h)
+-- how many there are, by the powers of ten around the number
+counted : (k n : ℕ) → 10 ^ k ≤ n → n < 10 * 10 ^ k → 1 + k ≡ length (decimal n)
+counted zero n l h = omega (arith, length_small n (omega arith))
+counted (suc k) n l h =
+    let p : 10 ^ suc k ≡ 10 * 10 ^ k = pow-succ' 10 k in
+    let o : 1 ≤ 10 ^ k = one-le-pow k 10 (omega arith) in
+    omega (arith, p, o, length-step n (omega (arith, p, o)), counted k (n / 10) (omega (arith, p)) (omega (arith, p)))
 
-pub digits_2 : (n : ℕ) → 10 ≤ n → n < 100 → n + 23 ≡ n + length (decimal n) + 21
-digits_2 n l h = omega (arith, length-step n l, length_small (n / 10) (omega arith))
+-- 0 has as many as 1
+pub many : (n m k : ℕ) → m ≡ max n 1 → 10 ^ k ≤ m → m < 10 * 10 ^ k → 1 + k ≡ length (decimal n)
+many zero m k e l h = omega (arith, counted k m l h, e, length_small 0 (omega arith), length_small m (omega (arith, e)))
+many (suc n) m k e l h = let w : m ≡ suc n = omega (arith, e) in subst (λ (x : ℕ). 1 + k ≡ length (decimal x)) w (counted k m l h)
 
+-- the four sizes of a body's length, where they matter
 pub digits_3 : (n : ℕ) → 100 ≤ n → n < 1000 → n + 24 ≡ n + length (decimal n) + 21
-digits_3 n l h = omega (arith, length-step n (omega arith), digits_2 (n / 10) (omega arith) (omega arith))
-
-pub digits_4 : (n : ℕ) → 1000 ≤ n → n < 10_000 → n + 25 ≡ n + length (decimal n) + 21
-digits_4 n l h = omega (arith, length-step n (omega arith), digits_3 (n / 10) (omega arith) (omega arith))
+digits_3 n l h = omega (arith, length-step n (omega arith), length-step (n / 10) (omega arith), length_small (n / 10 / 10) (omega arith))

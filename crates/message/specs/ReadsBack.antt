@@ -6,8 +6,7 @@ use Rattle.frame.specs.Frame.{fixt, Good}
 use Rattle.fields.specs.Field.{first_field}
 use Rattle.table.specs.declared.MsgType.{MsgType}
 use Rattle.table.specs.Dictionary.{code35}
-use Rattle.dictionary.specs.declared.Verdict.TheVariants.{Clean}
-use Rattle.dictionary.specs.Verdict.{verdict}
+use Rattle.dictionary.specs.Verdict.{Clean, verdict}
 use Rattle.message.specs.Message.{Value, shown, row, order, message, written}
 
 -- "what is written is a good frame, has a clean verdict, and its first fields are the values given", each of them and no other

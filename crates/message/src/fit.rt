@@ -10,11 +10,11 @@ use octets::has;
 pub fn is_fit(kind: Kind, v: &[u8]) -> bool
     ensures { result ≡ not (unwritten (meaning kind) v.now) }
 {
-    if v.len() == 0 {
+    if v.is_empty() {
         return false;
     }
     if has(v, 1) {
         return false;
     }
-    judge(kind, v) == 0
+    judge(kind, v).is_ok()
 }

@@ -1,15 +1,22 @@
 // The bytes of a message, put into a buffer from a place on: bytes, digits, fields, the frame around a body. Each function answers the place behind what it wrote.
+// The buffer and the place stay two parameters: with a struct that holds both, each function would have to promise besides that the buffer in it is still the
+// same one and as long as before, which a `&mut` parameter says by itself.
 #![tactic(auto)]
 
 mod fit;
+mod given;
 
-ghost use Rattle.std.specs.Prelude.{◌≡◌, [], ◌∷◌, ◌++◌, ◌+◌, ◌≤◌, ◌<◌, cond, eqb, length, take};
-ghost use Rattle.octets.specs.Bytes.{fix, decimal};
-ghost use Rattle.frame.specs.Frame.{fixt, front, trailer};
-ghost use Rattle.message.specs.Message.{absent, number, bytes, ◌is◌, field, framed};
+ghost use Rattle.std.proofs.Math.Option.{some};
+ghost use Rattle.std.specs.Prelude.{IfSome, MatchOption, ◌≡◌, [], ◌∷◌, ◌++◌, ◌+◌, ◌/◌, ◌^◌, ◌≤◌, ◌<◌, cond, eqb, length, take};
+ghost use Rattle.octets.specs.Bytes.{fix, decimal, padded};
+ghost use Rattle.frame.specs.Frame.{fixt, front};
+ghost use Rattle.message.specs.Message.{tagged, framed};
+ghost use Rattle.message.specs.code.Given.{given_text};
 ghost use Rattle.message.specs.Wrote.{Wrote};
 
 pub use fit::is_fit;
+use frame::trailer;
+pub use given::FieldValue;
 use octets::checksum;
 
 pub fn put_byte(buf: &mut [u8], at: usize, b: u8) -> usize
@@ -24,17 +31,13 @@ pub fn put_bytes(buf: &mut [u8], at: usize, s: &[u8]) -> usize
     requires { at + length s.now ≤ length buf.old }
     ensures { Wrote buf.old buf.new at result s.now }
 {
-    let mut i = 0;
-    while i < s.len() {
-        buf[at + i] = s[i];
-        i += 1;
-    }
-    at + i
+    let to = at + s.len();
+    buf[at..to].copy_from_slice(s);
+    to
 }
 
-// How many digits a number has that has at most nine.
+// How many digits a number has. (Tags, lengths and counts have one or two mostly: a test each is less than a logarithm.)
 pub fn width(n: u64) -> usize
-    requires { n < 1_000_000_000 }
     ensures { result ≡ length (decimal n) }
 {
     if n < 10 {
@@ -43,44 +46,36 @@ pub fn width(n: u64) -> usize
     if n < 100 {
         return 2;
     }
-    if n < 1_000 {
-        return 3;
-    }
-    if n < 10_000 {
-        return 4;
-    }
-    if n < 100_000 {
-        return 5;
-    }
-    if n < 1_000_000 {
-        return 6;
-    }
-    if n < 10_000_000 {
-        return 7;
-    }
-    if n < 100_000_000 {
-        return 8;
-    }
-    9
+    1 + n.max(1).ilog10() as usize
 }
 
-// The digits of a number that has at most nine, the last one first. What is left of it fits 32 bits, which divide faster.
+// The last k digits of a number, the last one first; and the number without them.
+#[inline(always)]
+pub fn put_digits(buf: &mut [u8], at: usize, k: usize, n: u64) -> u64
+    requires { at + k ≤ length buf.old }
+    ensures bytes { Wrote buf.old buf.new at (at + k) (padded k n) }
+    ensures rest { result ≡ n / 10 ^ k }
+{
+    let mut rest = n;
+    for i in (0..k).rev() {
+        buf[at + i] = (48 + rest % 10) as u8;
+        rest /= 10;
+    }
+    rest
+}
+
+#[inline(always)]
 pub fn put_decimal(buf: &mut [u8], at: usize, n: u64) -> usize
-    requires { (n < 1_000_000_000) × (at + length (decimal n) ≤ length buf.old) }
+    requires { at + length (decimal n) ≤ length buf.old }
     ensures { Wrote buf.old buf.new at result (decimal n) }
 {
     let k = width(n);
-    let mut rest = n as u32;
-    let mut i = k;
-    while 0 < i {
-        i -= 1;
-        buf[at + i] = (48 + rest % 10) as u8;
-        rest = rest / 10;
-    }
+    put_digits(buf, at, k, n);
     at + k
 }
 
 // `tag=`
+#[inline(always)]
 pub fn put_tag(buf: &mut [u8], at: usize, tag: u64) -> usize
     requires { (tag < 100_000) × (at + 6 ≤ length buf.old) }
     ensures bytes { Wrote buf.old buf.new at result (decimal tag ++ fix "=") }
@@ -90,61 +85,27 @@ pub fn put_tag(buf: &mut [u8], at: usize, tag: u64) -> usize
     put_byte(buf, a, b'=')
 }
 
-// `tag=value|`, the value as bytes.
-pub fn put_text(buf: &mut [u8], at: usize, tag: u64, v: &[u8]) -> usize
-    requires { (tag < 100_000) × (at + length v.now + 7 ≤ length buf.old) }
-    ensures bytes { Wrote buf.old buf.new at result (field (tag is bytes v.now)) }
-    ensures room { result ≤ at + length v.now + 7 }
+// `tag=value|`.
+pub fn put_field<V: FieldValue>(buf: &mut [u8], at: usize, tag: u64, v: V) -> usize
+    requires { (tag < 100_000) × V.fits v × (at + V.room v + 7 ≤ length buf.old) }
+    ensures bytes { Wrote buf.old buf.new at result (tagged tag (some (V.text v))) }
+    ensures room { result ≤ at + V.room v + 7 }
 {
     let a = put_tag(buf, at, tag);
-    let b = put_bytes(buf, a, v);
+    let b = v.put(buf, a);
     put_byte(buf, b, 1)
 }
 
-// `tag=value|`, the value one byte.
-pub fn put_char(buf: &mut [u8], at: usize, tag: u64, v: u8) -> usize
-    requires { (tag < 100_000) × (at + 8 ≤ length buf.old) }
-    ensures bytes { Wrote buf.old buf.new at result (field (tag is bytes (v ∷ []))) }
-    ensures room { result ≤ at + 8 }
+// The same, or nothing.
+pub fn put_optional<V: FieldValue>(buf: &mut [u8], at: usize, tag: u64, v: Option<V>) -> usize
+    requires { (tag < 100_000) × IfSome v (λ w. V.fits w × (at + V.room w + 7 ≤ length buf.old)) }
+    ensures bytes { Wrote buf.old buf.new at result (tagged tag (given_text V.text v)) }
+    ensures room { MatchOption v (result ≡ at) (λ w. result ≤ at + V.room w + 7) }
 {
-    let a = put_tag(buf, at, tag);
-    let b = put_byte(buf, a, v);
-    put_byte(buf, b, 1)
-}
-
-// `tag=value|`, the value as a number.
-pub fn put_number(buf: &mut [u8], at: usize, tag: u64, n: u64) -> usize
-    requires { (tag < 100_000) × (n < 1_000_000_000) × (at + 16 ≤ length buf.old) }
-    ensures bytes { Wrote buf.old buf.new at result (field (tag is number n)) }
-    ensures room { result ≤ at + 16 }
-{
-    let a = put_tag(buf, at, tag);
-    let b = put_decimal(buf, a, n);
-    put_byte(buf, b, 1)
-}
-
-// `tag=value|`, the value as bytes, or nothing.
-pub fn put_optional(buf: &mut [u8], at: usize, tag: u64, there: bool, v: &[u8]) -> usize
-    requires { (tag < 100_000) × (at + length v.now + 7 ≤ length buf.old) }
-    ensures bytes { Wrote buf.old buf.new at result (field (tag is cond there (bytes v.now) absent)) }
-    ensures room { result ≤ at + length v.now + 7 }
-{
-    if there {
-        return put_text(buf, at, tag, v);
+    match v {
+        None => at,
+        Some(w) => put_field(buf, at, tag, w),
     }
-    at
-}
-
-// A number's field, unless it is 0.
-pub fn put_unless_zero(buf: &mut [u8], at: usize, tag: u64, n: u64) -> usize
-    requires { (tag < 100_000) × (n < 1_000_000_000) × (at + 16 ≤ length buf.old) }
-    ensures bytes { Wrote buf.old buf.new at result (field (tag is cond (eqb n 0) absent (number n))) }
-    ensures room { result ≤ at + 16 }
-{
-    if n == 0 {
-        return at;
-    }
-    put_number(buf, at, tag, n)
 }
 
 // The start mark, the body length, `|`, the body.
@@ -159,38 +120,12 @@ fn put_front(buf: &mut [u8], at: usize, body: &[u8]) -> usize
     put_bytes(buf, c, body)
 }
 
-// `10=`, the three digits of the sum, `|`.
-fn put_trailer(buf: &mut [u8], at: usize, sum: u8) -> usize
-    requires { at + 7 ≤ length buf.old }
-    ensures { Wrote buf.old buf.new at result (trailer sum) }
-{
-    let t: [u8; 7] = [
-        49,
-        48,
-        61,
-        48 + sum / 100,
-        48 + sum / 10 % 10,
-        48 + sum % 10,
-        1,
-    ];
-    put_bytes(buf, at, &t)
-}
-
 // How long the frame around a body of n bytes is.
 pub fn frame_length(n: usize) -> usize
     requires { n ≤ 2048 }
     ensures { result ≡ n + length (decimal n) + 21 }
 {
-    if n < 10 {
-        return n + 22;
-    }
-    if n < 100 {
-        return n + 23;
-    }
-    if n < 1000 {
-        return n + 24;
-    }
-    n + 25
+    n + width(n as u64) + 21
 }
 
 // The frame around a body.
@@ -200,14 +135,5 @@ pub fn put_frame(buf: &mut [u8], at: usize, body: &[u8]) -> usize
 {
     let a = put_front(buf, at, body);
     let sum = checksum(&buf[at..a]);
-    put_trailer(buf, a, sum)
-}
-
-// The frame around the first k bytes of a body.
-pub fn put_framed(buf: &mut [u8], at: usize, body: &[u8], k: usize) -> usize
-    requires { (k ≤ length body.now) × (k ≤ 256) × (at + k + 25 ≤ length buf.old) }
-    ensures bytes { Wrote buf.old buf.new at result (framed (take k body.now)) }
-    ensures room { result ≤ at + k + 25 }
-{
-    put_frame(buf, at, &body[..k])
+    put_bytes(buf, a, &trailer(sum))
 }

@@ -1,7 +1,8 @@
 -- The promise of the replies (specs/Promise.antt).
 use Prim.Native.Nat.{ℕ, ◌+◌, ◌≤◌}
 use native.Mathlib.Omega.{arith}
-use mathlib.Core.Path.{◌≡◌}
+use mathlib.Core.Path.{◌≡◌, refl}
+use mathlib.Core.Option.{Option, none, some}
 use mathlib.Core.Bool.{Bool, true}
 use lib.ListN.{length}
 use borrow.Author.Tests.{le-leb}
@@ -11,9 +12,9 @@ use Rattle.table.specs.declared.MsgType.{MsgType}
 use Rattle.message.specs.Message.{Value}
 use Rattle.message.specs.ReadsBack.{ReadsBack}
 use Rattle.message.proofs.Joined.{joined_frames}
-use Rattle.replies.specs.Replied.{reply_room, sendable}
-use Rattle.replies.specs.Promise.{Sendable, Sent, Replies, Promise}
-use Rattle.replies.proofs.Replied.{is_sendable, is_rejectable}
+use Rattle.replies.specs.Replied.{reply_room, sendable, at_most, rejectable}
+use Rattle.replies.specs.Promise.{IfThere, TextOf, Sendable, Sent, Replies, Promise}
+use Rattle.replies.proofs.Replied.{is_sendable}
 use Rattle.replies.proofs.ReplyPromises.{heartbeat_promised, test_request_promised, logon_promised, resend_request_promised, reject_promised, gap_fill_promised, logout_promised}
 
 -- a session's values pass the test that every reply makes
@@ -26,16 +27,23 @@ taken S at len h =
       fits = h;
     })
 
+short : (l : ℕ) (o : Option Bytes) → IfThere (TextOf l) o → at_most l o ≡ true
+short l none T = refl
+short l (some v) T = le-leb (length v) l T.short
+
+pub is_rejectable : (refused tag : ℕ) (type : Option Bytes) (why : ℕ) → refused ≤ 999_999_999 → tag ≤ 999_999_999 → at_most 2 type ≡ true → why ≤ 999_999_999
+    → rejectable refused tag type why ≡ true
+is_rejectable refused tag type why a b c d = rw (le-leb refused 999_999_999 a, le-leb tag 999_999_999 b, c, le-leb why 999_999_999 d)
+
 replies : (ours peers : Bytes) (n : ℕ) (stamp : Bytes) → Sendable ours peers n stamp → Byted ours → Byted peers → Byted stamp → Replies ours peers n stamp
 replies ours peers n stamp S bo bp bs =
     record {
-      heartbeat = λ there id T l b. sent (le-leb (length id) 64 l) (heartbeat_promised ours peers n stamp S bo bp bs there id T b);
+      heartbeat = λ id T b. sent (short 64 id T) (heartbeat_promised ours peers n stamp S bo bp bs id T b);
       test_request = λ id T b. sent (le-leb (length id) 64 T.short) (test_request_promised ours peers n stamp S bo bp bs id T b);
       logon = λ seconds reset low high. sent (le-leb seconds 999_999_999 (omega (arith, high))) (logon_promised ours peers n stamp S bo bp bs seconds reset low high);
       resend_request = λ expected low high. sent (le-leb expected 999_999_999 high) (resend_request_promised ours peers n stamp S bo bp bs expected low high);
-      reject = λ refused tag typed kind why low high small T l b few.
-          sent (is_rejectable (record { numbered = omega (arith, high); tagged = omega (arith, small); typed = l; reasoned = omega (arith, few) }))
-          (reject_promised ours peers n stamp S bo bp bs refused tag typed kind why low high small T b few);
+      reject = λ refused tag kind why low high small T b few.
+          sent (is_rejectable refused tag kind why high small (short 2 kind T) few) (reject_promised ours peers n stamp S bo bp bs refused tag kind why low high small T b few);
       gap_filled = λ next low high. sent (le-leb next 999_999_999 high) (gap_fill_promised ours peers n stamp S bo bp bs next low high);
       logout = λ status few. sent (le-leb status 999_999_999 few) (logout_promised ours peers n stamp S bo bp bs status few);
     }

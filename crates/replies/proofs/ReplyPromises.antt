@@ -5,14 +5,15 @@ use mathlib.Core.List.{List, [], ◌∷◌}
 use mathlib.Core.Bool.{Bool, true, false, cond}
 use lib.Dec.{eqb}
 use borrow.Author.Tests.{eqb-true}
+use mathlib.Core.Option.{Option, none, some}
 use Rattle.octets.specs.Bytes.{Bytes, fix, Byted}
 use Rattle.table.specs.declared.MsgType.{MsgType}
 use Rattle.table.specs.declared.MsgType.TheVariants.{Heartbeat, TestRequest, ResendRequest, Reject, SequenceReset, Logout, Logon}
 use Rattle.table.specs.Dictionary.{№453, №580, №552, header, fields, code35, administrative, groups_of, rows_of, kind_in}
 use Rattle.kinds.specs.Kind.{Kind, kind_of}
 use Rattle.message.specs.Message.{Value, absent, number, bytes, Field, ◌is◌, shown, order, given}
-use Rattle.replies.specs.Reply.{optional, unless_zero, values, of_heartbeat, of_test_request, of_logon, of_resend_request, of_reject, of_gap_fill, of_logout}
-use Rattle.replies.specs.Promise.{TextOf, Sendable}
+use Rattle.replies.specs.Reply.{if_any, optional, unless_zero, values, of_heartbeat, of_test_request, of_logon, of_resend_request, of_reject, of_gap_fill, of_logout}
+use Rattle.replies.specs.Promise.{IfThere, TextOf, Sendable}
 use Rattle.message.specs.ReadsBack.{ReadsBack}
 use Rattle.message.proofs.ReadBack.{OfBytes, small_bytes, decimal-bytes, reads_back}
 use Rattle.message.proofs.Sizes.{OtherKind, GivenAs, AllAs, all_fine}
@@ -30,6 +31,10 @@ given_bytes ((u is v) ∷ fs) h t = go (eqb u t) (given_bytes fs h.1 t)
     go : (b : Bool) → OfBytes (shown (given fs t)) → OfBytes (shown (cond b v (given fs t)))
     go true k = h.0
     go false k = k
+
+any-bytes : (o : Option Bytes) → IfThere Byted o → OfBytes (shown (if_any o))
+any-bytes none h = tt
+any-bytes (some v) h = h
 
 optional-bytes : (there : Bool) (v : Bytes) → Byted v → OfBytes (shown (optional there v))
 optional-bytes true v h = h
@@ -50,6 +55,10 @@ given_as m ((u is v) ∷ fs) h t = go (eqb u t) refl (given_as m fs h.1 t)
     go : (b : Bool) → eqb u t ≡ b → GivenAs (kind_in (rows_of m) t) (given fs t) → GivenAs (kind_in (rows_of m) t) (cond b v (given fs t))
     go true e k = subst (λ (x : ℕ). GivenAs (kind_in (rows_of m) x) v) (eqb-true u t e) h.0
     go false e k = k
+
+any_as : (k : Kind) → OtherKind k → (o : Option Bytes) → GivenAs k (if_any o)
+any_as k h none = tt
+any_as k h (some v) = h
 
 optional_as : (k : Kind) → OtherKind k → (there : Bool) (v : Bytes) → GivenAs k (optional there v)
 optional_as k o true v = o
@@ -76,12 +85,12 @@ module _ (ours peers : Bytes) (n : ℕ) (stamp : Bytes) (S : Sendable ours peers
   all_bytes : (fs : List Field) → AllOf fs → (t : ℕ) → OfBytes (shown (values ours peers n stamp fs t))
   all_bytes fs h = given_bytes (49 is bytes ours ∷ 56 is bytes peers ∷ 34 is number n ∷ 52 is bytes stamp ∷ fs) (bo, (bp, (decimal-bytes n, (bs, h))))
 
-  pub heartbeat_promised : (there : Bool) (id : Bytes) → (there ≡ true → TextOf 64 id) → Byted id → ReadsBack Heartbeat (of_heartbeat ours peers n stamp (optional there id))
+  pub heartbeat_promised : (id : Option Bytes) → IfThere (TextOf 64) id → IfThere Byted id → ReadsBack Heartbeat (of_heartbeat ours peers n stamp (if_any id))
   unfolding administrative code35 rows_of header fields groups_of №453 №580 №552 kind_of
-  heartbeat_promised there id T b =
-      back Heartbeat refl (of_heartbeat ours peers n stamp (optional there id)) (heartbeat_fit ours peers n stamp S there id T)
-      (all_as Heartbeat (112 is optional there id ∷ []) (optional_as (kind_in (rows_of Heartbeat) 112) (tt {0}) there id, tt) (tt, tt, tt))
-      (all_bytes (112 is optional there id ∷ []) (optional-bytes there id b, tt))
+  heartbeat_promised id T b =
+      back Heartbeat refl (of_heartbeat ours peers n stamp (if_any id)) (heartbeat_fit ours peers n stamp S id T)
+      (all_as Heartbeat (112 is if_any id ∷ []) (any_as (kind_in (rows_of Heartbeat) 112) (tt {0}) id, tt) (tt, tt, tt))
+      (all_bytes (112 is if_any id ∷ []) (any-bytes id b, tt))
 
   pub test_request_promised : (id : Bytes) → TextOf 64 id → Byted id → ReadsBack TestRequest (of_test_request ours peers n stamp id)
   unfolding administrative code35 rows_of header fields groups_of №453 №580 №552 kind_of
@@ -104,14 +113,14 @@ module _ (ours peers : Bytes) (n : ℕ) (stamp : Bytes) (S : Sendable ours peers
       (all_as ResendRequest (7 is number expected ∷ 16 is number 0 ∷ []) (tt, (tt, tt)) (tt, tt, tt))
       (all_bytes (7 is number expected ∷ 16 is number 0 ∷ []) (decimal-bytes expected, (decimal-bytes 0, tt)))
 
-  pub reject_promised : (refused tag : ℕ) (typed : Bool) (kind : Bytes) (why : ℕ) → 1 ≤ refused → refused ≤ 999_999_999 → tag ≤ 999_999_999 → (typed ≡ true → TextOf 2 kind) → Byted kind
-      → why ≤ 999_999_999 → ReadsBack Reject (of_reject ours peers n stamp refused tag (optional typed kind) why)
+  pub reject_promised : (refused tag : ℕ) (kind : Option Bytes) (why : ℕ) → 1 ≤ refused → refused ≤ 999_999_999 → tag ≤ 999_999_999 → IfThere (TextOf 2) kind → IfThere Byted kind
+      → why ≤ 999_999_999 → ReadsBack Reject (of_reject ours peers n stamp refused tag (if_any kind) why)
   unfolding administrative code35 rows_of header fields groups_of №453 №580 №552 kind_of
-  reject_promised refused tag typed kind why low high small T b few =
-      back Reject refl (of_reject ours peers n stamp refused tag (optional typed kind) why) (reject_fit ours peers n stamp S refused tag typed kind why low high small T few)
-      (all_as Reject (45 is number refused ∷ 371 is unless_zero tag ∷ 372 is optional typed kind ∷ 373 is number why ∷ []) (tt, (unless_zero_as (kind_in (rows_of Reject) 371) tag, (optional_as (kind_in (rows_of Reject) 372) (tt {0}) typed kind, (tt, tt)))) (tt, tt, tt))
-      (all_bytes (45 is number refused ∷ 371 is unless_zero tag ∷ 372 is optional typed kind ∷ 373 is number why ∷ [])
-      (decimal-bytes refused, (unless_zero-bytes tag, (optional-bytes typed kind b, (decimal-bytes why, tt)))))
+  reject_promised refused tag kind why low high small T b few =
+      back Reject refl (of_reject ours peers n stamp refused tag (if_any kind) why) (reject_fit ours peers n stamp S refused tag kind why low high small T few)
+      (all_as Reject (45 is number refused ∷ 371 is unless_zero tag ∷ 372 is if_any kind ∷ 373 is number why ∷ []) (tt, (unless_zero_as (kind_in (rows_of Reject) 371) tag, (any_as (kind_in (rows_of Reject) 372) (tt {0}) kind, (tt, tt)))) (tt, tt, tt))
+      (all_bytes (45 is number refused ∷ 371 is unless_zero tag ∷ 372 is if_any kind ∷ 373 is number why ∷ [])
+      (decimal-bytes refused, (unless_zero-bytes tag, (any-bytes kind b, (decimal-bytes why, tt)))))
 
   pub gap_fill_promised : (next : ℕ) → 1 ≤ next → next ≤ 999_999_999 → ReadsBack SequenceReset (of_gap_fill ours peers n stamp next)
   unfolding administrative code35 rows_of header fields groups_of №453 №580 №552 kind_of

@@ -3,6 +3,7 @@ use Prim.Native.Nat.{ℕ, ◌≤◌}
 use native.Mathlib.Omega.{arith}
 use mathlib.Core.Path.{◌≡◌, refl, ◌∙◌}
 use mathlib.Core.List.{[], ◌∷◌}
+use mathlib.Core.Option.{Option, none, some}
 use mathlib.Core.Bool.{Bool, true, false, cond}
 use lib.Dec.{eqb}
 use lib.ListN.{length}
@@ -15,8 +16,8 @@ use Rattle.table.specs.declared.MsgType.TheVariants.{Heartbeat, TestRequest, Res
 use Rattle.table.specs.Dictionary.{№453, №580, №552, header, fields, code35, groups_of, rows_of, listed, kind_in, administrative}
 use Rattle.message.specs.Message.{Value, absent, shown, own, order, valued}
 use Rattle.message.specs.Unfit.{rejected, required, unwritable, unfit}
-use Rattle.replies.specs.Promise.{TextOf, TimeOf, Sendable}
-use Rattle.replies.specs.Reply.{optional, unless_zero, of_heartbeat, of_test_request, of_logon, of_resend_request, of_reject, of_gap_fill, of_logout}
+use Rattle.replies.specs.Promise.{IfThere, TextOf, TimeOf, Sendable}
+use Rattle.replies.specs.Reply.{if_any, optional, unless_zero, of_heartbeat, of_test_request, of_logon, of_resend_request, of_reject, of_gap_fill, of_logout}
 use Rattle.message.proofs.Rows.{plain-decimal, Plain}
 use Rattle.message.proofs.Accepted.{not_rejected, number-formed, number-allowed}
 use Rattle.message.proofs.Writes.{few_digits}
@@ -69,7 +70,15 @@ unfolding rejected rows_of header fields №453 №580 №552 groups_of kind_of 
 version_fit = refl
 
 -- a value that may be absent
+there : {P Q : Bytes → Type 0} (o : Option Bytes) → IfThere P o → ((v : Bytes) → P v → Q v) → IfThere Q o
+there none h f = tt
+there (some v) h f = f v h
+
 module _ (m : MsgType) (t : ℕ) where
+  any_fit : (o : Option Bytes) → required m t ≡ false → IfThere (λ v. rejected m t v ≡ false) o → unwritable m t (shown (if_any o)) ≡ false
+  any_fit none r f = r
+  any_fit (some v) r f = f
+
   optional_fit : (there : Bool) (v : Bytes) → required m t ≡ false → (there ≡ true → rejected m t v ≡ false) → unwritable m t (shown (optional there v)) ≡ false
   optional_fit true v r f = f refl
   optional_fit false v r f = r
@@ -106,11 +115,11 @@ module _ (ours peers : Bytes) (n : ℕ) (stamp : Bytes) (S : Sendable ours peers
         first_sent = time_fit m 122 refl stamp refl S.timed;
       }
 
-  pub heartbeat_fit : (there : Bool) (id : Bytes) → (there ≡ true → TextOf 64 id) → AllFit Heartbeat (of_heartbeat ours peers n stamp (optional there id))
+  pub heartbeat_fit : (id : Option Bytes) → IfThere (TextOf 64) id → AllFit Heartbeat (of_heartbeat ours peers n stamp (if_any id))
   unfolding order own required rows_of header fields №453 №580 №552 groups_of kind_of administrative code35
-  heartbeat_fit there id T =
+  heartbeat_fit id T =
       let H = in_header Heartbeat refl in
-      rw (H.from, H.target, H.seq, H.sent, optional_fit Heartbeat 112 there id refl (λ e. text_fit Heartbeat 112 refl 64 64 id refl (T e) (omega arith)))
+      rw (H.from, H.target, H.seq, H.sent, any_fit Heartbeat 112 id refl (there id T (λ v F. text_fit Heartbeat 112 refl 64 64 v refl F (omega arith))))
 
   pub test_request_fit : (id : Bytes) → TextOf 64 id → AllFit TestRequest (of_test_request ours peers n stamp id)
   unfolding order own required rows_of header fields №453 №580 №552 groups_of kind_of administrative code35
@@ -132,13 +141,13 @@ module _ (ours peers : Bytes) (n : ℕ) (stamp : Bytes) (S : Sendable ours peers
       rw
       (H.from, H.target, H.seq, H.sent, number_fit ResendRequest 7 refl 1 999_999_999 expected refl low high (omega arith), number_fit ResendRequest 16 refl 0 999_999_999 0 refl (omega arith) (omega arith) (omega arith))
 
-  pub reject_fit : (refused tag : ℕ) (typed : Bool) (kind : Bytes) (why : ℕ) → 1 ≤ refused → refused ≤ 999_999_999 → tag ≤ 999_999_999 → (typed ≡ true → TextOf 2 kind) → why ≤ 999_999_999
-      → AllFit Reject (of_reject ours peers n stamp refused tag (optional typed kind) why)
+  pub reject_fit : (refused tag : ℕ) (kind : Option Bytes) (why : ℕ) → 1 ≤ refused → refused ≤ 999_999_999 → tag ≤ 999_999_999 → IfThere (TextOf 2) kind → why ≤ 999_999_999
+      → AllFit Reject (of_reject ours peers n stamp refused tag (if_any kind) why)
   unfolding order own required rows_of header fields №453 №580 №552 groups_of kind_of administrative code35
-  reject_fit refused tag typed kind why low high small T few =
+  reject_fit refused tag kind why low high small T few =
       let H = in_header Reject refl in
       rw
-      (H.from, H.target, H.seq, H.sent, number_fit Reject 45 refl 1 999_999_999 refused refl low high (omega arith), unless_zero_fit Reject 371 tag refl (number_fit Reject 371 refl 0 999_999_999 tag refl (omega arith) small (omega arith)), optional_fit Reject 372 typed kind refl (λ e. text_fit Reject 372 refl 32 2 kind refl (T e) (omega arith)), number_fit Reject 373 refl 0 999_999_999 why refl (omega arith) few (omega arith))
+      (H.from, H.target, H.seq, H.sent, number_fit Reject 45 refl 1 999_999_999 refused refl low high (omega arith), unless_zero_fit Reject 371 tag refl (number_fit Reject 371 refl 0 999_999_999 tag refl (omega arith) small (omega arith)), any_fit Reject 372 kind refl (there kind T (λ v F. text_fit Reject 372 refl 32 2 v refl F (omega arith))), number_fit Reject 373 refl 0 999_999_999 why refl (omega arith) few (omega arith))
 
   pub gap_fill_fit : (next : ℕ) → 1 ≤ next → next ≤ 999_999_999 → AllFit SequenceReset (of_gap_fill ours peers n stamp next)
   unfolding order own required rows_of header fields №453 №580 №552 groups_of kind_of administrative code35

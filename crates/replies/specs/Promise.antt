@@ -1,6 +1,7 @@
 -- What is promised of the seven replies: what a session sends is put, and reads back; messages one behind the other are read as just these. All of it is the
 -- record `Promise` at the end.
 use Rattle.std.specs.Prelude.{ℕ, ◌+◌, ◌≤◌, ◌≡◌, List, Bool, true, false, ◌&&◌, length}
+use Rattle.std.proofs.Math.Option.{Option, none, some}
 use Rattle.octets.specs.Bytes.{Bytes, byte, fix, has, Byted}
 use Rattle.frame.specs.Frame.{fixt}
 use Rattle.frame.specs.Stream.{Frames, joined}
@@ -10,8 +11,13 @@ use Rattle.table.specs.declared.MsgType.TheVariants.{Heartbeat, TestRequest, Res
 use Rattle.message.specs.Message.{Value}
 use Rattle.message.specs.ReadsBack.{ReadsBack}
 use Rattle.message.specs.Whole.{AllGood}
-use Rattle.replies.specs.Reply.{optional, of_heartbeat, of_test_request, of_logon, of_resend_request, of_reject, of_gap_fill, of_logout}
-use Rattle.replies.specs.Replied.{reply_room, nine_digits, sendable, echoable, rejectable}
+use Rattle.replies.specs.Reply.{if_any, optional, of_heartbeat, of_test_request, of_logon, of_resend_request, of_reject, of_gap_fill, of_logout}
+use Rattle.replies.specs.Replied.{reply_room, nine_digits, sendable, at_most, rejectable}
+
+-- what holds of bytes that may be absent, where they are there
+abbrev pub IfThere : (Bytes → Type 0) → Option Bytes → Type 0
+IfThere P none = Unit {0}
+IfThere P (some v) = P v
 
 -- 1 to l bytes, none `|`
 pub record TextOf (l : ℕ) (v : Bytes) : Type 0 where
@@ -42,12 +48,12 @@ module _ (ours peers : Bytes) (n : ℕ) (stamp : Bytes) where
 
   -- each of the seven, with its own values
   pub record Replies : Type 0 where
-    pub heartbeat : (there : Bool) (id : Bytes) → (there ≡ true → TextOf 64 id) → length id ≤ 64 → Byted id → Sent (echoable id) Heartbeat (of_heartbeat ours peers n stamp (optional there id))
-    pub test_request : (id : Bytes) → TextOf 64 id → Byted id → Sent (echoable id) TestRequest (of_test_request ours peers n stamp id)
+    pub heartbeat : (id : Option Bytes) → IfThere (TextOf 64) id → IfThere Byted id → Sent (at_most 64 id) Heartbeat (of_heartbeat ours peers n stamp (if_any id))
+    pub test_request : (id : Bytes) → TextOf 64 id → Byted id → Sent (at_most 64 (some id)) TestRequest (of_test_request ours peers n stamp id)
     pub logon : (seconds : ℕ) (reset : Bool) → 1 ≤ seconds → seconds ≤ 60 → Sent (nine_digits seconds) Logon (of_logon ours peers n stamp seconds (optional reset (fix "Y")))
     pub resend_request : (expected : ℕ) → 1 ≤ expected → expected ≤ 999_999_999 → Sent (nine_digits expected) ResendRequest (of_resend_request ours peers n stamp expected)
-    pub reject : (refused tag : ℕ) (typed : Bool) (kind : Bytes) (why : ℕ) → 1 ≤ refused → refused ≤ 999_999_999 → tag ≤ 999_999_999 → (typed ≡ true → TextOf 2 kind) → length kind ≤ 2
-        → Byted kind → why ≤ 999_999_999 → Sent (rejectable refused tag kind why) Reject (of_reject ours peers n stamp refused tag (optional typed kind) why)
+    pub reject : (refused tag : ℕ) (kind : Option Bytes) (why : ℕ) → 1 ≤ refused → refused ≤ 999_999_999 → tag ≤ 999_999_999 → IfThere (TextOf 2) kind → IfThere Byted kind
+        → why ≤ 999_999_999 → Sent (rejectable refused tag kind why) Reject (of_reject ours peers n stamp refused tag (if_any kind) why)
     pub gap_filled : (next : ℕ) → 1 ≤ next → next ≤ 999_999_999 → Sent (nine_digits next) SequenceReset (of_gap_fill ours peers n stamp next)
     pub logout : (status : ℕ) → status ≤ 999_999_999 → Sent (nine_digits status) Logout (of_logout ours peers n stamp status)
 

@@ -1,10 +1,23 @@
 -- The replies of a session: which values each of them has. "Replies carry nothing else."
+use Rattle.std.specs.Prelude as Lent
+use Rattle.std.specs.Prelude.{Some, None}
+use Rattle.std.specs.Borrow.{Bor}
 use Rattle.std.specs.Prelude.{ℕ, List, [], ◌∷◌, Bool, cond, eqb}
+use Rattle.std.proofs.Math.Option.{Option, none, some}
 use Rattle.octets.specs.Bytes.{Bytes, fix}
 use Rattle.table.specs.declared.MsgType.TheVariants.{Heartbeat, TestRequest, ResendRequest, Reject, SequenceReset, Logout, Logon}
 use Rattle.message.specs.Message.{Value, absent, number, bytes, Field, ◌is◌, written, given}
 
+-- bytes that the caller lends, or none
+abbrev pub held : Lent.Option (Bor Bytes) → Option Bytes
+held (Some v) = some v.now
+held None = none
+
 -- bytes that are there, or not
+abbrev pub if_any : Option Bytes → Value
+if_any none = absent
+if_any (some v) = bytes v
+
 abbrev pub optional : Bool → Bytes → Value
 optional there v = cond there (bytes v) absent
 

@@ -15,18 +15,19 @@ use Rattle.fields.specs.Field.{first_field}
 use Rattle.octets.proofs.Decimals.{decimal-worth}
 use Rattle.table.specs.declared.MsgType.{MsgType}
 use Rattle.table.specs.Dictionary.{code35}
-use Rattle.message.specs.Message.{Value, absent, number, bytes, shown, row, message, written}
+use Rattle.message.specs.Message.{Value, number, bytes, shown, row, message, written}
 use Rattle.writer.specs.Tags.{tags, numeric}
-use Rattle.writer.specs.Call.{place_in, value_in, refused8, admin, Outcome, refusing, writing, fitted, write_as, write, numbers}
+use Rattle.std.specs.Prelude as Given
+use Rattle.std.specs.Prelude.{Some, None}
+use Rattle.writer.specs.declared.Given.{Given}
+use Rattle.writer.specs.Call.{Values, place_in, value_for, value_in, refused8, admin, Unfit, Short, Outcome, refusing, writing, fitted, write_as, write, numbers}
 use Rattle.message.specs.Message.{part}
 use Rattle.message.specs.ReadsBack.{ReadsBack}
 use Rattle.writer.specs.Promise.{MessageOf, Ends, another_type, unfit_value, short_buffer, whole}
-use Rattle.writer.specs.declared.Values.{Values}
-use Rattle.writer.specs.declared.Written.TheVariants.{Unfit, Short}
 use Rattle.message.proofs.Wholes.{bytes_take, framed_one}
 use Rattle.message.proofs.ReadBack.{OfBytes, decimal-bytes, reads_back}
 use Rattle.writer.proofs.Tagged.{order_fine, values_back}
-use Rattle.writer.proofs.Given.{as_numbers}
+use Rattle.writer.proofs.Numbers.{as_numbers}
 use Rattle.writer.proofs.Named.{named_by}
 
 -- VALUES OF BYTES
@@ -44,15 +45,15 @@ part_bytes s a e h = go (leb a e && leb e (length s))
 
 value-bytes : (vs : Values) (s : Bytes) → Byted s → (t : ℕ) → OfBytes (shown (value_in vs s t))
 unfolding value_in
-value-bytes vs s h t = go (get_or vs.given k false) (numeric t)
+value-bytes vs s h t = go (get_or vs (place_in tags t) None)
   where
-    k : ℕ
-    k = place_in tags t
+    by : (g : Given) (n : Bool) → OfBytes (shown (cond n (number g.a) (bytes (part s g.a g.b))))
+    by g true = decimal-bytes g.a
+    by g false = part_bytes s g.a g.b h
 
-    go : (g n : Bool) → OfBytes (shown (cond g (cond n (number (get_or vs.numbers k 0)) (bytes (part s (get_or vs.starts k 0) (get_or vs.ends k 0)))) absent))
-    go true true = decimal-bytes (get_or vs.numbers k 0)
-    go true false = part_bytes s (get_or vs.starts k 0) (get_or vs.ends k 0) h
-    go false n = tt
+    go : (o : Given.Option Given) → OfBytes (shown (value_for s t o))
+    go (Some g) = by g (numeric t)
+    go None = tt
 
 -- THE WRITER CALL
 module _ (type : Bytes) (vs : Values) (s d : Bytes) where
@@ -112,32 +113,22 @@ module _ (type : Bytes) (vs : Values) (s d : Bytes) where
 -- a value of a call is told by its bytes, since its tag says whether it is a number
 pub same-shown : (t : ℕ) (vs ws : Values) (s r : Bytes) → shown (value_in vs s t) ≡ shown (value_in ws r t) → value_in vs s t ≡ value_in ws r t
 unfolding value_in
-same-shown t vs ws s r = go (get_or vs.given k false) (get_or ws.given k false) (numeric t)
+same-shown t vs ws s r = go (get_or vs (place_in tags t) None) (get_or ws (place_in tags t) None)
   where
-    k : ℕ
-    k = place_in tags t
+    both : (g h : Given) (n : Bool) → shown (cond n (number g.a) (bytes (part s g.a g.b))) ≡ shown (cond n (number h.a) (bytes (part r h.a h.b)))
+        → cond n (number g.a) (bytes (part s g.a g.b)) ≡ cond n (number h.a) (bytes (part r h.a h.b))
+    both g h true e = let q : decimal g.a ≡ decimal h.a = cc in ap number (sym (decimal-worth g.a) ∙ ap value q ∙ decimal-worth h.a)
+    both g h false e = let q : part s g.a g.b ≡ part r h.a h.b = cc in ap bytes q
 
-    n : ℕ
-    n = get_or vs.numbers k 0
+    one : (l : Bytes) (g : Given) (n : Bool) → shown (cond n (number g.a) (bytes (part l g.a g.b))) ≡ none → ⊥
+    one l g true e = let z : ◌≡◌ {A = ℕ} 0 1 = cc in omega (arith, z)
+    one l g false e = let z : ◌≡◌ {A = ℕ} 0 1 = cc in omega (arith, z)
 
-    n' : ℕ
-    n' = get_or ws.numbers k 0
-
-    v : Bytes
-    v = part s (get_or vs.starts k 0) (get_or vs.ends k 0)
-
-    v' : Bytes
-    v' = part r (get_or ws.starts k 0) (get_or ws.ends k 0)
-
-    go : (g h m : Bool) → shown (cond g (cond m (number n) (bytes v)) absent) ≡ shown (cond h (cond m (number n') (bytes v')) absent)
-        → cond g (cond m (number n) (bytes v)) absent ≡ cond h (cond m (number n') (bytes v')) absent
-    go true true true e = let q : decimal n ≡ decimal n' = cc in ap number (sym (decimal-worth n) ∙ ap value q ∙ decimal-worth n')
-    go true true false e = let q : v ≡ v' = cc in ap bytes q
-    go true false true e = let z : ◌≡◌ {A = ℕ} 0 1 = cc in absurd (omega arith)
-    go true false false e = let z : ◌≡◌ {A = ℕ} 0 1 = cc in absurd (omega arith)
-    go false true true e = let z : ◌≡◌ {A = ℕ} 0 1 = cc in absurd (omega arith)
-    go false true false e = let z : ◌≡◌ {A = ℕ} 0 1 = cc in absurd (omega arith)
-    go false false m e = refl
+    go : (g h : Given.Option Given) → shown (value_for s t g) ≡ shown (value_for r t h) → value_for s t g ≡ value_for r t h
+    go (Some g) (Some h) e = both g h (numeric t) e
+    go (Some g) None e = absurd (one s g (numeric t) e)
+    go None (Some h) e = absurd (one r h (numeric t) (sym e))
+    go None None e = refl
 
 -- messages that read back and have the same bytes
 pub same_read : {m m' : MsgType} {vs ws : ℕ → Value} (A : ReadsBack m vs) (B : ReadsBack m' ws) → written m vs ≡ written m' ws

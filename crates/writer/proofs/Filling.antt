@@ -18,18 +18,20 @@ use Rattle.table.specs.declared.MsgType.{MsgType}
 use Rattle.table.specs.Dictionary.{№453, №580, №552, header, fields, code35, groups_of, rows_of, listed, kind_in, administrative}
 use Rattle.table.specs.code.Held.{agree}
 use Rattle.table.proofs.Lists.{agree_true}
-use Rattle.message.specs.Message.{Value, absent, number, bytes, Field, ◌is◌, own, order, field, row, valued}
+use Rattle.message.specs.Message.{Value, number, bytes, Field, ◌is◌, own, order, field, row, valued}
 use Rattle.writer.specs.Tags.{tags, is_numeric, numeric}
-use Rattle.writer.specs.Call.{place_in, value_at, value_in, refused8}
+use Rattle.std.specs.Prelude as Given
+use Rattle.std.specs.Prelude.{Some, None}
+use Rattle.writer.specs.declared.Given.{Given}
+use Rattle.writer.specs.declared.slots.TheConstants.{SLOTS}
+use Rattle.writer.specs.Call.{Values, place_in, value_for, value_in, refused8}
 use Rattle.message.specs.Message.{part}
 use Rattle.message.specs.Unfit.{required, unfit}
 use Rattle.message.specs.Wrote.{Wrote}
-use Rattle.writer.specs.declared.Values.{Values}
 use Rattle.writer.specs.declared.types.Marks.{Marks}
 use Rattle.writer.specs.declared.types.Slot.{Slot}
 use Rattle.writer.specs.declared.types.Entry.{Entry}
-use Rattle.writer.specs.declared.types.Put.{Put}
-use Rattle.writer.specs.code.Held.{bit_of, tag_at, Marked, seven_rows, Slots, Holds, value_of, nine_digits, PutOne}
+use Rattle.writer.specs.code.Held.{bit_of, tag_at, Marked, seven_rows, Holds, value_by, value_of, nine_digits, PutOne, PutAll}
 use Rattle.message.specs.code.Writable.{most, as_read}
 use Rattle.message.proofs.Writes.{more, reword}
 use Rattle.message.proofs.Seven.{each}
@@ -101,28 +103,32 @@ kind_own m a t h l = map_same (kind_in seven_rows) (kind_in (rows_of m)) (order 
 abbrev pub no_slot : Slot
 no_slot = record { 0 = 0; 1 = Text 0 }
 
-abbrev pub entry_at : List Slot → Bool → Bool → Values → ℕ → Entry
-entry_at table o n values k =
-    record {
-      tag = (get_or table k no_slot).0;
-      kind = (get_or table k no_slot).1;
-      own = o;
-      needed = n;
-      given = get_or values.given k false;
-      number = get_or values.numbers k 0;
-      start = get_or values.starts k 0;
-      end = get_or values.ends k 0;
-    }
+abbrev pub slot_at : ℕ → Slot
+slot_at k = get_or SLOTS k no_slot
 
-module _ (table : List Slot) (S : Slots table) (k : ℕ) (h : k < 21) where
-  slot_tag : (get_or table k no_slot).0 ≡ tag_at k
-  slot_tag = sym (get_or-map (λ (s : Slot). s.0) table k no_slot) ∙ ap (λ (l : List ℕ). get_or l k 0) S.tags_are
+pub many_slots : length SLOTS ≡ 21
+many_slots = refl
 
-  slot_kind : meaning (get_or table k no_slot).1 ≡ kind_in seven_rows (tag_at k)
+abbrev pub entry_at : Bool → Bool → Values → ℕ → Entry
+entry_at o n values k = record { tag = (slot_at k).0; kind = (slot_at k).1; own = o; needed = n; value = get_or values k None }
+
+tags_are : map (λ (s : Slot). s.0) SLOTS ≡ tags
+unfolding tags
+tags_are = refl
+
+kinds_are : map (λ (s : Slot). meaning s.1) SLOTS ≡ map (kind_in seven_rows) tags
+unfolding tags seven_rows header fields kind_of
+kinds_are = refl
+
+module _ (k : ℕ) (h : k < 21) where
+  slot_tag : (slot_at k).0 ≡ tag_at k
+  slot_tag = sym (get_or-map (λ (s : Slot). s.0) SLOTS k no_slot) ∙ ap (λ (l : List ℕ). get_or l k 0) tags_are
+
+  slot_kind : meaning (slot_at k).1 ≡ kind_in seven_rows (tag_at k)
   slot_kind =
-      sym (get_or-map (λ (s : Slot). meaning s.1) table k no_slot) ∙ ap (λ (l : List Kind). get_or l k (meaning (Text 0))) S.kinds_are ∙ map_at (kind_in seven_rows) 0 (meaning (Text 0)) tags k (omega (arith, many_tags))
+      sym (get_or-map (λ (s : Slot). meaning s.1) SLOTS k no_slot) ∙ ap (λ (l : List Kind). get_or l k (meaning (Text 0))) kinds_are ∙ map_at (kind_in seven_rows) 0 (meaning (Text 0)) tags k (omega (arith, many_tags))
 
-  pub slot_bounds : ((get_or table k no_slot).0 < 100_000) × (most as_read (meaning (get_or table k no_slot).1) ≤ 256) × (nine_digits (meaning (get_or table k no_slot).1) ≡ true)
+  pub slot_bounds : ((slot_at k).0 < 100_000) × (most as_read (meaning (slot_at k).1) ≤ 256) × (nine_digits (meaning (slot_at k).1) ≡ true)
   slot_bounds = (
     subst (λ (t : ℕ). t < 100_000) (sym slot_tag) (sound_at_lem k h).tag_small,
     subst (λ (x : Kind). most as_read x ≤ 256) (sym slot_kind) (sound_at_lem k h).value_short,
@@ -131,7 +137,7 @@ module _ (table : List Slot) (S : Slots table) (k : ℕ) (h : k < 21) where
 
   module _ (values : Values) (s : Bytes) (marks : Marks) (o n : Bool) (eo : o ≡ bit_of marks.own k) (en : n ≡ bit_of marks.needed k) where
     abbrev pub entry : Entry
-    entry = entry_at table o n values k
+    entry = entry_at o n values k
 
     holds : (m : MsgType) → administrative m ≡ true → Marked m marks → Holds m entry
     holds m a M =
@@ -145,24 +151,23 @@ module _ (table : List Slot) (S : Slots table) (k : ℕ) (h : k < 21) where
 
     value_is : value_of entry s ≡ value_in values s (tag_at k)
     unfolding value_in
-    value_is =
-        let i = ap is_numeric slot_kind ∙ sym (sound_at_lem k h).numbered in
-        ap
-        (λ (b : Bool). cond (get_or values.given k false)
-        (cond b (number (get_or values.numbers k 0)) (bytes (part s (get_or values.starts k 0) (get_or values.ends k 0)))) absent) i
-        ∙ ap (value_at values s (tag_at k)) (sym (sound_at_lem k h).placed)
+    value_is = by (get_or values k None) ∙ ap (λ (j : ℕ). value_for s (tag_at k) (get_or values j None)) (sym (sound_at_lem k h).placed)
+      where
+        by : (v : Given.Option Given) → value_by (meaning entry.kind) s v ≡ value_for s (tag_at k) v
+        by None = refl
+        by (Some g) = ap (λ (b : Bool). cond b (number g.a) (bytes (part s g.a g.b))) (ap is_numeric slot_kind ∙ sym (sound_at_lem k h).numbered)
 
     -- what was put for the entry was put for the value of its tag
-    pub put_here : (d d' : Bytes) (at : ℕ) (r : Put) → ((m : MsgType) → Holds m entry → PutOne m entry.tag (value_of entry s) d d' at r)
+    pub put_here : (d d' : Bytes) (at : ℕ) (r : Given.Option ℕ) → ((m : MsgType) → Holds m entry → PutOne m entry.tag (value_of entry s) d d' at r)
         → (m : MsgType) → administrative m ≡ true → Marked m marks → PutOne m (tag_at k) (value_in values s (tag_at k)) d d' at r
     put_here d d' at r P m a M =
         subst (λ (t : ℕ). PutOne m t (value_in values s (tag_at k)) d d' at r) slot_tag
         (subst (λ (v : Value). PutOne m entry.tag v d d' at r) value_is (P m (holds m a M)))
 
 -- the answer by its case
-pub told : {r r' : Put} → r ≡ r' → (t : ℕ) (v : Value) (d d' : Bytes) (at : ℕ) (marks : Marks) → ((m : MsgType) → administrative m ≡ true → Marked m marks → PutOne m t v d d' at r)
+pub told : {r r' : Given.Option ℕ} → r ≡ r' → (t : ℕ) (v : Value) (d d' : Bytes) (at : ℕ) (marks : Marks) → ((m : MsgType) → administrative m ≡ true → Marked m marks → PutOne m t v d d' at r)
     → (m : MsgType) → administrative m ≡ true → Marked m marks → PutOne m t v d d' at r'
-told e t v d d' at marks P m a M = subst (λ (x : Put). PutOne m t v d d' at x) e (P m a M)
+told e t v d d' at marks P m a M = subst (λ (x : Given.Option ℕ). PutOne m t v d d' at x) e (P m a M)
 
 -- UP TO A PLACE
 valued-append : (vs : ℕ → Value) (ts us : List ℕ) → valued vs (ts ++ us) ≡ valued vs ts ++ valued vs us
@@ -198,6 +203,9 @@ any_there m vs (t ∷ ts) u h e = go (eqb t u) refl h (λ k. any_there m vs ts u
 pub unfit-here : (m : MsgType) (vs : ℕ → Value) (k : ℕ) → k < 21 → unfit m (tag_at k is vs (tag_at k)) ≡ true → refused8 m vs ≡ true
 unfolding refused8
 unfit-here m vs k h e = any_there m vs tags (tag_at k) (sound_at_lem k h).among e
+
+pub refused_put : (m : MsgType) (vs : ℕ → Value) (d d' : Bytes) (at : ℕ) {r : Given.Option ℕ} → r ≡ None → refused8 m vs ≡ true → PutAll m vs d d' at r
+refused_put m vs d d' at e f = subst (λ (x : Given.Option ℕ). PutAll m vs d d' at x) (sym e) f
 
 -- all of them
 pub all_put : (k : ℕ) → 21 ≤ k → take k tags ≡ tags

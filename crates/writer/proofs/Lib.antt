@@ -5,7 +5,7 @@ pub mod Fitness
 pub mod Entries
 pub mod Filling
 pub mod Calls
-pub mod Given
+pub mod Numbers
 pub mod Endings
 pub mod Promise
 pub mod OneOutcome

@@ -2,51 +2,37 @@
 use Prim.Native.Nat.{ℕ}
 use native.Mathlib.Omega.{arith}
 use mathlib.Core.Path.{◌≡◌, refl, sym, ap, ◌∙◌}
-use mathlib.Core.List.{[], ◌∷◌}
 use mathlib.Core.Bool.{Bool, true, false, cond, ◌&&◌}
 use mathlib.Core.Option.{Option, none, some}
-use lib.Dec.{eqb}
-use lib.ListN.{length, get_or}
-use borrow.Author.Tests.{ne_eqb}
-use Rattle.octets.specs.Bytes.{Bytes, fix, same}
+use Rattle.octets.specs.Bytes.{Bytes}
 use Rattle.octets.proofs.Tests.{both, all_below, at_below}
-use Rattle.kinds.proofs.Values.{same-long}
 use Rattle.table.specs.declared.MsgType.{MsgType}
-use Rattle.table.specs.declared.MsgType.TheVariants.{OrderCancelRequest, TradeCaptureReportRequest, TradeCaptureReport}
-use Rattle.table.specs.Dictionary.{code35, the_ten, type_among, type_of, rows_of, listed, administrative}
+use Rattle.table.specs.Dictionary.{code35, the_ten, type_among, type_of, named, type_is, rows_of, listed, administrative}
 use Rattle.table.specs.code.Held.{agree}
 use Rattle.table.proofs.Lists.{agree_true}
-use Rattle.dictionary.proofs.Types.{one_byte, type_coded}
+use Rattle.table.proofs.Types.{type_coded, named_is}
+use Rattle.std.specs.Prelude as Given
+use Rattle.std.specs.Bool.{then_some}
 use Rattle.writer.specs.Call.{if_administrative, admin}
 use Rattle.message.specs.Unfit.{required}
-use Rattle.writer.specs.declared.types.Admin.TheVariants.{Is, Other}
+use Rattle.std.specs.Prelude.{Some, None}
 use Rattle.writer.specs.declared.types.Marks.{Marks}
-use Rattle.writer.specs.code.Held.{type_in, bit_of, tag_at, Marked}
+use Rattle.writer.specs.code.Held.{bit_of, tag_at, Marked}
 
 -- THE TYPE
--- one of the others is none of the seven
-application : (b : Bool) (m : MsgType) (o : Option MsgType) → administrative m ≡ false → if_administrative o ≡ none → if_administrative (cond b (some m) o) ≡ none
-application true m o a e = rw a
-application false m o a e = e
+-- none of the ten
+pub type_none : (v : Bytes) {r : Given.Option MsgType} → r ≡ named (type_of v) → r ≡ None → {x : Given.Option MsgType} → x ≡ None → type_is x ≡ admin v
+unfolding admin
+type_none v e q x = ap type_is x ∙ ap if_administrative (sym (ap type_is q) ∙ ap type_is e ∙ named_is (type_of v))
 
-pub typed : (v : Bytes) → length v ≡ 1 → (x : ℕ) (m : MsgType) → admin (x ∷ []) ≡ some m → get_or v 0 0 ≡ x → type_in (Is m) ≡ admin v
-typed v one x m a e = sym (ap admin (sym (one_byte v one) ∙ ap (λ (z : ℕ). z ∷ []) e) ∙ a)
-
-pub type_other : (v : Bytes) → length v ≡ 1 → (get_or v 0 0 ≡ 48 → ⊥) → (get_or v 0 0 ≡ 49 → ⊥) → (get_or v 0 0 ≡ 50 → ⊥) → (get_or v 0 0 ≡ 51 → ⊥) → (get_or v 0 0 ≡ 52 → ⊥)
-    → (get_or v 0 0 ≡ 53 → ⊥) → (get_or v 0 0 ≡ 65 → ⊥) → type_in Other ≡ admin v
-unfolding admin type_of code35 administrative
-type_other v one a b c d e f g =
-    sym
-    (ap admin (sym (one_byte v one))
-    ∙ rw (ne_eqb _ 48 a, ne_eqb _ 49 b, ne_eqb _ 50 c, ne_eqb _ 51 d, ne_eqb _ 52 e, ne_eqb _ 53 f, ne_eqb _ 65 g)
-    (application (eqb (get_or v 0 0) 70 && true) OrderCancelRequest none refl refl))
-
-pub type_long : (v : Bytes) → (length v ≡ 1 → ⊥) → type_in Other ≡ admin v
-unfolding admin type_of code35 administrative
-type_long v n =
-    sym
-    (rw (same-long v (fix "0") n, same-long v (fix "1") n, same-long v (fix "2") n, same-long v (fix "3") n, same-long v (fix "4") n, same-long v (fix "5") n, same-long v (fix "A") n, same-long v (fix "F") n)
-    (application (same v (fix "AD")) TradeCaptureReportRequest _ refl (application (same v (fix "AE")) TradeCaptureReport none refl refl)))
+-- one of the ten
+pub type_some : (v : Bytes) {r : Given.Option MsgType} (m : MsgType) → r ≡ named (type_of v) → r ≡ Some m → {b : Bool} → b ≡ administrative m → type_is (then_some b m) ≡ admin v
+unfolding admin
+type_some v m e q f = ap (λ (b : Bool). type_is (then_some b m)) f ∙ go (administrative m) refl ∙ ap if_administrative (sym (ap type_is q) ∙ ap type_is e ∙ named_is (type_of v))
+  where
+    go : (b : Bool) → administrative m ≡ b → type_is (then_some b m) ≡ if_administrative (some m)
+    go true a = rw a
+    go false a = rw a
 
 -- the type's bytes are the code of the message, which is one of the seven
 pub record Named (m : MsgType) (v : Bytes) : Type 0 where

@@ -6,10 +6,8 @@ use mathlib.Core.Option.{none}
 use lib.ListN.{take}
 use Rattle.octets.specs.Bytes.{Bytes, Byted}
 use Rattle.fields.specs.Field.{first_field}
-use Rattle.writer.specs.Call.{Outcome, Writes, numbers}
+use Rattle.writer.specs.Call.{Values, Written, Outcome, Writes, numbers}
 use Rattle.writer.specs.Promise.{Ends, CallPromise, SameGiven, Promise}
-use Rattle.writer.specs.declared.Values.{Values}
-use Rattle.writer.specs.declared.Written.{Written}
 use Rattle.writer.proofs.Endings.{ends, refusal_8_or_9, refusal_keeps, message_promised, same-shown, same_read}
 
 call : (type : Bytes) (vs : Values) (text buf : Bytes) (answer : Written) (after : Bytes) → Byted text → Writes type vs text buf answer after → CallPromise type vs text buf answer after

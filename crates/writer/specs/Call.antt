@@ -1,5 +1,6 @@
 -- The writer call: "the values of one of the seven administrative messages" in, refusal 8, refusal 9 or the message out.
-use Rattle.std.specs.Prelude.{ℕ, suc, ◌≡◌, List, [], ◌∷◌, ◌++◌, Bool, false, cond, eqb, ltb, length, drop, get_or}
+use Rattle.std.specs.Prelude as Given
+use Rattle.std.specs.Prelude.{ℕ, suc, ◌≡◌, List, [], ◌∷◌, ◌++◌, Bool, cond, eqb, ltb, length, drop, get_or, Result, Ok, Err, Some, None}
 use Rattle.std.proofs.Math.Option.{Option, none, some}
 use Rattle.octets.specs.Bytes.{Bytes, any}
 use Rattle.table.specs.declared.MsgType.{MsgType}
@@ -7,24 +8,24 @@ use Rattle.table.specs.Dictionary.{type_of, administrative}
 use Rattle.message.specs.Message.{Value, absent, number, bytes, valued, written, part}
 use Rattle.message.specs.Unfit.{unfit}
 use Rattle.writer.specs.Tags.{tags, numeric}
-use Rattle.writer.specs.declared.Values.{Values}
-use Rattle.writer.specs.declared.Written.{Written}
-use Rattle.writer.specs.declared.Written.TheVariants.{Message, Unfit, Short}
+use Rattle.writer.specs.declared.Given.{Given}
+use Rattle.writer.specs.declared.Unwritten.{Unwritten}
 
--- THE VALUES. Each tag has its place in the arrays of `Values`; bytes lie in the text beside them (`part` of message).
+-- THE VALUES, each given or not. Each tag has its place among them; bytes lie in the text beside them (`part` of message).
+abbrev pub Values : Type 0
+Values = List (Given.Option Given)
+
 abbrev pub place_in : List ℕ → ℕ → ℕ
 place_in [] t = 0
 place_in (u ∷ us) t = let later = suc (place_in us t) in cond (eqb u t) 0 later
 
-abbrev pub value_at : Values → Bytes → ℕ → ℕ → Value
-value_at vs text t k =
-    cond (get_or vs.given k false)
-    (cond (numeric t) (number (get_or vs.numbers k 0)) (bytes (part text (get_or vs.starts k 0) (get_or vs.ends k 0))))
-    absent
+abbrev pub value_for : Bytes → ℕ → Given.Option Given → Value
+value_for text t None = absent
+value_for text t (Some g) = cond (numeric t) (number g.a) (bytes (part text g.a g.b))
 
 -- the value for a tag
 unfoldable pub value_in : Values → Bytes → ℕ → Value
-value_in vs text t = value_at vs text t (place_in tags t)
+value_in vs text t = value_for text t (get_or vs (place_in tags t) None)
 
 -- REFUSAL 8: "a value to write that the dictionary would reject, a required one absent, another type"
 -- one of the values of a call is unfit (specs/Unfit.antt of message)
@@ -40,6 +41,18 @@ unfoldable pub admin : Bytes → Option MsgType
 admin type = if_administrative (type_of type)
 
 -- THE CALL, with all that it leaves. "Writer: 8, 9."
+abbrev pub Written : Type 0
+Written = Result ℕ Unwritten
+
+abbrev pub Message : ℕ → Written
+Message len = Ok len
+
+abbrev pub Unfit : Written
+Unfit = Err Unwritten.Unfit
+
+abbrev pub Short : Written
+Short = Err Unwritten.Short
+
 pub record Outcome : Type 0 where
   pub answer : Written
   pub buffer : Bytes
@@ -69,6 +82,6 @@ Writes type vs text buf answer after = record { answer = answer; buffer = after 
 
 -- this paper's number of the refusal, if it is one, and the values of each case: of a message its length
 abbrev pub numbers : Written → Option ℕ × List ℕ
-numbers (Message len) = (none, len ∷ [])
-numbers Unfit = (some 8, [])
-numbers Short = (some 9, [])
+numbers (Ok len) = (none, len ∷ [])
+numbers (Err Unwritten.Unfit) = (some 8, [])
+numbers (Err Unwritten.Short) = (some 9, [])

@@ -1,11 +1,11 @@
 -- Worked messages and calls of the writer: a Heartbeat from GW to MM, number 2, at half past nine, and cases near it.
-use Rattle.std.specs.Prelude.{ℕ, ◌≡◌, List, [], ◌∷◌, ◌++◌, true, false, replicate}
+use Rattle.std.specs.Prelude as Given
+use Rattle.std.specs.Prelude.{ℕ, ◌≡◌, List, [], ◌∷◌, ◌++◌, replicate, Some, None}
 use Rattle.octets.specs.Bytes.{Bytes, fix}
 use Rattle.table.specs.declared.MsgType.TheVariants.{Heartbeat, ResendRequest, Reject}
 use Rattle.message.specs.Message.{Value, number, bytes, Field, ◌is◌, row, message, written, given}
-use Rattle.writer.specs.Call.{refusing, fitted, write}
-use Rattle.writer.specs.declared.Values.{Values}
-use Rattle.writer.specs.declared.Written.TheVariants.{Unfit, Short}
+use Rattle.writer.specs.Call.{Values, Unfit, Short, refusing, fitted, write}
+use Rattle.writer.specs.declared.Given.{Given}
 
 abbrev pub half_past_nine : Bytes
 half_past_nine = fix "20240102-09:30:00.000000"
@@ -21,21 +21,22 @@ beat = written Heartbeat (from_gw [])
 abbrev pub text : Bytes
 text = fix "GWMM" ++ half_past_nine
 
+-- a number; bytes from a to b
+abbrev pub whole : ℕ → Given.Option Given
+whole n = Some (record { a = n; b = 0 })
+
+abbrev pub within : ℕ → ℕ → Given.Option Given
+within a b = Some (record { a = a; b = b })
+
 abbrev pub of_beat : Values
-of_beat =
-    record {
-      given = true ∷ true ∷ true ∷ false ∷ true ∷ replicate 16 false;
-      numbers = 0 ∷ 0 ∷ 2 ∷ replicate 18 0;
-      starts = 0 ∷ 2 ∷ 0 ∷ 0 ∷ 4 ∷ replicate 16 0;
-      ends = 2 ∷ 4 ∷ 0 ∷ 0 ∷ 28 ∷ replicate 16 0;
-    }
+of_beat = within 0 2 ∷ within 2 4 ∷ whole 2 ∷ None ∷ within 4 28 ∷ replicate 16 None
 
 -- the same with 52 absent, and with a place of 52 that the text does not have
 abbrev pub no_52 : Values
-no_52 = record { given = true ∷ true ∷ true ∷ replicate 18 false; numbers = of_beat.numbers; starts = of_beat.starts; ends = of_beat.ends }
+no_52 = within 0 2 ∷ within 2 4 ∷ whole 2 ∷ replicate 18 None
 
 abbrev pub past_52 : Values
-past_52 = record { given = of_beat.given; numbers = of_beat.numbers; starts = of_beat.starts; ends = 2 ∷ 4 ∷ 0 ∷ 0 ∷ 29 ∷ replicate 16 0 }
+past_52 = within 0 2 ∷ within 2 4 ∷ whole 2 ∷ None ∷ within 4 29 ∷ replicate 16 None
 
 pub record Cases : Type 0 where
   -- the call writes the message

@@ -8,10 +8,7 @@ use Rattle.table.specs.Dictionary.{code35, administrative}
 use Rattle.message.specs.Message.{shown, written}
 use Rattle.message.specs.ReadsBack.{ReadsBack}
 use Rattle.writer.specs.Tags.{tags}
-use Rattle.writer.specs.Call.{value_in, refused8, admin, Outcome, refusing, writing, Writes, numbers}
-use Rattle.writer.specs.declared.Values.{Values}
-use Rattle.writer.specs.declared.Written.{Written}
-use Rattle.writer.specs.declared.Written.TheVariants.{Unfit, Short}
+use Rattle.writer.specs.Call.{Values, value_in, refused8, admin, Written, Unfit, Short, Outcome, refusing, writing, Writes, numbers}
 
 -- THE WRITER CALL
 -- a call that answers a message of n bytes: they stand at the front of the buffer, behind them "the buffer keeps its old bytes", and they read back

@@ -1,7 +1,7 @@
 // The tables of the writer: its tags with their kinds, and for each message the tags that it has and must have.
 ghost use Rattle.std.specs.Prelude.{◌≡◌, true, ◌<◌};
 ghost use Rattle.table.specs.Dictionary.{administrative};
-ghost use Rattle.writer.specs.code.Held.{bit_of, Marked, Slots};
+ghost use Rattle.writer.specs.code.Held.{bit_of, Marked};
 
 use crate::types::{Marks, Slot};
 use kinds::{Choice, Kind};
@@ -20,7 +20,7 @@ const COUNTED: Kind = Kind::Number {
 };
 
 // The tags in the order in which they are written; the place of a tag is also its place in `Values` and its bit in `Marks`.
-const SLOTS: [Slot; 21] = [
+pub static SLOTS: [Slot; 21] = [
     Slot(49, STRING),
     Slot(56, STRING),
     Slot(34, COUNTED),
@@ -44,15 +44,9 @@ const SLOTS: [Slot; 21] = [
     Slot(141, Kind::Flag),
 ];
 
-// The one function that names the table: whoever looks into it takes it into a local, once.
-pub fn slots() -> [Slot; 21]
-    ensures { Slots result }
-{
-    SLOTS
-}
-
 // The tags that each message has and must have, as bits at their places: the header 0 to 5, of which 43 and 122 may be absent; 112 6; 7 and 16
-// 7 and 8; 45, 371, 372 and 373 9 to 12; 1409 13; 58 14; 123 and 36 15 and 16; 98, 108, 1137 and 141 17 to 20.
+// 7 and 8; 45, 371, 372 and 373 9 to 12; 1409 13; 58 14; 123 and 36 15 and 16; 98, 108, 1137 and 141 17 to 20. Bits and no list of tags for each message:
+// a list would be searched at each of the 21 places of every call.
 const HEADER: u32 = 63;
 
 const ALWAYS: u32 = 23;

@@ -2,25 +2,14 @@
 use native.Mathlib.Omega.{arith}
 use Prim.Native.Nat.{◌+◌}
 use lib.ListN.{length-set}
-use Rattle.amounts.proofs.Placing.{pointed, unpointed}
+use mathlib.Core.Path.{refl}
+use Rattle.amounts.proofs.Placing.{fifteen, pointed}
 use Rattle.amounts.proofs.put_amount.Goals as goal
 
-pub returns-then-places-eq0 : goal.returns-then-places-eq0
-returns-then-places-eq0 c =
+pub returns-clause-bytes : goal.returns-clause-bytes
+returns-clause-bytes c =
     let a = c.args in
-    record { bytes = unpointed a.at _ a.whole a.places c.if-places-eq0.true c.width-k.ensures.digits c.put_digits.ensures.bytes; room = omega arith }
+    pointed c.max-before.result a.places a.whole _ (omega arith) (omega arith) c.put_digits-front.ensures.rest c.put_digits-front.ensures.bytes (record { next = refl; bytes = refl }) c.put_digits.ensures.bytes
 
-pub put_digits-requires-2 : goal.put_digits-requires-2
-put_digits-requires-2 c =
-    let a = c.args in
-    omega (arith, length-set c.put_digits-front.new.buf (a.at + c.before_point-f.result) 46)
-
-pub shape_of-buf : goal.shape_of-buf
-shape_of-buf c =
-    let a = c.args in
-    omega (arith, length-set c.put_digits-front.new.buf (a.at + c.before_point-f.result) 46)
-
-pub returns : goal.returns
-returns c =
-    let a = c.args in
-    record { bytes = pointed a.at _ a.places a.whole _ c.if-places-eq0.false (omega arith) c.put_digits-front.ensures.rest c.put_digits-front.ensures.bytes c.put_digits-2.ensures.bytes; room = omega arith }
+pub put_digits-requires : goal.put_digits-requires
+put_digits-requires c = omega (arith, fifteen c.args.whole (omega arith), length-set c.put_digits-front.new.buf (c.args.at + c.max-before.result) 46)

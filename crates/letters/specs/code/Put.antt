@@ -1,16 +1,13 @@
 -- The messages of a plan as the code puts them into the buffer. Only the code needs these: nothing here states document 01.
-use Rattle.std.specs.Prelude.{ℕ, ◌+◌, ◌-◌, ◌≤◌, ◌≡◌, List, [], ◌∷◌, length, take, drop}
+use Rattle.std.specs.Prelude.{ℕ, ◌+◌, ◌≤◌, ◌≡◌, List, [], ◌∷◌, ◌++◌, true, cond, length, Some}
 use Rattle.octets.specs.Bytes.{Bytes}
-use Rattle.fields.specs.Field.{first_field}
-use Rattle.fields.specs.declared.Place.{Place}
-use Rattle.fields.specs.declared.Place.TheVariants.{At, Absent}
-use Rattle.dictionary.specs.Verdict.{msg_type}
-use Rattle.message.specs.Message.{Value, absent, bytes}
-use Rattle.replies.specs.Reply as Reply
-use Rattle.replies.specs.Replied.{reply_room}
-use Rattle.moves.specs.Words.{◌otherwise◌}
-use Rattle.moves.specs.Seen.{repeated, number_in, code_of}
+use Rattle.frame.specs.Stream.{joined}
+use Rattle.replies.specs.Replied.{reply_room, fits, message_of}
+use Rattle.replies.specs.declared.Reply.{Reply}
 use Rattle.moves.specs.Moves.{Letter, letter}
+use Rattle.moves.specs.code.Plan.{letters_of}
+use Rattle.moves.specs.declared.plan.Letter as Code
+use Rattle.moves.specs.declared.plan.Letter.TheVariants.{Echo, Logon, Ask, Reject, RejectType, Logout, Test}
 use Rattle.letters.specs.code.Fit.{FitLetter}
 
 -- the messages of a plan at a time
@@ -23,22 +20,23 @@ abbrev pub AllPut : List (ℕ × Letter) → Type 0
 AllPut [] = Unit {0}
 AllPut (x ∷ xs) = (x.0 ≤ 999_999_999) × FitLetter x.1 × AllPut xs
 
--- where the type lies that a Reject of a body repeats, if it repeats one
-abbrev pub Repeats : Bytes → Place → Type 0
-Repeats body (At start end) =
-    (start ≤ end) × (end ≤ length body) × (length (take (end - start) (drop start body)) ≤ 2) × (repeated (code_of (msg_type body)) ≡ bytes (take (end - start) (drop start body)))
-Repeats body Absent = repeated (code_of (msg_type body)) ≡ absent
+-- the number that a message uses, of the next one out
+abbrev pub numbered : Code.Letter → ℕ → ℕ
+numbered Echo n = n
+numbered (Logon anew) n = cond anew 1 n
+numbered (Ask from) n = n
+numbered (Reject reason tag) n = n
+numbered RejectType n = n
+numbered (Logout why) n = n
+numbered Test n = n
 
--- the three messages that are put by values of the body, from ours to peers as number n
-module _ (ours peers : Bytes) (n : ℕ) (stamp body : Bytes) where
-  abbrev pub reject_of : ℕ → ℕ → Bytes
-  reject_of reason tag = Reply.reject ours peers n stamp (number_in 1 999_999_999 (first_field 34 body) otherwise 0) tag (repeated (code_of (msg_type body))) reason
+-- the reply r is the message l by the body that came: its own values fit, and its bytes are those of the words
+pub record Replies (body : Bytes) (n : ℕ) (l : Code.Letter) (r : Reply) : Type 0 where
+  pub fit : fits r ≡ true
+  pub bytes : (ours peers stamp : Bytes) → message_of ours peers (numbered l n) stamp r ++ [] ≡ joined (bytes_of ours peers stamp (letters_of body n (Some l)))
 
-  abbrev pub type_reject_of : Bytes
-  type_reject_of = Reply.reject ours peers n stamp (number_in 1 999_999_999 (first_field 34 body) otherwise 0) 35 absent 11
-
-  abbrev pub logon_of : Value → Bytes
-  logon_of reset = Reply.logon ours peers n stamp (number_in 0 999_999_999 (first_field 108 body) otherwise 0) reset
+abbrev pub IsReply : Bytes → ℕ → Code.Letter → Reply → Type 0
+IsReply body n l r = AllPut (letters_of body n (Some l)) → Replies body n l r
 
 -- what is known where a reply is put
 pub record Sending (ours peers : Bytes) (n at : ℕ) (stamp buf : Bytes) : Type 0 where

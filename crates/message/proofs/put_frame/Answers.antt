@@ -13,4 +13,4 @@ unfolding framed
 returns c =
     let f = c.put_front-a.ensures in
     let e = ap (λ (l : Bytes). trailer (sum l % 256)) (part_of f.bytes (omega arith)) in
-    chain f.bytes (reword (ap trailer c.checksum-sum.ensures ∙ e) c.put_trailer.ensures)
+    chain f.bytes (reword (c.trailer.ensures ∙ ap trailer c.checksum-sum.ensures ∙ e) c.put_bytes.ensures)

@@ -4,7 +4,7 @@ use Rattle.message.proofs.Writes.{chain, few_digits}
 use Rattle.message.proofs.put_tag.Goals as goal
 
 pub put_decimal-a-requires : goal.put_decimal-a-requires
-put_decimal-a-requires c = (omega arith, omega (arith, few_digits 4 c.args.tag (omega arith)))
+put_decimal-a-requires c = omega (arith, few_digits 4 c.args.tag (omega arith))
 
 pub put_byte-requires : goal.put_byte-requires
 put_byte-requires c = omega (arith, few_digits 4 c.args.tag (omega arith))

@@ -1,6 +1,6 @@
--- `width`: by the number of digits.
-use native.Mathlib.Omega.{arith}
-use Rattle.octets.proofs.Rightmost.{width_1, width_2, width_3, width_4, width_5, width_6, width_7, width_8, width_9}
+-- `width`: one digit, two, or by the powers of ten around the number.
+use Rattle.octets.proofs.Rightmost.{width_1, width_2}
+use Rattle.message.proofs.Writes.{many}
 use Rattle.message.proofs.width.Goals as goal
 
 pub returns-then-n-lt10 : goal.returns-then-n-lt10
@@ -9,23 +9,5 @@ returns-then-n-lt10 c = width_1 _ c.if-n-lt10.true
 pub returns-then-n-lt100 : goal.returns-then-n-lt100
 returns-then-n-lt100 c = width_2 _ c.if-n-lt10.false c.if-n-lt100.true
 
-pub returns-then-n-lt1000 : goal.returns-then-n-lt1000
-returns-then-n-lt1000 c = width_3 _ c.if-n-lt100.false c.if-n-lt1000.true
-
-pub returns-then-n-lt10000 : goal.returns-then-n-lt10000
-returns-then-n-lt10000 c = width_4 _ c.if-n-lt1000.false c.if-n-lt10000.true
-
-pub returns-then-n-lt100000 : goal.returns-then-n-lt100000
-returns-then-n-lt100000 c = width_5 _ c.if-n-lt10000.false c.if-n-lt100000.true
-
-pub returns-then-n-lt1000000 : goal.returns-then-n-lt1000000
-returns-then-n-lt1000000 c = width_6 _ c.if-n-lt100000.false c.if-n-lt1000000.true
-
-pub returns-then-n-lt10000000 : goal.returns-then-n-lt10000000
-returns-then-n-lt10000000 c = width_7 _ c.if-n-lt1000000.false c.if-n-lt10000000.true
-
-pub returns-then-n-lt100000000 : goal.returns-then-n-lt100000000
-returns-then-n-lt100000000 c = width_8 _ c.if-n-lt10000000.false c.if-n-lt100000000.true
-
 pub returns : goal.returns
-returns c = width_9 _ c.if-n-lt100000000.false (omega arith)
+returns c = many c.args.n _ _ c.max.ensures c.ilog10.ensures.power_le c.ilog10.ensures.next_power_gt

@@ -1,6 +1,7 @@
 -- How the code holds the writer's tags and values, and what it puts for them. Only the code needs these: nothing here states document 01.
 use Rattle.std.specs.Prelude.{ℕ, ◌/◌, ◌%◌, ◌^◌, ◌≤◌, ◌<◌, ◌≡◌, List, ◌++◌, map, Bool, true, false, cond, eqb, leb, get_or}
-use Rattle.std.proofs.Math.Option.{Option, none, some}
+use Rattle.std.specs.Prelude as Given
+use Rattle.std.specs.Prelude.{Some, None}
 use Rattle.octets.specs.Bytes.{Bytes}
 use Rattle.kinds.specs.Kind as Kinds
 use Rattle.kinds.specs.Kind.{Kind, text, number◌to◌, Y/N, time, day, among}
@@ -15,18 +16,9 @@ use Rattle.message.specs.Message.{part}
 use Rattle.message.specs.Unfit.{required, unfit}
 use Rattle.message.specs.code.Writable.{unwritten}
 use Rattle.message.specs.Wrote.{Wrote}
-use Rattle.writer.specs.declared.types.Admin.{Admin}
-use Rattle.writer.specs.declared.types.Admin.TheVariants.{Is, Other}
-use Rattle.writer.specs.declared.types.Put.{Put}
-use Rattle.writer.specs.declared.types.Put.TheVariants.{At, Unfit}
+use Rattle.writer.specs.declared.Given.{Given}
 use Rattle.writer.specs.declared.types.Marks.{Marks}
-use Rattle.writer.specs.declared.types.Slot.{Slot}
 use Rattle.writer.specs.declared.types.Entry.{Entry}
-
--- THE TYPE
-abbrev pub type_in : Admin → Option MsgType
-type_in (Is m) = some m
-type_in Other = none
 
 -- THE TABLES, at the places of the tags: a bit for each tag that a message has, and for each that it must have
 unfoldable pub bit_of : ℕ → ℕ → Bool
@@ -43,18 +35,18 @@ pub record Marked (m : MsgType) (r : Marks) : Type 0 where
 unfoldable pub seven_rows : List Row
 seven_rows = header ++ fields Heartbeat ++ fields ResendRequest ++ fields Reject ++ fields SequenceReset ++ fields Logout ++ fields Logon
 
-pub record Slots (r : List Slot) : Type 0 where
-  pub tags_are : map (λ (s : Slot). s.0) r ≡ tags
-  pub kinds_are : map (λ (s : Slot). meaning s.1) r ≡ map (kind_in seven_rows) tags
-
 -- ONE VALUE of a call, with what its message says of the tag
 pub record Holds (m : MsgType) (e : Entry) : Type 0 where
   pub own : e.own ≡ listed (rows_of m) e.tag
   pub needed : e.needed ≡ required m e.tag
   pub kind : listed (rows_of m) e.tag ≡ true → meaning e.kind ≡ kind_in (rows_of m) e.tag
 
+abbrev pub value_by : Kind → Bytes → Given.Option Given → Value
+value_by k s None = absent
+value_by k s (Some g) = cond (is_numeric k) (Value.number g.a) (bytes (part s g.a g.b))
+
 abbrev pub value_of : Entry → Bytes → Value
-value_of e s = cond e.given (cond (is_numeric (meaning e.kind)) (Value.number e.number) (bytes (part s e.start e.end))) absent
+value_of e s = value_by (meaning e.kind) s e.value
 
 -- a kind of which no number is above 999,999,999
 abbrev pub nine_digits : Kind → Bool
@@ -67,20 +59,20 @@ nine_digits Kinds.decimal = true
 nine_digits (among l) = true
 
 -- what is put for a value: its field, or nothing but the answer that it is unfit
-abbrev pub PutText : Kind → ℕ → Bytes → Bytes → Bytes → ℕ → Put → Type 0
-PutText k t v d d' at (At end) = (unwritten k v ≡ false) × Wrote d d' at end (field (t is bytes v))
-PutText k t v d d' at Unfit = unwritten k v ≡ true
+abbrev pub PutText : Kind → ℕ → Bytes → Bytes → Bytes → ℕ → Given.Option ℕ → Type 0
+PutText k t v d d' at (Some end) = (unwritten k v ≡ false) × Wrote d d' at end (field (t is bytes v))
+PutText k t v d d' at None = unwritten k v ≡ true
 
-abbrev pub PutOne : MsgType → ℕ → Value → Bytes → Bytes → ℕ → Put → Type 0
-PutOne m t v d d' at (At end) = (unfit m (t is v) ≡ false) × Wrote d d' at end (field (t is v))
-PutOne m t v d d' at Unfit = unfit m (t is v) ≡ true
+abbrev pub PutOne : MsgType → ℕ → Value → Bytes → Bytes → ℕ → Given.Option ℕ → Type 0
+PutOne m t v d d' at (Some end) = (unfit m (t is v) ≡ false) × Wrote d d' at end (field (t is v))
+PutOne m t v d d' at None = unfit m (t is v) ≡ true
 
 -- and for all values of a call
-abbrev pub PutAll : MsgType → (ℕ → Value) → Bytes → Bytes → ℕ → Put → Type 0
-PutAll m vs d d' at (At end) = (refused8 m vs ≡ false) × Wrote d d' at end (row (valued vs tags))
-PutAll m vs d d' at Unfit = refused8 m vs ≡ true
+abbrev pub PutAll : MsgType → (ℕ → Value) → Bytes → Bytes → ℕ → Given.Option ℕ → Type 0
+PutAll m vs d d' at (Some end) = (refused8 m vs ≡ false) × Wrote d d' at end (row (valued vs tags))
+PutAll m vs d d' at None = refused8 m vs ≡ true
 
 -- and for the whole body, 35 before them
-abbrev pub PutBody : MsgType → (ℕ → Value) → Bytes → Bytes → Put → Type 0
-PutBody m vs d d' (At end) = (refused8 m vs ≡ false) × (end ≤ 502) × Wrote d d' 0 end (row (message m vs))
-PutBody m vs d d' Unfit = refused8 m vs ≡ true
+abbrev pub PutBody : MsgType → (ℕ → Value) → Bytes → Bytes → Given.Option ℕ → Type 0
+PutBody m vs d d' (Some end) = (refused8 m vs ≡ false) × (end ≤ 502) × Wrote d d' 0 end (row (message m vs))
+PutBody m vs d d' None = refused8 m vs ≡ true

@@ -1,12 +1,14 @@
 -- `is_fit`: the dictionary's tests of a value, one after the other.
+use mathlib.Core.Path.{sym, ◌∙◌}
+use borrow.Author.Tests.{eqb-true, eqb-false}
 use Rattle.message.proofs.Fitness.{fit_empty, fit_bar, fit_judged}
 use Rattle.message.proofs.fit.is_fit.Goals as goal
 
-pub returns-then-v-eq0 : goal.returns-then-v-eq0
-returns-then-v-eq0 c = fit_empty _ _ c.if-v-eq0.true
+pub returns-then-is_empty : goal.returns-then-is_empty
+returns-then-is_empty c = fit_empty _ _ (eqb-true _ 0 (sym c.is_empty.ensures ∙ c.if-is_empty.true))
 
 pub returns-then-has : goal.returns-then-has
-returns-then-has c = fit_bar _ _ c.if-v-eq0.false c.has.ensures c.if-has.true
+returns-then-has c = fit_bar _ _ (eqb-false _ 0 (sym c.is_empty.ensures ∙ c.if-is_empty.false)) c.has.ensures c.if-has.true
 
 pub returns : goal.returns
-returns c = fit_judged _ _ c.if-v-eq0.false c.has.ensures c.if-has.false c.judge.ensures
+returns c = c.is_ok.ensures.value ∙ fit_judged _ _ c.judge.result (eqb-false _ 0 (sym c.is_empty.ensures ∙ c.if-is_empty.false)) c.has.ensures c.if-has.false c.judge.ensures

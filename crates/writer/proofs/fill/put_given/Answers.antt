@@ -5,18 +5,20 @@ use Rattle.writer.proofs.fill.put_given.Goals as goal
 
 pub returns-then-is_number : goal.returns-then-is_number
 returns-then-is_number c m H =
-    let p = c.put_number_value in
-    put_number m c.args.e c.args.text.now H c.requires.given_value.0 c.requires.given_value.1 c.args.buf.now p.new.buf c.args.at p.result (sym c.is_number.ensures ∙ c.if-is_number.true) c.put_number_value.ensures
+    let g = c.requires.given_value in
+    put_number m c.args.e c.args.text.now H c.args.given g.0 g.1 _ _ c.args.at _ (sym c.is_number.ensures ∙ c.if-is_number.true) c.put_number_value.ensures
 
 pub returns-then-end-start : goal.returns-then-end-start
 returns-then-end-start c m H =
-    backwards m c.args.e c.args.text.now H c.requires.given_value.0 c.requires.given_value.1 (sym c.is_number.ensures ∙ c.if-is_number.false) c.if-end-start.true
+    let g = c.requires.given_value in
+    backwards m c.args.e c.args.text.now H c.args.given g.0 g.1 (sym c.is_number.ensures ∙ c.if-is_number.false) c.if-end-start.true
 
 pub returns-then-text-end : goal.returns-then-text-end
 returns-then-text-end c m H =
-    beyond m c.args.e c.args.text.now H c.requires.given_value.0 c.requires.given_value.1 (sym c.is_number.ensures ∙ c.if-is_number.false) c.if-end-start.false c.if-text-end.true
+    let g = c.requires.given_value in
+    beyond m c.args.e c.args.text.now H c.args.given g.0 g.1 (sym c.is_number.ensures ∙ c.if-is_number.false) c.if-end-start.false c.if-text-end.true
 
 pub returns : goal.returns
 returns c m H =
-    let p = c.put_bytes_value in
-    put_part m c.args.e c.args.text.now H c.requires.given_value.0 c.requires.given_value.1 c.args.buf.now p.new.buf c.args.at p.result (sym c.is_number.ensures ∙ c.if-is_number.false) c.if-end-start.false c.if-text-end.false c.put_bytes_value.ensures
+    let g = c.requires.given_value in
+    put_part m c.args.e c.args.text.now H c.args.given g.0 g.1 _ _ c.args.at _ (sym c.is_number.ensures ∙ c.if-is_number.false) c.if-end-start.false c.if-text-end.false c.put_bytes_value.ensures

@@ -13,7 +13,7 @@ pub returns-then-n-gt999999999 : goal.returns-then-n-gt999999999
 returns-then-n-gt999999999 c = unwritten_large _ _ c.requires.2 c.requires.3 c.if-n-gt999999999.true
 
 pub put_decimal-k-requires : goal.put_decimal-k-requires
-put_decimal-k-requires c = (omega arith, omega (arith, few_digits 8 c.args.n (omega arith)))
+put_decimal-k-requires c = omega (arith, few_digits 8 c.args.n (omega arith))
 
 pub slice_bounds-digits-end : goal.slice_bounds-digits-end
 slice_bounds-digits-end c = omega (arith, few_digits 8 c.args.n (omega arith))

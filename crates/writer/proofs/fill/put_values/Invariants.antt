@@ -1,8 +1,7 @@
 -- `put_values`: up to place k the values are fit and their fields stand one behind the other.
-use Prim.Native.Nat.{◌-◌, ◌≤◌}
 use mathlib.Core.Path.{◌≡◌}
 use mathlib.Core.Bool.{true, false}
-use lib.ListN.{length, take}
+use lib.ListN.{take}
 use Rattle.octets.specs.Bytes.{any}
 use Rattle.table.specs.declared.MsgType.{MsgType}
 use Rattle.table.specs.Dictionary.{administrative}
@@ -16,10 +15,5 @@ use Rattle.writer.proofs.fill.put_values.Given as goal
 
 abbrev pub invariant-loop-k : goal.invariant-loop-k
 invariant-loop-k l =
-    (l.k ≤ 21)
-    × ((length l.buf ≡ length l.initial.buf)
-    × (Wrote l.initial.buf l.buf l.at l.to (row (valued (value_in l.values l.text) (take l.k tags)))
-    × ((m : MsgType) → administrative m ≡ true → Marked m l.marks → any (unfit m) (valued (value_in l.values l.text) (take l.k tags)) ≡ false)))
-
-abbrev pub decreases-loop-k : goal.decreases-loop-k
-decreases-loop-k l = 21 - l.k
+    Wrote l.initial.buf l.buf l.at l.to (row (valued (value_in l.values l.text) (take l.k tags)))
+    × ((m : MsgType) → administrative m ≡ true → Marked m l.marks → any (unfit m) (valued (value_in l.values l.text) (take l.k tags)) ≡ false)
