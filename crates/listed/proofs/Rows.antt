@@ -22,8 +22,8 @@ use Rattle.amounts.proofs.Amounts.{pointing_only}
 use Rattle.report.specs.Values.{optional}
 use Rattle.report.specs.code.Puts.{Has, Optional}
 use Rattle.report.proofs.Putting.{rejected_is}
-use Rattle.listed.specs.code.Taken.{Took, anything, Labelled, Maybe, Fields}
-use Rattle.listed.proofs.Taking.{reworded, Both, joined}
+use Rattle.listed.specs.code.Taken.{anything, Labelled, Maybe, Fields}
+use Rattle.listed.proofs.Taking.{Onward, onward_reworded, Both, onward_joined}
 
 abbrev pub fits : List Field → Type 0
 fits fs = any (unfit TradeCaptureReport) fs ≡ false
@@ -55,8 +55,8 @@ module _ (fs : List Field) (fit : fits fs) (t : ℕ) (k : Kind) (H : Has t k) (l
   back : (m : Bytes) → Fields (λ (v : Bytes). fs ++ (t is bytes v ∷ [])) m → Labelled label k m
   back m (v, (u, e)) = (v, (could v (both_fit fs (t is bytes v ∷ []) u).1, e ∙ sym (shape v)))
 
-  pub field_took : {N : Bytes → Bool} {l : Bytes} {at r : ℕ} → Took (Labelled label k) N l at r → Took (Fields (λ (v : Bytes). fs ++ (t is bytes v ∷ []))) N l at r
-  field_took T = reworded there back T
+  pub field_took : {N : Bytes → Bool} {q r : Option Bytes} → Onward (Labelled label k) N q r → Onward (Fields (λ (v : Bytes). fs ++ (t is bytes v ∷ []))) N q r
+  field_took T = onward_reworded there back T
 
 -- an amount: its text is the one that is written for it
 text_same : (v : Bytes) → not (unwritten Kind.decimal v) ≡ true → amount_text (record { whole = whole_of v; places = length (places_of v) }) ≡ v
@@ -67,8 +67,8 @@ text_same v h =
     pointing_only v (not-false _ b.1)
 
 module _ (t : ℕ) (H : Has t Kind.decimal) (label : Bytes) (begun : label ≡ decimal t ++ fix "=") where
-  pub figure_took : {N : Bytes → Bool} {l : Bytes} {at r : ℕ} → Took (Labelled label Kind.decimal) N l at r → Took (Fields (λ (a : Amount). t is bytes (amount_text a) ∷ [])) N l at r
-  figure_took T = reworded there_amount back_amount T
+  pub figure_took : {N : Bytes → Bool} {q r : Option Bytes} → Onward (Labelled label Kind.decimal) N q r → Onward (Fields (λ (a : Amount). t is bytes (amount_text a) ∷ [])) N q r
+  figure_took T = onward_reworded there_amount back_amount T
     where
       there_amount : (m : Bytes) → Labelled label Kind.decimal m → Fields (λ (a : Amount). t is bytes (amount_text a) ∷ []) m
       there_amount m (v, (u, e)) =
@@ -82,8 +82,8 @@ module _ (t : ℕ) (H : Has t Kind.decimal) (label : Bytes) (begun : label ≡ d
 
 -- one that may be absent
 module _ (t : ℕ) (k : Kind) (O : Optional t k) (label : Bytes) (begun : label ≡ decimal t ++ fix "=") where
-  pub optional_took : {N : Bytes → Bool} {l : Bytes} {at r : ℕ} → Took (Maybe label k) N l at r → Took (Fields (λ (o : Option Bytes). t is optional o ∷ [])) N l at r
-  optional_took T = reworded there_maybe back_maybe T
+  pub optional_took : {N : Bytes → Bool} {q r : Option Bytes} → Onward (Maybe label k) N q r → Onward (Fields (λ (o : Option Bytes). t is optional o ∷ [])) N q r
+  optional_took T = onward_reworded there_maybe back_maybe T
     where
       there_maybe : (m : Bytes) → Maybe label k m → Fields (λ (o : Option Bytes). t is optional o ∷ []) m
       there_maybe m (inl e) = (none, (ap (λ (b : Bool). b || false) O.may, e))
@@ -94,10 +94,10 @@ module _ (t : ℕ) (k : Kind) (O : Optional t k) (label : Bytes) (begun : label 
       back_maybe m (some v, (u, e)) = inr (back [] refl t k O.has label begun m (v, (u, e)))
 
 -- FIELDS BEHIND FIELDS
-module _ {A B : Type 0} (f : A → List Field) (g : B → List Field) {N M : Bytes → Bool} {l : Bytes} {at mid r : ℕ} where
-  pub fields_joined : ((y rest : Bytes) → Fields g y → M rest ≡ true → N (y ++ rest) ≡ true) → Took (Fields f) N l at mid → Took (Fields g) M l mid r
-      → Took (Fields (λ (p : A × B). f p.0 ++ g p.1)) M l at r
-  fields_joined follows P Q = reworded there_both back_both (joined follows P Q)
+module _ {A B : Type 0} (f : A → List Field) (g : B → List Field) {N M : Bytes → Bool} {o q r : Option Bytes} where
+  pub fields_joined : ((y rest : Bytes) → Fields g y → M rest ≡ true → N (y ++ rest) ≡ true) → Onward (Fields f) N o q → Onward (Fields g) M q r
+      → Onward (Fields (λ (p : A × B). f p.0 ++ g p.1)) M o r
+  fields_joined follows P Q = onward_reworded there_both back_both (onward_joined follows P Q)
     where
       there_both : (m : Bytes) → Both (Fields f) (Fields g) m → Fields (λ (p : A × B). f p.0 ++ g p.1) m
       there_both m (x, (y, ((a, (u, d)), ((b, (v, e)), w)))) =
@@ -108,16 +108,16 @@ module _ {A B : Type 0} (f : A → List Field) (g : B → List Field) {N M : Byt
           let F = both_fit (f p.0) (g p.1) u in
           (row (f p.0), (row (g p.1), ((p.0, (F.0, refl)), ((p.1, (F.1, refl)), e ∙ row_append (f p.0) (g p.1)))))
 
-pub three-joined : {A B C : Type 0} (f : A → List Field) (g : B → List Field) (h : C → List Field) {N : Bytes → Bool} {l : Bytes} {at a b r : ℕ}
-    → Took (Fields f) anything l at a → Took (Fields g) anything l a b → Took (Fields h) N l b r
-    → Took (Fields (λ (p : A × (B × C)). f p.0 ++ (g p.1.0 ++ h p.1.1))) N l at r
+pub three-joined : {A B C : Type 0} (f : A → List Field) (g : B → List Field) (h : C → List Field) {N : Bytes → Bool} {o a b r : Option Bytes}
+    → Onward (Fields f) anything o a → Onward (Fields g) anything a b → Onward (Fields h) N b r
+    → Onward (Fields (λ (p : A × (B × C)). f p.0 ++ (g p.1.0 ++ h p.1.1))) N o r
 three-joined {A} {B} {C} f g h P Q R =
     fields_joined f (λ (p : B × C). g p.0 ++ h p.1) (λ y rest k n. refl) P (fields_joined g h (λ y rest k n. refl) Q R)
 
 -- the same fields of other values
 pub renamed : {A B : Type 0} (f : A → List Field) (g : B → List Field) (to : A → B) (from : B → A) → ((a : A) → f a ≡ g (to a)) → ((b : B) → g b ≡ f (from b))
-    → {N : Bytes → Bool} {l : Bytes} {at r : ℕ} → Took (Fields f) N l at r → Took (Fields g) N l at r
-renamed {A} {B} f g to from p q T = reworded there_named back_named T
+    → {N : Bytes → Bool} {q r : Option Bytes} → Onward (Fields f) N q r → Onward (Fields g) N q r
+renamed {A} {B} f g to from p q T = onward_reworded there_named back_named T
   where
     there_named : (m : Bytes) → Fields f m → Fields g m
     there_named m (a, (u, e)) = (to a, (ap (any (unfit TradeCaptureReport)) (sym (p a)) ∙ u, e ∙ ap row (p a)))

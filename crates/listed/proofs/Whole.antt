@@ -1,13 +1,12 @@
 -- All sections behind each other are the fields of a report; and what the walk's end says of them. Assumes nothing.
-use Prim.Native.Nat.{ℕ, ◌≤◌}
 use native.Mathlib.Omega.{arith}
 use mathlib.Core.Path.{◌≡◌, refl, sym, ap, ◌∙◌}
 use mathlib.Core.List.{List, [], ◌∷◌, ◌++◌, append-nil}
 use mathlib.Core.Bool.{true, false, not, false≢true}
-use mathlib.Core.Option.{Option}
+use mathlib.Core.Option.{Option, none, some, some-injective, none-ne-some}
 use lib.Dec.{eqb}
-use lib.ListN.{length, drop, length-drop, drop_of_length-le}
-use borrow.Author.Tests.{eqb-true, eq-eqb}
+use lib.ListN.{length}
+use borrow.Author.Tests.{eqb-true}
 use Rattle.octets.specs.Bytes.{Bytes, fix, decimal}
 use Rattle.message.specs.Message.{Field, row}
 use Rattle.amounts.specs.Amount.{Amount}
@@ -15,6 +14,8 @@ use Rattle.report.specs.Values.{Party, Values, group, own, takes}
 use Rattle.report.proofs.Taken.{all_fit}
 use Rattle.listed.specs.code.Listed.{Listed}
 use Rattle.listed.specs.code.Taken.{Took, anything, without, end, Fields, trade, figures, instrument, side}
+use Rattle.listed.proofs.Taking.{Onward, on, off}
+use Rattle.listed.proofs.Members.{empty_is}
 use Rattle.listed.proofs.Rows.{fields_joined, renamed}
 
 -- the sections from the last to the first
@@ -74,35 +75,32 @@ follows_side y [] ([], (u, w)) n = ap (λ (t : Bytes). without (fix "1427=") (t 
 follows_side y (x ∷ rest) ([], (u, w)) n = absurd (omega (arith, eqb-true (length (x ∷ rest)) 0 n))
 follows_side y rest (p ∷ ps, (u, w)) n = ap (λ (t : Bytes). without (fix "1427=") (t ++ rest)) w
 
-module _ {l : Bytes} {at a b c d e : ℕ} where
-  pub own_took : Took (Fields trade) anything l at a → Took (Fields figures) (without (fix "64=")) l a b → Took (Fields instrument) anything l b c
-      → Took (Fields side) (without (fix "1427=")) l c d
-      → Took (Fields group) end l d e
-      → Took (Fields own) end l at e
-  own_took P Q R S T =
-      renamed trade_on own values_of sections_of (λ v. refl) (λ v. refl)
-      (fields_joined trade figures_on (λ y rest h n. refl) P
-      (fields_joined figures instrument_on follows_figures Q
-      (fields_joined instrument side_on (λ y rest h n. refl) R
-      (fields_joined side group follows_side S T))))
+pub own_took : {s : Bytes} {a b c d e : Option Bytes} → Took (Fields trade) anything s a → Onward (Fields figures) (without (fix "64=")) a b → Onward (Fields instrument) anything b c
+    → Onward (Fields side) (without (fix "1427=")) c d
+    → Onward (Fields group) end d e
+    → Took (Fields own) end s e
+own_took P Q R S T =
+    off (renamed trade_on own values_of sections_of (λ v. refl) (λ v. refl)
+    (fields_joined trade figures_on (λ y t h n. refl) (on P)
+    (fields_joined figures instrument_on follows_figures Q
+    (fields_joined instrument side_on (λ y t h n. refl) R
+    (fields_joined side group follows_side S T)))))
 
 -- THE WALK'S END
-module _ {l : Bytes} {at e : ℕ} (T : Took (Fields own) end l at e) (place : 1 ≤ at) (low : at ≤ length l) where
-  reached : (v : Values) → takes v ≡ true → drop at l ≡ row (own v) → e ≡ length l
-  reached v h w =
-      let f = T.found (λ z. omega arith) (row (own v)) [] (v, (all_fit v h, refl)) refl (w ∙ sym (append-nil (row (own v)))) in
-      omega (arith, f, ap length w, length-drop at l)
+module _ {s : Bytes} {r : Option Bytes} (T : Took (Fields own) end s r) where
+  reached : (v : Values) → takes v ≡ true → s ≡ row (own v) → r ≡ some []
+  reached v h w = T.found (row (own v)) [] (v, (all_fit v h, refl)) refl (w ∙ sym (append-nil (row (own v))))
 
-  pub none_listed : e ≡ 0 → Listed (drop at l) false
-  none_listed z = record { yes = λ f. absurd (false≢true f); no = λ v h w. absurd (omega (arith, reached v h w, z)) }
+  pub none_listed : r ≡ none → Listed s false
+  none_listed z = record { yes = λ f. absurd (false≢true f); no = λ v h w. absurd (none-ne-some _ (sym z ∙ reached v h w)) }
 
-  pub all_listed : (e ≡ 0 → ⊥) → Listed (drop at l) (eqb e (length l))
+  pub all_listed : {t : Bytes} → r ≡ some t → Listed s (eqb (length t) 0)
   unfolding takes
-  all_listed z = record { yes = yes_listed; no = λ v h w. eq-eqb e (length l) (reached v h w) }
+  all_listed {t} z = record { yes = yes_listed; no = λ v h w. ap (λ (x : Bytes). eqb (length x) 0) (some-injective _ _ (sym z ∙ reached v h w)) }
     where
-      yes_listed : eqb e (length l) ≡ true → (v : Values) × ((takes v ≡ true) × (drop at l ≡ row (own v)))
+      yes_listed : eqb (length t) 0 ≡ true → (v : Values) × ((takes v ≡ true) × (s ≡ row (own v)))
       yes_listed f =
-          let s = T.seen z in
-          let F = s.1.0 in
-          let r : drop e l ≡ [] = drop_of_length-le l {i = e} (omega (arith, eqb-true e (length l) f)) in
-          (F.0, (ap not F.1.0, s.1.1 ∙ ap (λ (t : Bytes). s.0 ++ t) r ∙ append-nil s.0 ∙ F.1.1))
+          let w = T.seen t z in
+          let F = w.1.0 in
+          let e : t ≡ [] = empty_is t (eqb-true (length t) 0 f) in
+          (F.0, (ap not F.1.0, w.1.1 ∙ ap (λ (x : Bytes). w.0 ++ x) e ∙ append-nil w.0 ∙ F.1.1))

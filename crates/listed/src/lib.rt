@@ -3,116 +3,105 @@
 
 mod steps;
 
-ghost use Rattle.std.specs.Prelude.{◌≤◌, length, drop};
 ghost use Rattle.octets.specs.Bytes.{fix};
-ghost use Rattle.report.specs.Values.{group};
+ghost use Rattle.report.specs.Values.{group, own};
 ghost use Rattle.listed.specs.code.Listed.{Listed};
-ghost use Rattle.listed.specs.code.Taken.{Took, anything, without, end, Fields, trade, figures, instrument, side, party, Parties};
+ghost use Rattle.listed.specs.code.Taken.{left, Took, anything, without, end, Fields, trade, figures, instrument, side, party, Parties};
 
 use kinds::{Choice, Kind};
 use steps::{take_field, take_label, take_optional};
 
-// 571, 828, 60.
-fn take_trade(body: &[u8], at: usize) -> usize
-    requires { at ≤ length body.now }
-    ensures { Took (Fields trade) anything body.now at result }
+// 571, 828, 60. (These five name the labels and kinds as they are listed; one function for all would be handed the same names, in rows.)
+fn take_trade(s: &[u8]) -> Option<&[u8]>
+    ensures { Took (Fields trade) anything s.now (left result) }
 {
-    let a = take_field(body, at, b"571=", Kind::Text { most: 32 });
-    let b = take_field(body, a, b"828=", Kind::OneOf(Choice::ZeroOr54Or99));
-    take_field(body, b, b"60=", Kind::Time)
+    let s = take_field(s, b"571=", Kind::Text { most: 32 })?;
+    let s = take_field(s, b"828=", Kind::OneOf(Choice::ZeroOr54Or99))?;
+    take_field(s, b"60=", Kind::Time)
 }
 
 // 32, 31, 64.
-fn take_figures(body: &[u8], at: usize) -> usize
-    requires { at ≤ length body.now }
-    ensures { Took (Fields figures) (without (fix "64=")) body.now at result }
+fn take_figures(s: &[u8]) -> Option<&[u8]>
+    ensures { Took (Fields figures) (without (fix "64=")) s.now (left result) }
 {
-    let a = take_field(body, at, b"32=", Kind::Decimal);
-    let b = take_field(body, a, b"31=", Kind::Decimal);
-    take_optional(body, b, b"64=", Kind::Day)
+    let s = take_field(s, b"32=", Kind::Decimal)?;
+    let s = take_field(s, b"31=", Kind::Decimal)?;
+    take_optional(s, b"64=", Kind::Day)
 }
 
 // 574, 48, 22.
-fn take_instrument(body: &[u8], at: usize) -> usize
-    requires { at ≤ length body.now }
-    ensures { Took (Fields instrument) anything body.now at result }
+fn take_instrument(s: &[u8]) -> Option<&[u8]>
+    ensures { Took (Fields instrument) anything s.now (left result) }
 {
-    let a = take_field(body, at, b"574=", Kind::OneOf(Choice::Matches));
-    let b = take_field(body, a, b"48=", Kind::Text { most: 32 });
-    take_field(body, b, b"22=", Kind::OneOf(Choice::Eight))
+    let s = take_field(s, b"574=", Kind::OneOf(Choice::Matches))?;
+    let s = take_field(s, b"48=", Kind::Text { most: 32 })?;
+    take_field(s, b"22=", Kind::OneOf(Choice::Eight))
 }
 
 // 552, 54, 1427.
-fn take_side(body: &[u8], at: usize) -> usize
-    requires { at ≤ length body.now }
-    ensures { Took (Fields side) (without (fix "1427=")) body.now at result }
+fn take_side(s: &[u8]) -> Option<&[u8]>
+    ensures { Took (Fields side) (without (fix "1427=")) s.now (left result) }
 {
-    let a = take_field(body, at, b"552=1\x0154=", Kind::OneOf(Choice::OneOrTwo));
-    take_optional(body, a, b"1427=", Kind::Text { most: 32 })
+    let s = take_field(s, b"552=1\x0154=", Kind::OneOf(Choice::OneOrTwo))?;
+    take_optional(s, b"1427=", Kind::Text { most: 32 })
 }
 
 // 448, 447, 452.
-fn take_party(body: &[u8], at: usize) -> usize
-    requires { at ≤ length body.now }
-    ensures { Took (Fields party) anything body.now at result }
+fn take_party(s: &[u8]) -> Option<&[u8]>
+    ensures { Took (Fields party) anything s.now (left result) }
 {
-    let a = take_field(body, at, b"448=", Kind::Text { most: 32 });
-    let b = take_field(body, a, b"447=", Kind::OneOf(Choice::D));
-    take_field(body, b, b"452=", Kind::OneOf(Choice::Roles))
+    let s = take_field(s, b"448=", Kind::Text { most: 32 })?;
+    let s = take_field(s, b"447=", Kind::OneOf(Choice::D))?;
+    take_field(s, b"452=", Kind::OneOf(Choice::Roles))
 }
 
 // n parties.
-fn take_members(body: &[u8], at: usize, n: u8) -> usize
-    requires { at ≤ length body.now }
-    ensures { Took (Parties n) anything body.now at result }
+fn take_members(s: &[u8], n: u8) -> Option<&[u8]>
+    ensures { Took (Parties n) anything s.now (left result) }
 {
-    let mut to = at;
-    let mut i: u8 = 0;
-    while i < n {
-        to = take_party(body, to);
-        i += 1;
+    let mut left = s;
+    for i in 0..n {
+        left = take_party(left)?;
     }
-    to
+    Some(left)
 }
 
 // 453 with 1 to 8 parties, or nothing, to the end.
-fn take_parties(body: &[u8], at: usize) -> usize
-    requires { at ≤ length body.now }
-    ensures { Took (Fields group) end body.now at result }
+fn take_parties(s: &[u8]) -> Option<&[u8]>
+    ensures { Took (Fields group) end s.now (left result) }
 {
-    if at == body.len() {
-        return at;
+    if s.is_empty() {
+        return Some(s);
     }
-    let a = take_label(body, at, b"453=");
-    if a == 0 {
-        return 0;
+    let [n, behind @ ..] = take_label(s, b"453=")? else {
+        return None;
+    };
+    if *n < b'1' {
+        return None;
     }
-    if a == body.len() {
-        return 0;
+    if b'8' < *n {
+        return None;
     }
-    let n = body[a];
-    if n < b'1' {
-        return 0;
-    }
-    if b'8' < n {
-        return 0;
-    }
-    let b = take_label(body, a + 1, b"\x01");
-    take_members(body, b, n - b'0')
+    take_members(take_label(behind, b"\x01")?, *n - b'0')
 }
 
-// Whether the bytes from a place on, which is not 0, are a report's own fields and nothing else.
-pub fn is_listed(body: &[u8], at: usize) -> bool
-    requires { (1 ≤ at) × (at ≤ length body.now) }
-    ensures { Listed (drop at body.now) result }
+// All of them.
+fn take_own(s: &[u8]) -> Option<&[u8]>
+    ensures { Took (Fields own) end s.now (left result) }
 {
-    let a = take_trade(body, at);
-    let b = take_figures(body, a);
-    let c = take_instrument(body, b);
-    let d = take_side(body, c);
-    let e = take_parties(body, d);
-    if e == 0 {
+    let s = take_trade(s)?;
+    let s = take_figures(s)?;
+    let s = take_instrument(s)?;
+    let s = take_side(s)?;
+    take_parties(s)
+}
+
+// Whether the bytes are a report's own fields and nothing else.
+pub fn is_listed(fields: &[u8]) -> bool
+    ensures { Listed fields.now result }
+{
+    let Some(behind) = take_own(fields) else {
         return false;
-    }
-    e == body.len()
+    };
+    behind.is_empty()
 }

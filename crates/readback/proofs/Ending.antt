@@ -15,7 +15,6 @@ use Rattle.fields.specs.First.{first_place, value_at}
 use Rattle.fields.proofs.Firsts.{first-place}
 use Rattle.readback.specs.Back.{place_words, amount_words, every_place, party_words, party_words_in, counted, words_in}
 use Rattle.readback.specs.code.Pass.{tag_at, words_at, three, part_at, Parts, Gathered}
-use Rattle.readback.specs.declared.noting.Counts.{Counts}
 use Rattle.readback.proofs.Slots.{three-words}
 
 -- the parties that have all three parts
@@ -102,7 +101,7 @@ module _ (w : List ℕ) (long : length w ≡ 82) where
       ∙ ap (λ (n : ℕ). party_words j l k ++ drop n w) last)))
 
 -- ALL OF THEM
-module _ (body : Bytes) (words : List ℕ) (had : Counts) (G : Gathered body words had) (n : ℕ) (Z : Zip had.ids had.sources had.roles n)
+module _ (body : Bytes) (words had : List ℕ) (G : Gathered body words had) (n : ℕ) (Z : Zip (get_or had 0 0) (get_or had 1 0) (get_or had 2 0) n)
     (w : List ℕ) (long : length w ≡ 82) (number : get_or w 33 0 ≡ n) (front : (y : ℕ) → y < 34 + 6 * n → (y ≡ 33 → ⊥) → get_or w y 0 ≡ get_or words y 0)
     (behind : (y : ℕ) → 34 + 6 * n ≤ y → y < 82 → get_or w y 0 ≡ 0) where
   abbrev A : List (ℕ × ℕ)
@@ -114,26 +113,35 @@ module _ (body : Bytes) (words : List ℕ) (had : Counts) (G : Gathered body wor
   abbrev C : List (ℕ × ℕ)
   C = every_place 452 body
 
-  few_a : had.ids ≡ length A
+  ids : Parts words 0 (every_place 448 body) (get_or had 0 0)
+  ids = G.parts 0 (omega arith)
+
+  sources : Parts words 1 (every_place 447 body) (get_or had 1 0)
+  sources = G.parts 1 (omega arith)
+
+  roles : Parts words 2 (every_place 452 body) (get_or had 2 0)
+  roles = G.parts 2 (omega arith)
+
+  few_a : get_or had 0 0 ≡ length A
   few_a = go (ltb (length (every_place 448 body)) 8) refl
     where
       l : List (ℕ × ℕ)
       l = every_place 448 body
 
-      go : (b : Bool) → ltb (length l) 8 ≡ b → had.ids ≡ length (take 8 l)
-      go true e = omega (arith, G.ids.few, G.ids.most (length l) (omega (arith, ltb-true (length l) 8 e)) (omega arith), ap length (take_all 8 l (omega (arith, ltb-true (length l) 8 e))))
-      go false e = omega (arith, G.ids.eight, G.ids.most 8 (omega arith) (ltb-false (length l) 8 e), length-take-le 8 l (ltb-false (length l) 8 e))
+      go : (b : Bool) → ltb (length l) 8 ≡ b → get_or had 0 0 ≡ length (take 8 l)
+      go true e = omega (arith, ids.few, ids.most (length l) (omega (arith, ltb-true (length l) 8 e)) (omega arith), ap length (take_all 8 l (omega (arith, ltb-true (length l) 8 e))))
+      go false e = omega (arith, ids.eight, ids.most 8 (omega arith) (ltb-false (length l) 8 e), length-take-le 8 l (ltb-false (length l) 8 e))
 
   count_is : zipped A B C ≡ n
   count_is =
       let P = zip_is A B C in
       let m = zipped A B C in
-      let up = Z.greatest m (omega (arith, P.first, few_a)) (G.sources.most m (omega (arith, P.first, few_a, G.ids.eight)) P.second) (G.roles.most m (omega (arith, P.first, few_a, G.ids.eight)) P.third) in
-      let down = P.greatest n (omega (arith, Z.first, few_a)) (omega (arith, Z.second, G.sources.few)) (omega (arith, Z.third, G.roles.few)) in
+      let up = Z.greatest m (omega (arith, P.first, few_a)) (sources.most m (omega (arith, P.first, few_a, ids.eight)) P.second) (roles.most m (omega (arith, P.first, few_a, ids.eight)) P.third) in
+      let down = P.greatest n (omega (arith, Z.first, few_a)) (omega (arith, Z.second, sources.few)) (omega (arith, Z.third, roles.few)) in
       omega arith
 
   eight : n ≤ 8
-  eight = omega (arith, Z.first, G.ids.eight)
+  eight = omega (arith, Z.first, ids.eight)
 
   part_of : (j : ℕ) → j < 3 → (l : List (ℕ × ℕ)) {m : ℕ} → Parts words j l m → Of w long 0 j l (zipped A B C)
   part_of j h l P q k =
@@ -145,7 +153,7 @@ module _ (body : Bytes) (words : List ℕ) (had : Counts) (G : Gathered body wor
   first_of : Of w long 0 0 A (zipped A B C)
   first_of q k =
       let e = get_or-take 8 (every_place 448 body) q (0, 0) (omega (arith, count_is, eight)) in
-      let f = part_of 0 (omega arith) (every_place 448 body) G.ids q k in
+      let f = part_of 0 (omega arith) (every_place 448 body) ids q k in
       (f.0 ∙ ap (λ (x : ℕ × ℕ). x.0) (sym e), f.1 ∙ ap (λ (x : ℕ × ℕ). x.1) (sym e))
 
   parties_are : drop 33 w ≡ counted (party_words_in body)
@@ -159,7 +167,7 @@ module _ (body : Bytes) (words : List ℕ) (had : Counts) (G : Gathered body wor
       drop_one w long 33 34 (omega arith) (omega arith)
       ∙ ap (λ (k : ℕ). k ∷ drop 34 w) (number ∙ d)
       ∙ ap (λ (r : List ℕ). length ws / 6 ∷ r)
-      (rows w long A B C 0 (omega (arith, count_is, eight)) first_of (part_of 1 (omega arith) B G.sources) (part_of 2 (omega arith) C G.roles)
+      (rows w long A B C 0 (omega (arith, count_is, eight)) first_of (part_of 1 (omega arith) B sources) (part_of 2 (omega arith) C roles)
       ∙ ap (λ (r : List ℕ). ws ++ r) (ap (λ (k : ℕ). drop k w) last ∙ zeros w long (34 + 6 * n) (omega (arith, eight)) behind ∙ ap (λ (k : ℕ). replicate k 0) rest))
 
   -- the k-th value's words, and those behind

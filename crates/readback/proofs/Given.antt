@@ -12,8 +12,8 @@ use Rattle.octets.specs.Bytes.{Bytes}
 use Rattle.octets.proofs.Numerals.{is_within}
 use Rattle.fields.specs.Field.{first_field}
 use Rattle.fields.specs.First.{first_place, value_at, Inside}
-use Rattle.fields.specs.declared.Place.{Place}
-use Rattle.fields.specs.declared.Place.TheVariants.{At, Absent}
+use Rattle.fields.specs.First.{Place}
+use Rattle.std.specs.Prelude.{Some, None}
 use Rattle.fields.proofs.Firsts.{first-place}
 use Rattle.message.specs.Message.{part}
 use Rattle.amounts.specs.Amount.{amount_in}
@@ -60,8 +60,8 @@ front_long [] n h = refl
 front_long (x ∷ l) n h = omega (arith, length-append x (threes l (n ∷ [])), front_long l n h.1, h.0)
 
 place-three : (p : Place) → length (place_words p) ≡ 3
-place-three (At s e) = refl
-place-three Absent = refl
+place-three (Some x) = refl
+place-three None = refl
 
 amount-three : (o : Option Bytes) → length (amount_words o) ≡ 3
 amount-three (some v) = refl
@@ -146,15 +146,15 @@ module _ (body : Bytes) where
     needed_is = rw (first_word, block_word 1 (omega arith), block_word 2 (omega arith)) (go (first_place t body) (first-place t body (first_place t body) refl).inside ∙ ap or_empty value_is)
       where
         go : (p : Place) → Inside body p → cond (not (eqb (get_or (place_words p) 0 0) 0)) (part body (get_or (place_words p) 1 0) (get_or (place_words p) 2 0)) [] ≡ or_empty (value_at body p)
-        go (At s e) i = part_is body s e i.0 i.1
-        go Absent i = refl
+        go (Some x) i = part_is body x.start x.end i.0 i.1
+        go None i = refl
 
     pub may_be_is : may_be (words_in body) body k ≡ first_field t body
     may_be_is = rw (first_word, block_word 1 (omega arith), block_word 2 (omega arith)) (go (first_place t body) (first-place t body (first_place t body) refl).inside ∙ value_is)
       where
         go : (p : Place) → Inside body p → cond (not (eqb (get_or (place_words p) 0 0) 0)) (some (part body (get_or (place_words p) 1 0) (get_or (place_words p) 2 0))) none ≡ value_at body p
-        go (At s e) i = ap some (part_is body s e i.0 i.1)
-        go Absent i = refl
+        go (Some x) i = ap some (part_is body x.start x.end i.0 i.1)
+        go None i = refl
 
   -- AN AMOUNT, which a clean report has
   pub amount_is : (k : ℕ) → k < 11 → (t : ℕ) → get_or blocks k [] ≡ amount_words (first_field t body) → (v : Bytes) → first_field t body ≡ some v → amount_at (words_in body) body k ≡ amount_in (Report.the t body)

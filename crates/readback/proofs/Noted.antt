@@ -9,8 +9,8 @@ use lib.ListN.{length, get_or, set, length-append, length-set, get_or-append, ge
 use lib.Seq.{get_or-set_same, get_or-set_other, get_or-append_seam}
 use borrow.Author.Tests.{eqb-true, eqb-false, leb-true, leb-false, ltb-true, ltb-false}
 use Rattle.octets.specs.Bytes.{Bytes}
-use Rattle.fields.specs.First.{or_else}
-use Rattle.fields.specs.declared.Place.{Place}
+use Rattle.std.specs.Option.{option_or}
+use Rattle.fields.specs.First.{Place}
 use Rattle.fields.proofs.Firsts.{place_from}
 use Rattle.readback.specs.code.Pass.{tag_at, words_at, three, part_at, PartNoted, Parts}
 use Rattle.readback.proofs.Every.{places_from}
@@ -20,7 +20,7 @@ use Rattle.readback.proofs.Slots.{three-words}
 pub record Value (body : Bytes) (at : ℕ) (words : List ℕ) (k : ℕ) : Type 0 where
   pub place : Place
   pub said : three words k ≡ words_at k body place
-  pub met : or_else place (place_from (tag_at k) body at) ≡ place_from (tag_at k) body 0
+  pub met : option_or place (place_from (tag_at k) body at) ≡ place_from (tag_at k) body 0
 
 -- the places of a party's part met so far, and those behind
 pub record Part (body : Bytes) (at : ℕ) (words : List ℕ) (t j n : ℕ) : Type 0 where

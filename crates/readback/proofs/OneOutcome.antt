@@ -4,8 +4,8 @@ use mathlib.Core.Path.{◌≡◌, sym, ◌∙◌}
 use mathlib.Core.List.{List}
 use Rattle.octets.specs.Bytes.{Bytes}
 use Rattle.readback.specs.Back.{Reads}
-use Rattle.readback.specs.declared.ReadBack.{ReadBack}
+use Rattle.dictionary.specs.Verdict.{Verdict}
 
 -- `report_values`: the answer and every word
-pub reads_one : {body : Bytes} {r r' : ReadBack} {words words' : List ℕ} → Reads body r words → Reads body r' words' → (r ≡ r') × (words ≡ words')
+pub reads_one : {body : Bytes} {r r' : Verdict} {words words' : List ℕ} → Reads body r words → Reads body r' words' → (r ≡ r') × (words ≡ words')
 reads_one A B = (A.answer ∙ sym B.answer, A.words_are ∙ sym B.words_are)

@@ -16,10 +16,10 @@ use Rattle.kinds.specs.Kind as Kind
 use Rattle.table.specs.Dictionary.{№453, №580, №552, header, fields, groups_of, member, rows_of, listed, kind_in, in_dictionary}
 use Rattle.table.specs.declared.MsgType.{MsgType}
 use Rattle.table.specs.declared.MsgType.TheVariants.{TradeCaptureReport}
-use Rattle.dictionary.specs.Verdict.{verdict, msg_type}
+use Rattle.dictionary.specs.Verdict.{Verdict, Clean, found, no_body, verdict, msg_type}
 use Rattle.dictionary.specs.Promise.{OfKind, AllPassed}
 use Rattle.dictionary.specs.Groups.{required, fields_among, Counted, Grouped, AllGrouped}
-use Rattle.dictionary.specs.declared.Verdict.TheVariants.{Clean}
+use Rattle.dictionary.specs.declared.Unclean.TheVariants.{Found, NoBody}
 use Rattle.dictionary.proofs.Bodies.{among_all, clean-body}
 use Rattle.dictionary.proofs.Counting.{few}
 use Rattle.calendar.specs.Time.{utc, limit}
@@ -32,10 +32,9 @@ use Rattle.report.specs.Values as Report
 use Rattle.report.specs.Report.{Report, or_empty, the, parties_in, fields_with, sent, again, sendable, values_in, report_in}
 use Rattle.report.proofs.Promise as Written
 use Rattle.report.specs.Layout.{tags}
-use Rattle.readback.specs.Back.{read_back, numbers}
+use Rattle.std.specs.Prelude.{Ok, Err}
+use Rattle.readback.specs.Back.{Values, read_back, numbers}
 use Rattle.readback.specs.code.Pass.{names_report}
-use Rattle.readback.specs.declared.ReadBack.{ReadBack}
-use Rattle.readback.specs.declared.ReadBack.TheVariants.{Values, Finding, NoBody}
 use Rattle.readback.specs.Promise.{Parties, Given, ReadsBack, Promise}
 use Rattle.readback.proofs.Answers.{report_answers, values_clean, values_say, finding_says, refusal_says}
 use Rattle.readback.proofs.Parties.{three, parties_of_lem, parties_are}
@@ -147,18 +146,18 @@ back_again us them r h t l =
     reads _ r (W.clean l) (names_report_lem us them r.number (bytes (fix "Y")) t (bytes (utc r.time)) r.values) W.reads
 
 -- the case that number and values tell
-told : Option ℕ → List ℕ → ReadBack
+told : Option ℕ → List ℕ → Verdict
 told none [] = Values
-told none (r ∷ l) = Finding r (get_or l 0 0)
-told (some n) l = NoBody
+told none (r ∷ l) = found r (get_or l 0 0)
+told (some n) l = no_body
 
-told_back : (r : ReadBack) → told (numbers r).0 (numbers r).1 ≡ r
+told_back : (r : Verdict) → told (numbers r).0 (numbers r).1 ≡ r
 unfolding told
-told_back Values = refl
-told_back (Finding r t) = refl
-told_back NoBody = refl
+told_back (Ok u) = refl
+told_back (Err (Found f)) = refl
+told_back (Err NoBody) = refl
 
-numbers_tell : (r s : ReadBack) → numbers r ≡ numbers s → r ≡ s
+numbers_tell : (r s : Verdict) → numbers r ≡ numbers s → r ≡ s
 numbers_tell r s h = sym (told_back r) ∙ ap (λ (p : Option ℕ × List ℕ). told p.0 p.1) h ∙ told_back s
 
 pub promise : Promise

@@ -7,20 +7,23 @@ use mathlib.Core.Bool.{Bool, true, false, cond}
 use lib.Dec.{eqb}
 use lib.ListN.{length, take, drop, get_or, set, length-set}
 use lib.Seq.{get_or-set_same, get_or-set_other}
-use borrow.Author.Tests.{eqb-true, eq-eqb, ne_eqb, le-leb, lt-leb}
+use borrow.Author.Tests.{eqb-true, eqb-false, eq-eqb, ne_eqb, le-leb, lt-leb}
 use Rattle.octets.specs.Bytes.{Bytes, within}
 use Rattle.octets.proofs.Tests.{at_below}
 use Rattle.octets.proofs.Numerals.{within_is}
-use Rattle.fields.specs.First.{or_else, value_at}
-use Rattle.fields.specs.declared.Place.{Place}
-use Rattle.fields.specs.declared.Place.TheVariants.{At, Absent}
+use Rattle.std.specs.Option.{option_or}
+use Rattle.fields.specs.First.{value_at}
+use Rattle.fields.specs.First.{Place, from_to}
+use Rattle.std.specs.Prelude.{Some, None}
+use Rattle.std.proofs.lemmas.Option.{none-some, same_Some}
 use Rattle.decimals.specs.Decimal.{decimal_of}
 use Rattle.decimals.specs.declared.Decimal.{Decimal}
+use Rattle.fault.specs.declared.Fault.{Fault}
+use Rattle.std.specs.Prelude.{Result}
 use Rattle.amounts.specs.Amount.{given, amount_in}
 use Rattle.report.specs.Layout.{tags}
 use Rattle.readback.specs.Back.{place_words, amount_words}
-use Rattle.readback.specs.code.Pass.{index_in, slot_of, tag_at, pair_in, pair_of, slot_set, slot_noted, value_noted, words_at, three, part_at, PartNoted}
-use Rattle.readback.specs.declared.place.Pair.{Pair}
+use Rattle.readback.specs.code.Pass.{index_in, slot_of, slot_in, tag_at, pair_in, pair_of, slot_set, slot_noted, value_noted, words_at, three, part_at, PartNoted}
 
 -- THE PLACE OF A TAG among the eleven
 index_small : (t : ℕ) (l : List ℕ) → index_in t l ≤ length l
@@ -63,19 +66,19 @@ unfolding slot_of
 tag_party k h = (no_value 448 refl k h, no_value 447 refl k h, no_value 452 refl k h)
 
 -- WHAT A VALUE'S WORDS SAY
-pub words_there : (k : ℕ) (body : Bytes) (s e : ℕ) → words_at k body (At s e) ≡ 1 ∷ (pair_in body k s e).first ∷ (pair_in body k s e).second ∷ []
+pub words_there : (k : ℕ) (body : Bytes) (s e : ℕ) → words_at k body (from_to s e) ≡ 1 ∷ (pair_in body k s e).0 ∷ (pair_in body k s e).1 ∷ []
 words_there k body s e = go (eqb k 3) (eqb k 4)
   where
-    go : (a b : Bool) → cond a (amount_words (value_at body (At s e))) (cond b (amount_words (value_at body (At s e))) (place_words (At s e)))
-        ≡ 1 ∷ (cond a (pair_in body 3 s e) (cond b (pair_in body 3 s e) (record { first = s; second = e }))).first ∷ (cond a (pair_in body 3 s e) (cond b (pair_in body 3 s e) (record { first = s; second = e }))).second ∷ []
+    go : (a b : Bool) → cond a (amount_words (value_at body (from_to s e))) (cond b (amount_words (value_at body (from_to s e))) (place_words (from_to s e)))
+        ≡ 1 ∷ (cond a (pair_in body 3 s e) (cond b (pair_in body 3 s e) (s, e))).0 ∷ (cond a (pair_in body 3 s e) (cond b (pair_in body 3 s e) (s, e))).1 ∷ []
     go true b = refl
     go false true = refl
     go false false = refl
 
-pub words-absent : (k : ℕ) (body : Bytes) → words_at k body Absent ≡ 0 ∷ 0 ∷ 0 ∷ []
+pub words-absent : (k : ℕ) (body : Bytes) → words_at k body None ≡ 0 ∷ 0 ∷ 0 ∷ []
 words-absent k body = go (eqb k 3) (eqb k 4)
   where
-    go : (a b : Bool) → cond a (amount_words (value_at body Absent)) (cond b (amount_words (value_at body Absent)) (place_words Absent)) ≡ 0 ∷ 0 ∷ 0 ∷ []
+    go : (a b : Bool) → cond a (amount_words (value_at body None)) (cond b (amount_words (value_at body None)) (place_words None)) ≡ 0 ∷ 0 ∷ 0 ∷ []
     go true b = refl
     go false true = refl
     go false false = refl
@@ -111,12 +114,12 @@ module _ (w : List ℕ) (x a b c : ℕ) where
 pub three-words : {a b c x y z : ℕ} → a ≡ x → b ≡ y → c ≡ z → a ∷ b ∷ c ∷ [] ≡ x ∷ y ∷ z ∷ []
 three-words p q r = rw (p, q, r)
 
-module _ (w : List ℕ) (k : ℕ) (p : Pair) where
+module _ (w : List ℕ) (k : ℕ) (p : ℕ × ℕ) where
   pub slot_long : length (slot_noted w k p) ≡ length w
   slot_long = go (eqb (get_or w (3 * k) 0) 0)
     where
       go : (b : Bool) → length (cond b (slot_set w k p) w) ≡ length w
-      go true = put3_long w (3 * k) 1 p.first p.second
+      go true = put3_long w (3 * k) 1 p.0 p.1
       go false = refl
 
   -- a word elsewhere stays
@@ -124,7 +127,7 @@ module _ (w : List ℕ) (k : ℕ) (p : Pair) where
   slot_other y a b c = go (eqb (get_or w (3 * k) 0) 0)
     where
       go : (d : Bool) → get_or (cond d (slot_set w k p) w) y 0 ≡ get_or w y 0
-      go true = put3_other w (3 * k) 1 p.first p.second y a b c
+      go true = put3_other w (3 * k) 1 p.0 p.1 y a b c
       go false = refl
 
   -- another value's words stay
@@ -137,53 +140,71 @@ module _ (w : List ℕ) (k : ℕ) (p : Pair) where
 
 -- the words that a place has, and a note of the same value behind it
 pub three-same : (w : List ℕ) (k : ℕ) (body : Bytes) (p : Place) (s e : ℕ) → length w ≡ 82 → k < 11 → three w k ≡ words_at k body p
-    → three (slot_noted w k (pair_in body k s e)) k ≡ words_at k body (or_else p (At s e))
-three-same w k body (At x y) s e l h m = ap (λ (b : Bool). three (cond b (slot_set w k (pair_in body k s e)) w) k) (ne_eqb (get_or w (3 * k) 0) 0 met) ∙ m
+    → three (slot_noted w k (pair_in body k s e)) k ≡ words_at k body (option_or p (from_to s e))
+three-same w k body (Some x) s e l h m = ap (λ (b : Bool). three (cond b (slot_set w k (pair_in body k s e)) w) k) (ne_eqb (get_or w (3 * k) 0) 0 met) ∙ m
   where
     met : get_or w (3 * k) 0 ≡ 0 → ⊥
-    met z = let q = m ∙ words_there k body x y in let r : ◌≡◌ {A = ℕ} (get_or w (3 * k) 0) 1 = cc in omega arith
-three-same w k body Absent s e l h m =
+    met z = let q = m ∙ words_there k body x.start x.end in let r : ◌≡◌ {A = ℕ} (get_or w (3 * k) 0) 1 = cc in omega arith
+three-same w k body None s e l h m =
     ap (λ (b : Bool). three (cond b (slot_set w k (pair_in body k s e)) w) k) (eq-eqb (get_or w (3 * k) 0) 0 none_yet)
-    ∙ three-words (put3_first w (3 * k) 1 q.first q.second (omega arith)) (put3_second w (3 * k) 1 q.first q.second (omega arith)) (put3_third w (3 * k) 1 q.first q.second (omega arith))
+    ∙ three-words (put3_first w (3 * k) 1 q.0 q.1 (omega arith)) (put3_second w (3 * k) 1 q.0 q.1 (omega arith)) (put3_third w (3 * k) 1 q.0 q.1 (omega arith))
     ∙ sym (words_there k body s e)
   where
-    q : Pair
+    q : ℕ × ℕ
     q = pair_in body k s e
 
     none_yet : get_or w (3 * k) 0 ≡ 0
     none_yet = let r = m ∙ words-absent k body in cc
 
 -- A FIELD OF THE ELEVEN, by the tests of the code
-pub slot_eleven : (t : ℕ) {k : ℕ} → k ≡ slot_of t → (k ≡ 11 → ⊥) → k < 11
-slot_eleven t i n = omega (arith, i, slot_small t, n)
+slot_one : (n k : ℕ) → Some k ≡ slot_in n → (k ≡ n) × (n ≡ 11 → ⊥)
+slot_one n k e = go (eqb n 11) refl e
+  where
+    go : (b : Bool) → eqb n 11 ≡ b → Some k ≡ cond b None (Some n) → (k ≡ n) × (n ≡ 11 → ⊥)
+    go true q h = absurd (none-some {A = ℕ} k (sym h))
+    go false q h = (same_Some {A = ℕ} k n h, eqb-false n 11 q)
 
-module _ (body : Bytes) (t s e : ℕ) (w : List ℕ) {k : ℕ} (i : k ≡ slot_of t) where
-  pub value_none : k ≡ 11 → w ≡ value_noted body t s e w
-  value_none h = sym (ap (λ (n : ℕ). cond (eqb n 11) w (slot_noted w n (pair_in body n s e))) (sym i) ∙ ap (λ (b : Bool). cond b w (slot_noted w k (pair_in body k s e))) (eq-eqb k 11 h))
+slot_no : (n : ℕ) → None ≡ slot_in n → n ≡ 11
+slot_no n e = go (eqb n 11) refl e
+  where
+    go : (b : Bool) → eqb n 11 ≡ b → None ≡ cond b None (Some n) → n ≡ 11
+    go true q h = eqb-true n 11 q
+    go false q h = absurd (none-some {A = ℕ} n h)
 
-  some_slot : (k ≡ 11 → ⊥) → value_noted body t s e w ≡ slot_noted w k (pair_in body k s e)
-  some_slot n = ap (λ (n : ℕ). cond (eqb n 11) w (slot_noted w n (pair_in body n s e))) (sym i) ∙ ap (λ (b : Bool). cond b w (slot_noted w k (pair_in body k s e))) (ne_eqb k 11 n)
+pub slot_eleven : (t k : ℕ) → Some k ≡ slot_in (slot_of t) → k < 11
+slot_eleven t k e = let w = slot_one (slot_of t) k e in omega (arith, w.0, w.1, slot_small t)
 
-  pub value_had : (k ≡ 11 → ⊥) → (get_or w (3 * k) 0 ≡ 0 → ⊥) → w ≡ value_noted body t s e w
-  value_had n h = sym (some_slot n ∙ ap (λ (b : Bool). cond b (slot_set w k (pair_in body k s e)) w) (ne_eqb (get_or w (3 * k) 0) 0 h))
+module _ (body : Bytes) (t s e : ℕ) (w : List ℕ) where
+  pub value_none : None ≡ slot_in (slot_of t) → w ≡ value_noted body t s e w
+  value_none h = sym (ap (λ (b : Bool). cond b w (slot_noted w (slot_of t) (pair_in body (slot_of t) s e))) (eq-eqb (slot_of t) 11 (slot_no (slot_of t) h)))
 
-  pub value_new : {p : Pair} → (k ≡ 11 → ⊥) → get_or w (3 * k) 0 ≡ 0 → p ≡ pair_in body k s e → slot_set w k p ≡ value_noted body t s e w
-  value_new n h q = ap (slot_set w k) q ∙ sym (some_slot n ∙ ap (λ (b : Bool). cond b (slot_set w k (pair_in body k s e)) w) (eq-eqb (get_or w (3 * k) 0) 0 h))
+  module _ (k : ℕ) (i : Some k ≡ slot_in (slot_of t)) where
+    some_slot : value_noted body t s e w ≡ slot_noted w k (pair_in body k s e)
+    some_slot =
+        let n = slot_one (slot_of t) k i in
+        ap (λ (b : Bool). cond b w (slot_noted w (slot_of t) (pair_in body (slot_of t) s e))) (ne_eqb (slot_of t) 11 n.1)
+        ∙ ap (λ (m : ℕ). slot_noted w m (pair_in body m s e)) (sym n.0)
+
+    pub value_had : (get_or w (3 * k) 0 ≡ 0 → ⊥) → w ≡ value_noted body t s e w
+    value_had h = sym (some_slot ∙ ap (λ (b : Bool). cond b (slot_set w k (pair_in body k s e)) w) (ne_eqb (get_or w (3 * k) 0) 0 h))
+
+    pub value_new : {p : ℕ × ℕ} → get_or w (3 * k) 0 ≡ 0 → p ≡ pair_in body k s e → slot_set w k p ≡ value_noted body t s e w
+    value_new h q = ap (slot_set w k) q ∙ sym (some_slot ∙ ap (λ (b : Bool). cond b (slot_set w k (pair_in body k s e)) w) (eq-eqb (get_or w (3 * k) 0) 0 h))
 
 -- WHAT IS NOTED of a value: an amount's two numbers for the fourth and the fifth
 module _ (body : Bytes) (k s e : ℕ) where
-  pub pair_fourth : {p : Pair} → k ≡ 3 → p ≡ pair_of (take (e - s) (drop s body)) → p ≡ pair_in body k s e
+  pub pair_fourth : {p : ℕ × ℕ} → k ≡ 3 → p ≡ pair_of (take (e - s) (drop s body)) → p ≡ pair_in body k s e
   pair_fourth h q = q ∙ rw (eq-eqb k 3 h)
 
-  pub pair_fifth : {p : Pair} → k ≡ 4 → p ≡ pair_of (take (e - s) (drop s body)) → p ≡ pair_in body k s e
+  pub pair_fifth : {p : ℕ × ℕ} → k ≡ 4 → p ≡ pair_of (take (e - s) (drop s body)) → p ≡ pair_in body k s e
   pair_fifth h q = q ∙ rw h
 
-  pub pair_place : (k ≡ 3 → ⊥) → (k ≡ 4 → ⊥) → record { first = s; second = e } ≡ pair_in body k s e
+  pub pair_place : (k ≡ 3 → ⊥) → (k ≡ 4 → ⊥) → (s, e) ≡ pair_in body k s e
   pair_place a b = rw (ne_eqb k 3 a, ne_eqb k 4 b)
 
-pub amount_pair : (v : Bytes) {d : Decimal} → d ≡ decimal_of v → record { first = (given d).whole; second = (given d).places } ≡ pair_of v
+pub amount_pair : (v : Bytes) {d : Result Decimal Fault} → d ≡ decimal_of v → ((given d).whole, (given d).places) ≡ pair_of v
 unfolding amount_in
-amount_pair v q = ap (λ (d : Decimal). record { first = (given d).whole; second = (given d).places }) q
+amount_pair v q = ap (λ (d : Result Decimal Fault). ((given d).whole, (given d).places)) q
 
 -- A PARTY'S PART, by the test of the code
 module _ (w : List ℕ) (j n s e : ℕ) where

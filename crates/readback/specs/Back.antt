@@ -1,44 +1,44 @@
 -- A report "read back for our rehearsal desk": from a body its values, the verdict's finding, or refusal 10.
-use Rattle.std.specs.Prelude.{ℕ, ◌+◌, ◌-◌, ◌/◌, ◌≡◌, List, [], ◌∷◌, ◌++◌, cond, length, take, replicate}
+use Rattle.std.specs.Prelude.{ℕ, ◌+◌, ◌-◌, ◌/◌, ◌≡◌, List, [], ◌∷◌, ◌++◌, cond, length, take, replicate, Ok, Err}
 use Rattle.std.proofs.Math.Option.{Option, none, some}
 use Rattle.octets.specs.Bytes.{Bytes, fix, same, starts, decimal}
 use Rattle.fields.specs.Field.{parts, first_field}
 use Rattle.fields.specs.First.{first_place}
-use Rattle.fields.specs.declared.Place.{Place}
-use Rattle.fields.specs.declared.Place.TheVariants.{At, Absent}
+use Rattle.fields.specs.First.{Place}
+use Rattle.std.specs.Prelude.{Some, None}
 use Rattle.table.specs.declared.MsgType.{MsgType}
 use Rattle.table.specs.Dictionary.{code35}
-use Rattle.dictionary.specs.Verdict.{verdict, msg_type}
-use Rattle.dictionary.specs.declared.Verdict as Dictionary
-use Rattle.dictionary.specs.declared.Verdict.TheVariants as Found
+use Rattle.dictionary.specs.Verdict.{Verdict, Clean, found, verdict, msg_type}
+use Rattle.dictionary.specs.declared.Unclean.TheVariants.{Found, NoBody}
 use Rattle.amounts.specs.Amount.{amount_in}
 use Rattle.report.specs.Layout.{word_count}
-use Rattle.readback.specs.declared.ReadBack.{ReadBack}
-use Rattle.readback.specs.declared.ReadBack.TheVariants.{Values, Finding, NoBody}
 
--- THE ANSWER. A clean body of another type is "MsgType outside": 11, tag 35
-abbrev pub of_type : Option MsgType → ReadBack
-of_type none = Finding 11 35
-of_type (some m) = cond (same (code35 m) (fix "AE")) Values (Finding 11 35)
+-- THE ANSWER, as a verdict: clean where the words are the values, else the finding, or refusal 10
+abbrev pub Values : Verdict
+Values = Clean
 
-abbrev pub by_verdict : Dictionary.Verdict → Option MsgType → ReadBack
-by_verdict Found.Clean m = of_type m
-by_verdict (Found.Finding reason tag) m = Finding reason tag
-by_verdict Found.NoBody m = NoBody
+-- A clean body of another type is "MsgType outside": 11, tag 35
+abbrev pub of_type : Option MsgType → Verdict
+of_type none = found 11 35
+of_type (some m) = cond (same (code35 m) (fix "AE")) Values (found 11 35)
 
-unfoldable pub read_back : Bytes → ReadBack
+abbrev pub by_verdict : Verdict → Option MsgType → Verdict
+by_verdict (Ok _) m = of_type m
+by_verdict (Err e) m = Err e
+
+unfoldable pub read_back : Bytes → Verdict
 read_back body = by_verdict (verdict body) (msg_type body)
 
 -- this paper's number of the refusal, and the finding if there is one
-abbrev pub numbers : ReadBack → Option ℕ × List ℕ
-numbers Values = (none, [])
-numbers (Finding reason tag) = (none, reason ∷ tag ∷ [])
-numbers NoBody = (some 10, [])
+abbrev pub numbers : Verdict → Option ℕ × List ℕ
+numbers (Ok _) = (none, [])
+numbers (Err (Found f)) = (none, f.reason ∷ f.tag ∷ [])
+numbers (Err NoBody) = (some 10, [])
 
 -- THE WORDS (specs/Layout.antt of report): where each value lies in the body, that of its first field; an amount by its two numbers
 abbrev pub place_words : Place → List ℕ
-place_words (At start end) = 1 ∷ start ∷ end ∷ []
-place_words Absent = 0 ∷ 0 ∷ 0 ∷ []
+place_words (Some s) = 1 ∷ s.start ∷ s.end ∷ []
+place_words None = 0 ∷ 0 ∷ 0 ∷ []
 
 abbrev pub amount_words : Option Bytes → List ℕ
 amount_words none = 0 ∷ 0 ∷ 0 ∷ []
@@ -83,12 +83,11 @@ words_in body =
     counted (party_words_in body)))))))))))
 
 -- without values the words are zero
-abbrev pub words_by : ReadBack → Bytes → List ℕ
-words_by Values body = words_in body
-words_by (Finding reason tag) body = replicate word_count 0
-words_by NoBody body = replicate word_count 0
+abbrev pub words_by : Verdict → Bytes → List ℕ
+words_by (Ok _) body = words_in body
+words_by (Err e) body = replicate word_count 0
 
 -- THE CALL: what is answered for a body, and all the words that are left
-pub record Reads (body : Bytes) (r : ReadBack) (words : List ℕ) : Type 0 where
+pub record Reads (body : Bytes) (r : Verdict) (words : List ℕ) : Type 0 where
   pub answer : r ≡ read_back body
   pub words_are : words ≡ words_by (read_back body) body

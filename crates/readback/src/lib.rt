@@ -8,46 +8,34 @@ ghost use Rattle.std.specs.Prelude.{◌≡◌};
 ghost use Rattle.readback.specs.Back.{Reads};
 ghost use Rattle.readback.specs.code.Pass.{names_report};
 
-use dictionary::Verdict;
-use fields::{Place, type_field};
-use kinds::same;
+use dictionary::{Finding, Verdict, verdict_on};
+use fields::{Span, type_field};
 use noting::note_all;
-
-// What a body is to one who wants a report's values: they lie in the words, or there is a finding, or it is no body, refusal 10.
-#[derive(Clone, Copy)]
-pub enum ReadBack {
-    Values,
-    Finding { reason: u32, tag: u32 },
-    NoBody,
-}
 
 // Whether the first field 35 is AE.
 fn is_report(body: &[u8]) -> bool
     ensures { result ≡ names_report body.now }
 {
-    let Place::At { start, end } = type_field(body) else {
+    let Some(Span { start, end }) = type_field(body) else {
         return false;
     };
-    same(&body[start..end], b"AE")
+    &body[start..end] == b"AE".as_slice()
 }
 
-// The words of the values that a body's report has; without values they are zero.
-pub fn report_values(body: &[u8], words: &mut [u64; 82]) -> ReadBack
+// The words of the values that a body's report has. Without them the words are zero, and the answer is the verdict's finding or refusal 10; of a clean body
+// of another type it is 11, tag 35.
+pub fn report_values(body: &[u8], words: &mut [u64; 82]) -> Verdict
     ensures { Reads body.now result words.new }
 {
     *words = [0; 82];
-    match dictionary::verdict_on(body) {
-        Verdict::Clean => {
-            if !is_report(body) {
-                return ReadBack::Finding {
-                    reason: 11,
-                    tag: 35,
-                };
-            }
-            note_all(body, words);
-            ReadBack::Values
+    verdict_on(body)?;
+    if !is_report(body) {
+        return Err(Finding {
+            reason: 11,
+            tag: 35,
         }
-        Verdict::Finding { reason, tag } => ReadBack::Finding { reason, tag },
-        Verdict::NoBody => ReadBack::NoBody,
+        .into());
     }
+    note_all(body, words);
+    Ok(())
 }

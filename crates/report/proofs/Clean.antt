@@ -10,10 +10,8 @@ use Rattle.octets.specs.Bytes.{Bytes, fix, any, has, within, decimal}
 use Rattle.octets.proofs.Tests.{both, neither, any_append}
 use Rattle.calendar.specs.Time.{utc}
 use Rattle.table.specs.declared.MsgType.TheVariants.{TradeCaptureReport}
-use Rattle.dictionary.specs.declared.Says.TheVariants.{Nothing}
-use Rattle.dictionary.specs.declared.Verdict.TheVariants.{Clean}
 use Rattle.table.specs.Dictionary.{Group, №453, №580, №552, header, fields, listed, groups_of, member, rows_of, frame_tag, in_dictionary}
-use Rattle.dictionary.specs.Verdict.{Open, opened, missing, walk}
+use Rattle.dictionary.specs.Verdict.{Nothing, Clean, Open, opened, missing, walk}
 use Rattle.message.specs.Message.{number, bytes, Field, ◌is◌, shown}
 use Rattle.message.proofs.Clean.{meet}
 use Rattle.message.proofs.Cutting.{parts_of, with_part}

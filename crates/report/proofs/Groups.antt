@@ -11,10 +11,8 @@ use borrow.Author.Tests.{ne_eqb, eq-eqb}
 use Rattle.octets.specs.Bytes.{Bytes, any, has, value, decimal}
 use Rattle.octets.proofs.Decimals.{decimal-worth}
 use Rattle.table.specs.declared.MsgType.TheVariants.{TradeCaptureReport}
-use Rattle.dictionary.specs.declared.Says.TheVariants.{Nothing}
-use Rattle.dictionary.specs.declared.Verdict.TheVariants.{Clean}
 use Rattle.table.specs.Dictionary.{№453, №580, №552, header, fields, groups_of, member, rows_of, in_dictionary}
-use Rattle.dictionary.specs.Verdict.{Open, incomplete, closing, closing_all, missing, walk, rule8, ◌when◌}
+use Rattle.dictionary.specs.Verdict.{Nothing, Clean, Open, incomplete, closing, closing_all, missing, walk, rule8, ◌when◌}
 use Rattle.message.specs.Message.{number, bytes, Field, ◌is◌}
 use Rattle.message.proofs.Cutting.{parts_of}
 use Rattle.message.specs.Unfit.{unfit}

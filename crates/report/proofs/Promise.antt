@@ -9,8 +9,7 @@ use lib.ListN.{length}
 use Rattle.octets.specs.Bytes.{Bytes, fix}
 use Rattle.calendar.specs.Time.{utc, limit}
 use Rattle.calendar.proofs.Times.{utc_no_bar}
-use Rattle.dictionary.specs.declared.Verdict.TheVariants.{Clean}
-use Rattle.dictionary.specs.Verdict.{verdict}
+use Rattle.dictionary.specs.Verdict.{Clean, verdict}
 use Rattle.message.specs.Message.{bytes, row}
 use Rattle.message.specs.Whole.{body_in}
 use Rattle.fields.specs.Field.{first_field}

@@ -15,9 +15,8 @@ use Rattle.kinds.specs.Kind.{kind_of, is_number, formed, allowed}
 use Rattle.calendar.specs.Time.{utc, limit}
 use Rattle.calendar.proofs.Times.{utc_length, utc_formed, utc_no_bar, utc_allowed}
 use Rattle.table.specs.declared.MsgType.TheVariants.{TradeCaptureReport}
-use Rattle.dictionary.specs.declared.Verdict.TheVariants.{Clean}
 use Rattle.table.specs.Dictionary.{№453, №580, №552, header, code35, fields, groups_of, rows_of, type_of}
-use Rattle.dictionary.specs.Verdict.{verdict, walk, nothing_yet}
+use Rattle.dictionary.specs.Verdict.{Clean, verdict, walk, nothing_yet}
 use Rattle.message.specs.Message.{bytes, Field, ◌is◌, tagged, row}
 use Rattle.message.proofs.Cutting.{parts_of}
 use Rattle.message.proofs.Frames.{begins_35, row_ends, framed-length}

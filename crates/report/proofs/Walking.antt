@@ -7,9 +7,8 @@ use Rattle.octets.specs.Bytes.{Bytes, any, has, within, decimal}
 use Rattle.fields.specs.Field.{field}
 use Rattle.table.specs.declared.MsgType.{MsgType}
 use Rattle.table.specs.declared.MsgType.TheVariants.{TradeCaptureReport}
-use Rattle.dictionary.specs.declared.Says.TheVariants.{Nothing}
 use Rattle.table.specs.Dictionary.{header, code35, administrative, listed, groups_of, member, frame_tag, in_dictionary}
-use Rattle.dictionary.specs.Verdict.{Open, Past, said, after, taken, opened, joined, left, skipped, first_member, incomplete, walk, rules4to10, rule1, rule2, rule3, rule4, rule5, rule6, rule7, rule8, rule9, rule10, ◌when◌}
+use Rattle.dictionary.specs.Verdict.{Nothing, Open, Past, said, after, taken, opened, joined, left, skipped, first_member, incomplete, walk, rules4to10, rule1, rule2, rule3, rule4, rule5, rule6, rule7, rule8, rule9, rule10, ◌when◌}
 use Rattle.dictionary.proofs.Taken.{part-written}
 use Rattle.message.proofs.Accepted.{Accepted}
 

@@ -4,8 +4,7 @@ use Rattle.std.specs.Prelude.{ℕ, ◌≤◌, ◌<◌, ◌≡◌, List, ◌++◌
 use Rattle.std.proofs.Math.Option.{some}
 use Rattle.octets.specs.Bytes.{Bytes, fix, decimal, Byted}
 use Rattle.frame.specs.Frame.{fixt, Good}
-use Rattle.dictionary.specs.declared.Verdict.TheVariants.{Clean}
-use Rattle.dictionary.specs.Verdict.{verdict}
+use Rattle.dictionary.specs.Verdict.{Clean, verdict}
 use Rattle.fields.specs.Field.{first_field}
 use Rattle.calendar.specs.Time.{utc, limit}
 use Rattle.message.specs.Message.{absent, number, bytes, Field, ◌is◌}

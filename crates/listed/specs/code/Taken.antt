@@ -1,6 +1,8 @@
 -- What one step of the walk over a report's fields takes. Only the code needs these: nothing here states document 02.
-use Rattle.std.specs.Prelude.{ℕ, ◌+◌, ◌≤◌, ◌≡◌, List, [], ◌∷◌, ◌++◌, Bool, true, false, not, ◌⊎◌, eqb, length, drop}
-use Rattle.std.proofs.Math.Option.{Option}
+use Rattle.std.specs.Prelude.{ℕ, ◌≡◌, List, [], ◌∷◌, ◌++◌, Bool, true, false, not, ◌⊎◌, eqb, length, Some, None}
+use Rattle.std.specs.Prelude as Std
+use Rattle.std.specs.Borrow.{Bor}
+use Rattle.std.proofs.Math.Option.{Option, none, some}
 use Rattle.octets.specs.Bytes.{Bytes, fix, any, starts}
 use Rattle.kinds.specs.Kind.{Kind}
 use Rattle.table.specs.declared.MsgType.TheVariants.{TradeCaptureReport}
@@ -10,23 +12,26 @@ use Rattle.message.specs.code.Writable.{unwritten}
 use Rattle.amounts.specs.Amount.{Amount, amount_text}
 use Rattle.report.specs.Values.{Party, optional, members}
 
--- A step over l from the place `at` to r. Where r is a place, the bytes between are such as G describes; where it is 0, which is no place, none such stand
--- at `at` with what N allows behind them. At the place 0 nothing is taken.
-pub record Took (G : Bytes → Type 0) (N : Bytes → Bool) (l : Bytes) (at r : ℕ) : Type 0 where
-  pub within : r ≤ length l
-  pub stays : at ≡ 0 → r ≡ 0
-  pub seen : (r ≡ 0 → ⊥) → (m : Bytes) × (G m × (drop at l ≡ m ++ drop r l))
-  pub found : (at ≡ 0 → ⊥) → (m rest : Bytes) → G m → N rest ≡ true → drop at l ≡ m ++ rest → r ≡ at + length m
+-- what a step leaves, as bytes
+abbrev pub left : Std.Option (Bor Bytes) → Option Bytes
+left None = none
+left (Some t) = some t.now
+
+-- A step over s. Where it leaves bytes, those before them are such as G describes; where bytes such as G describes stand in front, with what N allows behind
+-- them, it leaves what is behind.
+pub record Took (G : Bytes → Type 0) (N : Bytes → Bool) (s : Bytes) (r : Option Bytes) : Type 0 where
+  pub seen : (t : Bytes) → r ≡ some t → (m : Bytes) × (G m × (s ≡ m ++ t))
+  pub found : (m t : Bytes) → G m → N t ≡ true → s ≡ m ++ t → r ≡ some t
 
 -- WHAT MAY FOLLOW: any bytes; any that do not begin so; none
 abbrev pub anything : Bytes → Bool
-anything rest = true
+anything t = true
 
 abbrev pub without : Bytes → Bytes → Bool
-without label rest = not (starts label rest)
+without label t = not (starts label t)
 
 abbrev pub end : Bytes → Bool
-end rest = eqb (length rest) 0
+end t = eqb (length t) 0
 
 -- THE PIECES: given bytes; a value of a kind that can be written, with the `|` behind it; both; both or nothing
 abbrev pub Just : Bytes → Bytes → Type 0

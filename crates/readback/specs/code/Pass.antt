@@ -1,16 +1,15 @@
 -- The pass over the fields: what a field does to the words and to the counts of party parts, and what they hold behind the last. Only the code needs
 -- this: nothing here states document 02.
-use Rattle.std.specs.Prelude.{ℕ, ◌+◌, ◌-◌, ◌*◌, ◌≤◌, ◌<◌, ◌≡◌, List, [], ◌∷◌, Bool, false, cond, eqb, leb, length, take, drop, get_or, set}
+use Rattle.std.specs.Prelude as rust
+use Rattle.std.specs.Prelude.{ℕ, ◌+◌, ◌-◌, ◌*◌, ◌≤◌, ◌<◌, ◌≡◌, List, [], ◌∷◌, Bool, false, cond, eqb, leb, length, take, drop, get_or, set, Some, None}
 use Rattle.std.proofs.Math.Option.{Option, none, some}
 use Rattle.octets.specs.Bytes.{Bytes, fix, same}
 use Rattle.fields.specs.Field.{first_field}
 use Rattle.fields.specs.First.{first_place, value_at}
-use Rattle.fields.specs.declared.Place.{Place}
+use Rattle.fields.specs.First.{Place}
 use Rattle.amounts.specs.Amount.{amount_in}
 use Rattle.report.specs.Layout.{tags}
 use Rattle.readback.specs.Back.{place_words, amount_words, every_place}
-use Rattle.readback.specs.declared.noting.Counts.{Counts}
-use Rattle.readback.specs.declared.place.Pair.{Pair}
 
 -- whether the type is that of a report, as the code asks it
 abbrev pub is_ae : Option Bytes → Bool
@@ -28,22 +27,26 @@ index_in t (u ∷ l) = cond (eqb t u) 0 (index_in t l + 1)
 unfoldable pub slot_of : ℕ → ℕ
 slot_of t = index_in t tags
 
+-- 11 is the place of none
+abbrev pub slot_in : ℕ → rust.Option ℕ
+slot_in k = cond (eqb k 11) None (Some k)
+
 abbrev pub tag_at : ℕ → ℕ
 tag_at k = get_or tags k 0
 
 -- what stands behind `given`: an amount's two numbers, or the two places
-abbrev pub pair_of : Bytes → Pair
-pair_of v = record { first = (amount_in v).whole; second = (amount_in v).places }
+abbrev pub pair_of : Bytes → ℕ × ℕ
+pair_of v = ((amount_in v).whole, (amount_in v).places)
 
-abbrev pub pair_in : Bytes → ℕ → ℕ → ℕ → Pair
+abbrev pub pair_in : Bytes → ℕ → ℕ → ℕ → ℕ × ℕ
 pair_in body k start end =
-    let amount = pair_of (take (end - start) (drop start body)) in cond (eqb k 3) amount (cond (eqb k 4) amount (record { first = start; second = end }))
+    let amount = pair_of (take (end - start) (drop start body)) in cond (eqb k 3) amount (cond (eqb k 4) amount (start, end))
 
 -- the first field of a tag has its words; a later one changes nothing
-abbrev pub slot_set : List ℕ → ℕ → Pair → List ℕ
-slot_set words k p = set (set (set words (3 * k) 1) (3 * k + 1) p.first) (3 * k + 2) p.second
+abbrev pub slot_set : List ℕ → ℕ → ℕ × ℕ → List ℕ
+slot_set words k p = set (set (set words (3 * k) 1) (3 * k + 1) p.0) (3 * k + 2) p.1
 
-abbrev pub slot_noted : List ℕ → ℕ → Pair → List ℕ
+abbrev pub slot_noted : List ℕ → ℕ → ℕ × ℕ → List ℕ
 slot_noted words k p = cond (eqb (get_or words (3 * k) 0) 0) (slot_set words k p) words
 
 abbrev pub value_noted : Bytes → ℕ → ℕ → ℕ → List ℕ → List ℕ
@@ -73,23 +76,17 @@ pub record Parts (words : List ℕ) (j : ℕ) (l : List (ℕ × ℕ)) (n : ℕ) 
   pub starts : (i : ℕ) → i < 8 → get_or words (part_at i j) 0 ≡ (get_or l i (0, 0)).0
   pub ends : (i : ℕ) → i < 8 → get_or words (part_at i j + 1) 0 ≡ (get_or l i (0, 0)).1
 
--- A FIELD: a party's part, or one that may be among the eleven
-pub data Noted (body : Bytes) (t start end : ℕ) (words : List ℕ) (had : Counts) (words' : List ℕ) : Counts → Type 0 where
-  an_id : {n : ℕ} → t ≡ 448 → PartNoted words 0 had.ids start end n words' → Noted body t start end words had words' (record { ids = n; sources = had.sources; roles = had.roles })
-  a_source : {n : ℕ} → t ≡ 447 → PartNoted words 1 had.sources start end n words' → Noted body t start end words had words' (record { ids = had.ids; sources = n; roles = had.roles })
-  a_role : {n : ℕ} → t ≡ 452 → PartNoted words 2 had.roles start end n words' → Noted body t start end words had words' (record { ids = had.ids; sources = had.sources; roles = n })
+-- the tag of a party's j-th part
+abbrev pub part_tag : ℕ → ℕ
+part_tag j = get_or (448 ∷ 447 ∷ 452 ∷ []) j 0
+
+-- A FIELD: a party's part, which is counted, or one that may be among the eleven
+pub data Noted (body : Bytes) (t start end : ℕ) (words had words' : List ℕ) : List ℕ → Type 0 where
+  a_part : {j n : ℕ} → j < 3 → t ≡ part_tag j → PartNoted words j (get_or had j 0) start end n words' → Noted body t start end words had words' (set had j n)
   a_value : (t ≡ 448 → ⊥) → (t ≡ 447 → ⊥) → (t ≡ 452 → ⊥) → words' ≡ value_noted body t start end words → Noted body t start end words had words' had
 
 -- BEHIND THE LAST FIELD
-pub record Gathered (body : Bytes) (words : List ℕ) (had : Counts) : Type 0 where
+pub record Gathered (body : Bytes) (words had : List ℕ) : Type 0 where
   pub long : length words ≡ 82
   pub values : (k : ℕ) → k < 11 → three words k ≡ words_at k body (first_place (tag_at k) body)
-  pub ids : Parts words 0 (every_place 448 body) had.ids
-  pub sources : Parts words 1 (every_place 447 body) had.sources
-  pub roles : Parts words 2 (every_place 452 body) had.roles
-
--- the least of two numbers
-pub record Least (a b r : ℕ) : Type 0 where
-  pub first : r ≤ a
-  pub second : r ≤ b
-  pub greatest : (q : ℕ) → q ≤ a → q ≤ b → q ≤ r
+  pub parts : (j : ℕ) → j < 3 → Parts words j (every_place (part_tag j) body) (get_or had j 0)

@@ -1,19 +1,18 @@
--- The number of parties, and the words behind theirs cleared one by one.
+-- The number of parties, and zeros behind theirs.
 use native.Mathlib.Omega.{arith}
-use Rattle.readback.proofs.Clearing.{cleared_none, cleared_more, cleared_all, eight_parties, numbered_long}
+use Prim.Native.Nat.{ℕ, ◌+◌, ◌-◌, ◌*◌}
+use mathlib.Core.Path.{ap, ◌∙◌}
+use lib.ListN.{set, replicate}
+use Rattle.octets.proofs.Lists.{part_length}
+use Rattle.readback.proofs.Clearing.{eight_parties, numbered_long, finished, least_of_three}
 use Rattle.readback.proofs.noting.finish.Goals as goal
 
-pub overflow_mul-i : goal.overflow_mul-i
-overflow_mul-i c = let a = c.args in let n = eight_parties a.body.now a.words.now a.had c.requires c.least.ensures c.least-parties.ensures in omega arith
-
-pub overflow_add-i : goal.overflow_add-i
-overflow_add-i c = let a = c.args in let n = eight_parties a.body.now a.words.now a.had c.requires c.least.ensures c.least-parties.ensures in omega arith
-
-pub loop-i-init : goal.loop-i-init
-loop-i-init c = let a = c.args in let n = eight_parties a.body.now a.words.now a.had c.requires c.least.ensures c.least-parties.ensures in cleared_none _ _ (omega arith) (numbered_long a.body.now a.words.now a.had c.requires c.least.ensures c.least-parties.ensures)
-
-pub loop-i-preserved : goal.loop-i-preserved
-loop-i-preserved c = cleared_more _ _ c.loop-i.words c.loop-i.i c.loop-i-test.true c.loop-i.invariant
-
 pub returns : goal.returns
-returns c = let a = c.args in cleared_all a.body.now a.words.now a.had c.requires c.least.ensures c.least-parties.ensures c.loop-i.words c.loop-i.i c.loop-i-test.false c.loop-i.invariant
+returns c =
+    let a = c.args in
+    let n = c.min-parties.result in
+    let Z = least_of_three _ _ _ _ n c.min.ensures c.min-parties.ensures in
+    let few = eight_parties a.body.now a.words.now a.had.now c.requires n Z in
+    let long = numbered_long a.body.now a.words.now a.had.now c.requires n Z in
+    let k = part_length (set a.words.now 33 n) (34 + 6 * n) (82 - (34 + 6 * n)) (omega (arith, long, few)) in
+    finished a.body.now a.words.now a.had.now c.requires n Z (82 - (34 + 6 * n)) _ (omega (arith, few)) (c.fill.ensures.after (λ y e. e) ∙ ap (λ (i : ℕ). replicate i 0) k)

@@ -1,15 +1,18 @@
 -- A field is a part of a party, or may be one of the eleven.
-use Rattle.readback.specs.code.Pass.{an_id, a_source, a_role, a_value}
+use native.Mathlib.Omega.{arith}
+use mathlib.Core.Path.{◌≡◌, sym, ap, ◌∙◌}
+use Rattle.readback.specs.code.Pass.{part_tag, a_part, a_value}
 use Rattle.readback.proofs.noting.note.Goals as goal
+use Rattle.readback.proofs.noting.note.Goals.{in-448, in-447, in-452}
 
-pub returns-then-tag-eq448 : goal.returns-then-tag-eq448
-returns-then-tag-eq448 c = an_id c.if-tag-eq448.true c.note_part.ensures
-
-pub returns-then-tag-eq447 : goal.returns-then-tag-eq447
-returns-then-tag-eq447 c = a_source c.if-tag-eq447.true c.note_part-then-tag-eq447.ensures
-
-pub returns-then-tag-eq452 : goal.returns-then-tag-eq452
-returns-then-tag-eq452 c = a_role c.if-tag-eq452.true c.note_part-then-tag-eq452.ensures
+pub returns-in_default : goal.returns-in_default
+returns-in_default c = a_value (λ e. omega arith) (λ e. omega arith) (λ e. omega arith) c.note_value.ensures
 
 pub returns : goal.returns
-returns c = a_value c.if-tag-eq448.false c.if-tag-eq447.false c.if-tag-eq452.false c.note_value.ensures
+returns c =
+    let t = c.args.tag in
+    elim c.match-tag.branch [
+      | in-448 w ↦ let e : t ≡ 448 = omega arith in a_part (omega (arith, w.j-is)) (e ∙ ap part_tag (sym w.j-is)) c.note_part.ensures
+      | in-447 w ↦ let e : t ≡ 447 = omega arith in a_part (omega (arith, w.j-is)) (e ∙ ap part_tag (sym w.j-is)) c.note_part.ensures
+      | in-452 w ↦ let e : t ≡ 452 = omega arith in a_part (omega (arith, w.j-is)) (e ∙ ap part_tag (sym w.j-is)) c.note_part.ensures
+    ]

@@ -1,38 +1,39 @@
--- `put_parties`: the count, and i of the parties behind it.
-use native.Mathlib.Omega.{arith}
-use mathlib.Core.Path.{refl}
-use lib.ListN.{get_or}
-use Rattle.report.proofs.Putting.{nowhere, none_put}
-use Rattle.report.proofs.Sides.{party_more, all_parties, no_parties, many_parties}
+-- `put_parties`: none, too many, or the count and each party.
+use Rattle.std.proofs.Common.{◌≡◌, refl, sym, arith, ◌+◌, ◌≤◌}
+use Rattle.report.specs.Layout.{word}
+use Rattle.report.proofs.Putting.{none_put}
+use Rattle.report.proofs.Sides.{no_parties, many_parties, all_parties, party_more, parties_unfit}
 use Rattle.report.proofs.parties.put_parties.Goals as goal
 
-pub returns-then-at-eq0 : goal.returns-then-at-eq0
-returns-then-at-eq0 c = record { bytes = nowhere c.if-at-eq0.true; room = omega arith }
+pub returns-then-n-eq0-clause-bytes : goal.returns-then-n-eq0-clause-bytes
+returns-then-n-eq0-clause-bytes c = no_parties c.args.given.words.now c.args.given.text.now _ c.if-n-eq0.true
 
-pub returns-then-n-eq0 : goal.returns-then-n-eq0
-returns-then-n-eq0 c = record { bytes = no_parties c.args.values.now c.args.text.now _ c.if-n-eq0.true; room = omega arith }
-
-pub returns-then-n-gt8 : goal.returns-then-n-gt8
-returns-then-n-gt8 c = record { bytes = many_parties c.args.values.now c.args.text.now _ c.if-n-gt8.true; room = omega arith }
+pub returns-then-n-gt8-clause-bytes : goal.returns-then-n-gt8-clause-bytes
+returns-then-n-gt8-clause-bytes c = many_parties c.args.given.words.now c.args.given.text.now _ c.if-n-gt8.true
 
 pub loop-i-init : goal.loop-i-init
-loop-i-init c = (omega arith, (refl, (omega arith, none_put)))
+loop-i-init c = record { long = refl; within = omega arith; puts = none_put }
 
-pub put_party-to-requires : goal.put_party-to-requires
-put_party-to-requires c =
-    let l = c.loop-i in
-    (omega (arith, c.if-n-gt8.false, c.loop-i-test.true), omega (arith, l.invariant.1.0, l.invariant.1.1.0, c.if-n-gt8.false, c.loop-i-test.true, c.put_number-to.ensures.room, c.put_number-to.auto, c.requires))
+pub returns-in_err-to-clause-bytes : goal.returns-in_err-to-clause-bytes
+returns-in_err-to-clause-bytes c =
+    let w = c.args.given.words.now in
+    let s = c.args.given.text.now in
+    let h : c.loop-i.i + 1 ≤ word w s 33 = omega (arith, c.loop-i-test.true) in
+    rw c.from_residual.ensures
+    (all_parties w s _ c.if-n-eq0.false c.if-n-gt8.false c.put_field-to.ensures.bytes
+    (parties_unfit w s (c.loop-i.i + 1) (word w s 33) h (party_more w s c.loop-i.i c.loop-i.invariant.puts c.in_err-to.ensures.bytes)))
 
 pub loop-i-preserved : goal.loop-i-preserved
-loop-i-preserved c =
-    let l = c.loop-i in
-    let a = c.args in
-    let p = c.put_party-to in (
-      omega (arith, c.loop-i-test.true),
-      (omega (arith, p.auto, l.invariant.1.0), (omega (arith, p.ensures.room, l.invariant.1.1.0), party_more a.values.now a.text.now l.i l.invariant.1.1.1 p.ensures.bytes)),
-    )
+loop-i-preserved c = record {
+  long = omega (arith, c.put_party.auto.body, c.loop-i.invariant.long);
+  within = omega (arith, c.in_ok-to.ensures.room, c.loop-i.invariant.within);
+  puts = party_more c.args.given.words.now c.args.given.text.now c.loop-i.i c.loop-i.invariant.puts c.in_ok-to.ensures.bytes;
+}
 
-pub returns : goal.returns
-returns c =
-    let l = c.loop-i in
-    let a = c.args in record { bytes = all_parties a.values.now a.text.now (get_or a.values.now 33 0) l.i c.if-n-eq0.false c.if-n-gt8.false (omega (arith, c.loop-i-test.false, l.invariant.0)) c.if-at-eq0.false c.put_number-to.ensures.bytes l.invariant.1.1.1; room = omega (arith, l.invariant.0, l.invariant.1.1.0, c.if-n-gt8.false, c.put_number-to.ensures.room) }
+pub returns-clause-bytes : goal.returns-clause-bytes
+returns-clause-bytes c =
+    let w = c.args.given.words.now in
+    let s = c.args.given.text.now in
+    let e : c.loop-i.i ≡ word w s 33 = omega (arith, c.loop-i-test.false, c.loop-i.auto.i-end) in
+    all_parties w s _ c.if-n-eq0.false c.if-n-gt8.false c.put_field-to.ensures.bytes
+    (rw (sym e) c.loop-i.invariant.puts)

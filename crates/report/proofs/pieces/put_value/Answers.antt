@@ -1,35 +1,28 @@
--- `put_value`: nothing for a place that the text does not have or for bytes that are unfit, else the bytes and `|`.
-use native.Mathlib.Omega.{arith}
-use mathlib.Core.Path.{sym}
-use Rattle.message.proofs.Writes.{chain, reword}
-use Rattle.report.proofs.Putting.{nowhere, refused, placed, part_inside, part_backwards, part_beyond, part_fit, fit_short}
+-- `put_value`: nothing for a part that the text does not have or for bytes that are unfit, else the field.
+use Rattle.std.proofs.Common.{arith}
+use Rattle.kinds.specs.Judged.{meaning}
+use Rattle.report.proofs.Putting.{field_put, field_unfit, part_inside, part_nowhere, part_fit, fit_short, field_short}
 use Rattle.report.proofs.pieces.put_value.Goals as goal
 
-pub returns-then-at-eq0 : goal.returns-then-at-eq0
-returns-then-at-eq0 c = record { bytes = nowhere c.if-at-eq0.true; room = omega arith }
+pub returns-in_err-v-clause-bytes : goal.returns-in_err-v-clause-bytes
+returns-in_err-v-clause-bytes c = λ H.
+    rw c.from_residual.ensures
+    (field_unfit c.args.tag (meaning c.args.kind) _ H (part_nowhere (meaning c.args.kind) c.args.given.text.now _ _ c.in_err-v.ensures.lookup.0))
 
-pub returns-then-b-a : goal.returns-then-b-a
-returns-then-b-a c = record { bytes = refused (part_backwards _ c.args.text.now _ _ c.if-b-a.true); room = omega arith }
+pub returns-then-not-is_fit-clause-bytes : goal.returns-then-not-is_fit-clause-bytes
+returns-then-not-is_fit-clause-bytes c = λ H.
+    let g = c.in_ok-v.ensures.lookup.0 in
+    field_unfit c.args.tag (meaning c.args.kind) _ H (part_fit (meaning c.args.kind) c.args.given.text.now _ _ g.0 g.1 g.2 c.is_fit.ensures c.if-not-is_fit.true)
 
-pub returns-then-text-b : goal.returns-then-text-b
-returns-then-text-b c = record { bytes = refused (part_beyond _ c.args.text.now _ _ c.if-b-a.false c.if-text-b.true); room = omega arith }
+pub put_field-requires : goal.put_field-requires
+put_field-requires c =
+    (c.requires.0, tt, omega (arith, fit_short (meaning c.args.kind) _ c.is_fit.ensures c.if-not-is_fit.false, c.requires.2))
 
-pub returns-then-not-is_fit : goal.returns-then-not-is_fit
-returns-then-not-is_fit c = record { bytes = refused (part_fit _ _ _ _ c.if-b-a.false c.if-text-b.false c.is_fit.ensures (c.if-not-is_fit.true)); room = omega arith }
+pub returns-clause-bytes : goal.returns-clause-bytes
+returns-clause-bytes c = λ H.
+    let g = c.in_ok-v.ensures.lookup.0 in
+    field_put c.args.tag (meaning c.args.kind) _ H (part_fit (meaning c.args.kind) c.args.given.text.now _ _ g.0 g.1 g.2 c.is_fit.ensures c.if-not-is_fit.false) (rw (part_inside c.args.given.text.now _ _ g.0 g.1) (rw g.2 at c.put_field.ensures.bytes))
 
-pub put_bytes-c-requires : goal.put_bytes-c-requires
-put_bytes-c-requires c =
-    let l = fit_short _ _ c.is_fit.ensures c.if-not-is_fit.false in
-    omega (arith, l)
-
-pub put_byte-requires : goal.put_byte-requires
-put_byte-requires c =
-    let l = fit_short _ _ c.is_fit.ensures c.if-not-is_fit.false in
-    omega (arith, l, c.put_bytes-c.ensures.next)
-
-pub returns : goal.returns
-returns c =
-    let f = c.is_fit.ensures in
-    let t = c.if-not-is_fit.false in
-    let l = fit_short _ _ f t in
-    let e = part_inside c.args.text.now c.args.start c.args.end c.if-b-a.false c.if-text-b.false in record { bytes = placed c.if-at-eq0.false (part_fit _ _ _ _ c.if-b-a.false c.if-text-b.false f t) (chain (reword (sym e) c.put_bytes-c.ensures) c.put_byte.ensures); room = omega (arith, l, c.put_bytes-c.ensures.next, c.put_byte.ensures.next) }
+pub returns-clause-room : goal.returns-clause-room
+returns-clause-room c =
+    omega (arith, fit_short (meaning c.args.kind) _ c.is_fit.ensures c.if-not-is_fit.false, field_short c.args.tag c.in_ok-v.v.now c.requires.0, c.put_field.ensures.bytes.next)
