@@ -7,7 +7,7 @@ use mathlib.Core.Path.{◌≡◌, refl, sym, ap, ◌∙◌}
 use mathlib.Core.List.{◌∷◌, ◌++◌}
 use mathlib.Core.Bool.{Bool, true}
 use lib.ListN.{length, take, drop, get_or, replicate, length-append, length-drop}
-use lib.Seq.{length-take-le, take-add, drop_at}
+use lib.Seq.{length-take-le}
 use Rattle.octets.specs.Bytes.{Bytes, fix, sum, At}
 use Rattle.octets.proofs.Lists.{at_byte, bytes_at}
 use Rattle.frame.specs.Frame.{trailer}
@@ -20,12 +20,6 @@ use Rattle.stamps.proofs.Stamps.{stamp_is, utc_stamp}
 use Rattle.listed.specs.code.Listed.{Listed}
 use Rattle.kept.specs.code.Walk.{Filled}
 use Rattle.kept.proofs.Behind.{at_join, at_first, at_second}
-
--- the bytes of a part from a place on
-drop-part : (s : Bytes) (a b : ℕ) → a ≤ b → b ≤ length s → drop a (take b s) ≡ take (b - a) (drop a s)
-drop-part s a b h k =
-    let e : b ≡ a + (b - a) = omega arith in
-    ap (λ (j : ℕ). drop a (take j s)) e ∙ ap (drop a) (take-add a (b - a) s) ∙ drop_at (take a s) (take (b - a) (drop a s)) a (length-take-le a s (omega arith))
 
 bar_at : (s : Bytes) (p : ℕ) → p < length s → get_or s p 0 ≡ 1 → At s p (fix "|")
 bar_at s p h e = bytes_at s p (fix "|") (omega arith) go
@@ -79,25 +73,23 @@ module _ (s : Bytes) (at n : ℕ) where
     pub filled_bar : get_or s (at + 28) 0 ≡ 1
     filled_bar = at_bar s (at + 28) fields from_bar
 
-    pub filled_listed : {b : Bool} → Listed (drop (at + 29) (take (n - 7) s)) b → b ≡ true
+    pub filled_listed : {b : Bool} → Listed (take (n - 7 - (at + 29)) (drop (at + 29) s)) b → b ≡ true
     filled_listed L =
         let A = at_second s (at + 28) (fix "|") fields (at + 29) (omega arith) from_bar in
         let e : n - 7 - (at + 29) ≡ length fields = omega (arith, size) in
-        L.no F.values F.taken
-        (drop-part s (at + 29) (n - 7) (omega (arith, size)) (omega (arith, size, A.0)) ∙ ap (λ (k : ℕ). take k (drop (at + 29) s)) e ∙ A.1)
+        L.no F.values F.taken (ap (λ (k : ℕ). take k (drop (at + 29) s)) e ∙ A.1)
 
   -- and all is as it should be where each test is passed
   pub is_filled : at + 36 ≤ n → n ≤ length s → At s at (fix "|52=") → is_stamp stamp ≡ true → get_or s (at + 28) 0 ≡ 1
-      → ((v : Values) × ((takes v ≡ true) × (drop (at + 29) (take (n - 7) s) ≡ row (own v)))) → At s (n - 7) (trailer (sum (take (n - 7) s) % 256))
+      → ((v : Values) × ((takes v ≡ true) × (take (n - 7 - (at + 29)) (drop (at + 29) s) ≡ row (own v)))) → At s (n - 7) (trailer (sum (take (n - 7) s) % 256))
       → At s n (replicate (length s - n) 0) → Filled s at n
   is_filled long fits label stamped bar listed summed zeros =
       let v = listed.0 in
       let S = stamp_is stamp stamped in
       let t = microseconds stamp in
-      let d = drop-part s (at + 29) (n - 7) (omega arith) (omega arith) in
       let k : length (row (own v)) ≡ n - 7 - (at + 29) =
-      ap length (sym listed.1.1 ∙ d) ∙ length-take-le (n - 7 - (at + 29)) (drop (at + 29) s) (omega (arith, length-drop (at + 29) s)) in
-      let own_at : At s (at + 29) (row (own v)) = (omega arith, ap (λ (j : ℕ). take j (drop (at + 29) s)) k ∙ sym d ∙ listed.1.1) in
+      ap length (sym listed.1.1) ∙ length-take-le (n - 7 - (at + 29)) (drop (at + 29) s) (omega (arith, length-drop (at + 29) s)) in
+      let own_at : At s (at + 29) (row (own v)) = (omega arith, ap (λ (j : ℕ). take j (drop (at + 29) s)) k ∙ listed.1.1) in
       let bar-on = at_join s (at + 28) (fix "|") (row (own v)) (at + 29) (omega arith) (bar_at s (at + 28) (omega arith) bar) own_at in
       let stamp-at : At s (at + 4) (utc t) =
       (omega (arith, utc_length t), ap (λ (j : ℕ). take j (drop (at + 4) s)) (utc_length t) ∙ sym stamp_part ∙ S.0) in

@@ -1,3 +1,5 @@
+pub mod Numbers
+pub mod Few
 pub mod Holding
 pub mod Promise
 pub mod Behind

@@ -1,19 +1,20 @@
 -- Digits that were read at a place, against the decimal form of a number that stands there.
 -- Assumes nothing.
-use Prim.Native.Nat.{ℕ, ◌+◌, ◌*◌, ◌-◌, ◌≤◌, ◌<◌}
+use Prim.Native.Nat.{ℕ, zero, suc, ◌+◌, ◌*◌, ◌-◌, ◌≤◌, ◌<◌}
 use native.Mathlib.Decide.{dec_lt}
 use native.Mathlib.Omega.{arith}
-use mathlib.Core.Path.{◌≡◌, sym, ap, ◌∙◌, subst}
+use mathlib.Core.Path.{◌≡◌, refl, sym, ap, ◌∙◌, subst}
 use mathlib.Core.List.{[], ◌∷◌}
-use mathlib.Core.Bool.{true}
-use lib.ListN.{length, take, drop, get_or}
+use mathlib.Core.Bool.{Bool, true, false}
+use lib.ListN.{length, take, drop, get_or, length-drop}
 use lib.Seq.{get_or-take, get_or-drop}
 use native.Mathlib.Nat.{add-zero}
 use Rattle.octets.specs.Bytes.{Bytes, all, digit, value, value_from, decimal, At, Digit}
 use Rattle.octets.specs.code.Leaf.{Number}
 use Rattle.octets.proofs.Tests.{both}
+use Rattle.kept.specs.code.Peeked.{leading}
 use Rattle.octets.proofs.Lists.{at_byte, part_length}
-use Rattle.octets.proofs.Numerals.{Digits, digit_at, read-digits, value_below}
+use Rattle.octets.proofs.Numerals.{Digits, digit_at, digit_is, read-digits, value_below}
 use Rattle.octets.proofs.Decimals.{decimal-written, decimal-worth, written-decimal}
 use Rattle.message.proofs.Cutting.{decimal-digits}
 use Rattle.message.proofs.Writes.{digits_3}
@@ -83,3 +84,22 @@ read-nine s p v c k N h g A bar =
     read_as s p 9 v c N (decimal k) (decimal-digits k) A (decimal-written 8 k h g).few
     (λ l D. let E = subst Digit bar D in absurd (omega (arith, E.0))) in
     (R.0, R.1 ∙ decimal-worth k)
+
+-- what was read are the digits that the bytes begin with there
+leading_is : (n c : ℕ) (l : Bytes) → c ≤ n → c ≤ length l → all digit (take c l) ≡ true → (c < n → c < length l → digit (get_or l c 0) ≡ false) → leading n l ≡ take c l
+leading_is zero zero l h k a s = refl
+leading_is zero (suc c) l h k a s = absurd (omega arith)
+leading_is (suc n) zero [] h k a s = refl
+leading_is (suc n) zero (x ∷ l) h k a s = rw (s (omega arith) (omega arith))
+leading_is (suc n) (suc c) [] h k a s = absurd (omega arith)
+leading_is (suc n) (suc c) (x ∷ l) h k a s =
+    let w = both (digit x) (all digit (take c l)) a in
+    rw w.0 (ap (λ (r : Bytes). x ∷ r) (leading_is n c l (omega arith) (omega arith) w.1 (λ i j. s (omega arith) (omega arith))))
+
+pub leading_all : (s : Bytes) (p most v c : ℕ) → Number s p most v c → leading most (drop p s) ≡ take c (drop p s)
+leading_all s p most v c N =
+    leading_is most c (drop p s) N.few (omega (arith, N.within, length-drop p s)) (read-digits s p most v c N) (λ h l. go h l (digit (get_or (drop p s) c 0)) refl)
+  where
+    go : c < most → c < length (drop p s) → (b : Bool) → digit (get_or (drop p s) c 0) ≡ b → b ≡ false
+    go h l true e = absurd (N.stop h (omega (arith, l, length-drop p s)) (subst Digit (get_or-drop p s c 0) (digit_is (get_or (drop p s) c 0) e)))
+    go h l false e = refl

@@ -1,5 +1,6 @@
 -- WHICH REPORT A PLACE HOLDS (document 02, Q-4): "A place that doesn't hold one AE frame as our report call writes it counts as empty".
-use Rattle.std.specs.Prelude.{ℕ, ◌≡◌, [], ◌∷◌, true, cond, eqb, length}
+use Rattle.std.specs.Prelude as rust
+use Rattle.std.specs.Prelude.{ℕ, ◌≡◌, [], ◌∷◌, true, cond, eqb, length, Some, None}
 use Rattle.std.proofs.Math.Option.{Option, none, some}
 use Rattle.octets.specs.Bytes.{Bytes}
 use Rattle.places.specs.Places.{padded}
@@ -29,10 +30,10 @@ module _ (us them : Bytes) where
     pub is : (r : Report) → held place ≡ some r → Holds place r
     pub only : (r : Report) → Holds place r → held place ≡ some r
 
--- its number, 0 for none
-abbrev pub number_of : Option Report → ℕ
-number_of none = 0
-number_of (some r) = r.number
+-- its number, if there is one
+abbrev pub number_of : Option Report → rust.Option ℕ
+number_of none = None
+number_of (some r) = Some r.number
 
 pub record Promise : Type 0 where
   pub holding : (us them place : Bytes) → length place ≡ 512 → Holding us them place

@@ -1,15 +1,17 @@
 // Which report a place of the store holds, by its number; and that number read alone, where it stands.
 #![tactic(auto)]
 
-ghost use Rattle.std.specs.Prelude.{◌≡◌, true, ◌+◌, ◌-◌, ◌%◌, ◌≤◌, length, take, replicate};
+mod ids;
+
+ghost use Rattle.std.specs.Prelude.{◌≡◌, ◌+◌, ◌-◌, ◌%◌, ◌≤◌, length, take, replicate};
 ghost use Rattle.octets.specs.Bytes.{sum};
 ghost use Rattle.octets.specs.code.Leaf.{Standing};
 ghost use Rattle.frame.specs.Frame.{trailer};
-ghost use Rattle.message.specs.Unfit.{comp_id};
 ghost use Rattle.kept.specs.Kept.{held, number_of};
 ghost use Rattle.kept.specs.code.Peeked.{Peeked};
 ghost use Rattle.kept.specs.code.Walk.{Tells, Headed, Ended, Filled};
 
+pub use ids::CompIds;
 use listed::is_listed;
 use octets::{checksum, row, stands};
 use stamps::is_stamp;
@@ -28,20 +30,20 @@ fn stands_at(place: &[u8], at: usize, label: &[u8]) -> bool
     requires { at + length label.now ≤ length place.now }
     ensures { Standing place.now at label.now result }
 {
-    let mut i = 0;
-    while i < label.len() {
-        if place[at + i] != label[i] {
+    for (i, b) in label.iter().enumerate() {
+        if place[at + i] != *b {
             return false;
         }
-        i += 1;
     }
     true
 }
 
 // Whether a place begins as every report between these CompIDs does: the mark, and behind the length 35, 49, 56 and `34=`.
-fn is_headed(place: &[u8], us: &[u8], them: &[u8]) -> bool
-    requires { (length place.now ≡ 512) × (length us.now ≤ 11) × (length them.now ≤ 11) }
-    ensures { Tells (Headed us.now them.now place.now) result }
+// (One return for each part, here and in `is_filled`: each part's place is that of the one before with its length.)
+#[tactic(auto, using(crate::proofs::Few::short))]
+fn is_headed(place: &[u8], ids: &CompIds) -> bool
+    requires { length place.now ≡ 512 }
+    ensures { Tells (Headed ids.now.us.now ids.now.them.now place.now) result }
 {
     if !stands(place, 0, b"8=FIXT.1.1\x019=") {
         return false;
@@ -49,6 +51,7 @@ fn is_headed(place: &[u8], us: &[u8], them: &[u8]) -> bool
     if !stands(place, 16, b"\x0135=AE\x0149=") {
         return false;
     }
+    let us = ids.us;
     let a = 26 + us.len();
     if !stands_at(place, 26, us) {
         return false;
@@ -56,6 +59,7 @@ fn is_headed(place: &[u8], us: &[u8], them: &[u8]) -> bool
     if !stands_at(place, a, b"\x0156=") {
         return false;
     }
+    let them = ids.them;
     let b = a + 4;
     if !stands_at(place, b, them) {
         return false;
@@ -63,20 +67,17 @@ fn is_headed(place: &[u8], us: &[u8], them: &[u8]) -> bool
     stands_at(place, b + them.len(), b"\x0134=")
 }
 
-// The length of the frame that a place begins with, by the three digits of its body's length; 0 where they are none or do not fit the place. Every
-// report's body has more than 99 bytes.
-fn frame_end(place: &[u8]) -> usize
+// The length of the frame that a place begins with, by the three digits of its body's length, if they fit the place. Every report's body has more than 99
+// bytes.
+fn frame_end(place: &[u8]) -> Option<usize>
     requires { length place.now ≡ 512 }
     ensures { Ended place.now result }
 {
     let body = row(place, 13, 3);
-    if body.value < 100 {
-        return 0;
+    match body.value {
+        100..=488 => Some(body.value + 24),
+        _ => None,
     }
-    if 488 < body.value {
-        return 0;
-    }
-    body.value + 24
 }
 
 // Whether the last seven bytes before n are the trailer of those before.
@@ -86,16 +87,7 @@ fn is_summed(place: &[u8], n: usize) -> bool
 {
     let at = n - 7;
     let s = checksum(&place[..at]);
-    let end: [u8; 7] = [
-        b'1',
-        b'0',
-        b'=',
-        b'0' + s / 100,
-        b'0' + s / 10 % 10,
-        b'0' + s % 10,
-        1,
-    ];
-    stands_at(place, at, &end)
+    stands_at(place, at, &frame::trailer(s))
 }
 
 // Whether all bytes from n on are zero. The loop has no way out, so the compiler looks at sixteen bytes at once.
@@ -104,12 +96,8 @@ fn is_zero_from(place: &[u8], n: usize) -> bool
     ensures { Standing place.now n (replicate (length place.now - n) 0) result }
 {
     let mut zeros = true;
-    let mut i = n;
-    while i < place.len() {
-        if place[i] != 0 {
-            zeros = false;
-        }
-        i += 1;
+    for b in &place[n..] {
+        zeros &= *b == 0;
     }
     zeros
 }
@@ -131,7 +119,7 @@ fn is_filled(place: &[u8], at: usize, n: usize) -> bool
     if place[at + 28] != 1 {
         return false;
     }
-    if !is_listed(&place[..n - 7], at + 29) {
+    if !is_listed(&place[at + 29..n - 7]) {
         return false;
     }
     if !is_summed(place, n) {
@@ -140,28 +128,28 @@ fn is_filled(place: &[u8], at: usize, n: usize) -> bool
     is_zero_from(place, n)
 }
 
-// The number of the report that a place holds, or 0: the frame, its header and its fields as our call writes them, zeros behind.
-pub fn kept_number(place: &[u8], us: &[u8], them: &[u8]) -> u64
-    requires { (length place.now ≡ 512) × (comp_id us.now ≡ true) × (comp_id them.now ≡ true) }
-    ensures { result ≡ number_of (held us.now them.now place.now) }
+// The number of the report that a place holds, if it holds one: the frame, its header and its fields as our call writes them, zeros behind.
+pub fn kept_number(place: &[u8], ids: &CompIds) -> Option<u64>
+    requires { length place.now ≡ 512 }
+    ensures { result ≡ number_of (held ids.now.us.now ids.now.them.now place.now) }
 {
-    if !is_headed(place, us, them) {
-        return 0;
+    if !is_headed(place, ids) {
+        return None;
     }
-    let at = 34 + us.len() + them.len();
+    let at = 34 + ids.us.len() + ids.them.len();
     let n = row(place, at, 9);
     if n.value == 0 {
-        return 0;
+        return None;
     }
     if place[at] == b'0' {
-        return 0;
+        return None;
     }
     if 999_999_990 < n.value {
-        return 0;
+        return None;
     }
-    let end = frame_end(place);
+    let end = frame_end(place)?;
     if !is_filled(place, at + n.count, end) {
-        return 0;
+        return None;
     }
-    n.value as u64
+    Some(n.value as u64)
 }

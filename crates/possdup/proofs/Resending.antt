@@ -6,6 +6,8 @@ use mathlib.Core.Path.{◌≡◌, refl, sym, ap, ap₂, ◌∙◌}
 use mathlib.Core.List.{◌++◌}
 use mathlib.Core.Option.{Option, none, some}
 use lib.ListN.{length}
+use Rattle.std.specs.Prelude.{Some}
+use Rattle.std.proofs.lemmas.Option.{none-some, same_Some}
 use Rattle.octets.specs.Bytes.{Bytes, fix, decimal}
 use Rattle.octets.specs.code.Leaf.{Number}
 use Rattle.calendar.specs.Time.{utc}
@@ -21,19 +23,19 @@ use Rattle.possdup.specs.code.Again.{again_of}
 use Rattle.possdup.specs.code.Resent.{stamp_at, resent}
 use Rattle.possdup.proofs.Standing.{start, rest, again_cut, length_is, parts_within, first_part, last_part}
 
--- a number other than 0 is that of a report
+-- the number is that of a report
 record Found (o : Option Report) (n : ℕ) : Type 0 where
   report : Report
   is : o ≡ some report
   numbered : n ≡ report.number
 
-found : (o : Option Report) (n : ℕ) → 1 ≤ n → n ≡ number_of o → Found o n
-found none n l e = absurd (omega arith)
-found (some r) n l e = record { report = r; is = refl; numbered = e }
+found : (o : Option Report) (n : ℕ) → Some n ≡ number_of o → Found o n
+found none n e = absurd (none-some {A = ℕ} n (sym e))
+found (some r) n e = record { report = r; is = refl; numbered = same_Some {A = ℕ} n r.number e }
 
-module _ (us them place : Bytes) (n : ℕ) (size : length place ≡ 512) (low : 1 ≤ n) (is : n ≡ number_of (held us them place)) where
+module _ (us them place : Bytes) (n : ℕ) (size : length place ≡ 512) (is : Some n ≡ number_of (held us them place)) where
   F : Found (held us them place) n
-  F = found (held us them place) n low is
+  F = found (held us them place) n is
 
   abbrev r : Report
   r = F.report

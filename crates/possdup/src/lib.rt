@@ -2,15 +2,15 @@
 // the first 52 goes out as 122, so that from its value on all bytes are copied again.
 #![tactic(auto)]
 
-ghost use Rattle.std.specs.Prelude.{◌≡◌, true, ◌+◌, ◌≤◌, ◌<◌, length};
+ghost use Rattle.std.specs.Prelude.{◌≡◌, ◌+◌, ◌≤◌, ◌<◌, length, Some};
 ghost use Rattle.calendar.specs.Time.{limit};
-ghost use Rattle.message.specs.Unfit.{comp_id};
 ghost use Rattle.message.specs.Wrote.{Wrote};
 ghost use Rattle.kept.specs.Kept.{held, number_of};
 ghost use Rattle.possdup.specs.code.Again.{again_of};
 ghost use Rattle.possdup.specs.code.Resent.{resent};
 
 use calendar::utc;
+use kept::CompIds;
 use message::{put_bytes, put_frame, width};
 use octets::number;
 
@@ -28,14 +28,14 @@ fn put_body(body: &mut [u8], place: &[u8], at: usize, end: usize, stamp: &[u8]) 
 }
 
 // The report that a place holds under the number n, at the front of the buffer.
-pub fn put_again(buf: &mut [u8], place: &[u8], us: &[u8], them: &[u8], n: u64, time: u64) -> usize
-    requires place_len { (length place.now ≡ 512) × (comp_id us.now ≡ true) × (comp_id them.now ≡ true) × (time < limit) × (600 ≤ length buf.old) }
-    requires le_n { (1 ≤ n) × (n ≡ number_of (held us.now them.now place.now)) }
-    ensures bytes { Wrote buf.old buf.new 0 result (again_of us.now them.now time (held us.now them.now place.now)) }
+pub fn put_again(buf: &mut [u8], place: &[u8], ids: &CompIds, n: u64, time: u64) -> usize
+    requires room { (length place.now ≡ 512) × (time < limit) × (600 ≤ length buf.old) }
+    requires kept { Some n ≡ number_of (held ids.now.us.now ids.now.them.now place.now) }
+    ensures bytes { Wrote buf.old buf.new 0 result (again_of ids.now.us.now ids.now.them.now time (held ids.now.us.now ids.now.them.now place.now)) }
     ensures room { result ≤ 600 }
 {
     // 17 bytes before the body, and 18 that are neither CompID nor number.
-    let at = 35 + us.len() + them.len() + width(n);
+    let at = 35 + ids.us.len() + ids.them.len() + width(n);
     let length = number(place, 13, 3);
     let end = 17 + length.value;
     let stamp = utc(time);

@@ -13,7 +13,8 @@ use borrow.Author.Tests.{eqb-true, eq-eqb, ne_eqb}
 use Rattle.octets.specs.Bytes.{Bytes, has}
 use Rattle.octets.proofs.Tests.{neither, or_last}
 use Rattle.report.specs.Report.{Report}
-use Rattle.kept.specs.Kept.{held, number_of}
+use Rattle.kept.specs.Kept.{held}
+use Rattle.kept.proofs.Numbers.{number}
 use Rattle.store.specs.Store.{Table, numbers, find, place_of, first_empty, full, least, lowest, takes, unless_met, counted}
 
 -- each number once
@@ -75,7 +76,7 @@ pub record Numbered (o : Option Report) (n : ℕ) : Type 0 where
   pub is : o ≡ some report
   pub number_is : report.number ≡ n
 
-pub numbered : (o : Option Report) (n : ℕ) → 1 ≤ n → number_of o ≡ n → Numbered o n
+pub numbered : (o : Option Report) (n : ℕ) → 1 ≤ n → number o ≡ n → Numbered o n
 numbered none n k e = absurd (omega (arith, k, e))
 numbered (some r) n k e = record { report = r; is = refl; number_is = e }
 
@@ -123,7 +124,7 @@ module _ (us them : Bytes) where
 
   -- BY THE NUMBERS that the places hold, 0 where one holds no report
   abbrev pub number_at : List Bytes → ℕ → ℕ
-  number_at ps i = number_of (held us them (get_or ps i []))
+  number_at ps i = number (held us them (get_or ps i []))
 
   -- the first place with a number is where it stands
   pub place_is : (n : ℕ) (met : List ℕ) (ps : List Bytes) (i : ℕ) → 1 ≤ n → has met n ≡ false → i ≤ length ps
@@ -147,19 +148,19 @@ module _ (us them : Bytes) where
           → suc i ≡ place_of n (u ∷ counted us them (numbers (u ∷ []) ++ met) ps)
       go none C rest = ap suc (rest met h)
       go (some x) C rest =
-          let d = ne_eqb x.number n (λ e. before 0 (omega arith) (ap number_of C.0 ∙ e)) in
+          let d = ne_eqb x.number n (λ e. before 0 (omega arith) (ap number C.0 ∙ e)) in
           rw d (ap suc (rest (x.number ∷ met) (rw d h)))
 
   -- a number that is not met before is kept exactly if a place holds it
   abbrev pub numbers_of : List Bytes → List ℕ
-  numbers_of ps = map (λ p. number_of (held us them p)) ps
+  numbers_of ps = map (λ p. number (held us them p)) ps
 
   pub numbers_kept : (n : ℕ) → 1 ≤ n → (met : List ℕ) (ps : List Bytes) → has met n ≡ false → has (numbers_of ps) n ≡ has (numbers (counted us them met ps)) n
   numbers_kept n k met [] h = refl
   numbers_kept n k met (p ∷ ps) h = go (held us them p) (unless_met us them (held us them p) met) (counts (held us them p) met) (λ met' h'. numbers_kept n k met' ps h')
     where
       go : (o u : Option Report) → Counts o met u → ((met' : List ℕ) → has met' n ≡ false → has (numbers_of ps) n ≡ has (numbers (counted us them met' ps)) n)
-          → (eqb (number_of o) n || has (numbers_of ps) n) ≡ has (numbers (u ∷ counted us them (numbers (u ∷ []) ++ met) ps)) n
+          → (eqb (number o) n || has (numbers_of ps) n) ≡ has (numbers (u ∷ counted us them (numbers (u ∷ []) ++ met) ps)) n
       go none none C rest = rw (ne_eqb 0 n (λ e. omega (arith, e, k))) (rest met h)
       go none (some x) C rest = absurd (none-ne-some x C.0)
       go (some r) none C rest =
@@ -175,7 +176,7 @@ module _ (us them : Bytes) where
   counted_alike k l [] s = refl
   counted_alike k l (p ∷ ps) s = go (held us them p) s (λ k' l' s'. counted_alike k' l' ps s')
     where
-      go : (o : Option Report) → ((n : ℕ) → (eqb (number_of o) n || has (numbers_of ps) n) ≡ true → has k n ≡ has l n)
+      go : (o : Option Report) → ((n : ℕ) → (eqb (number o) n || has (numbers_of ps) n) ≡ true → has k n ≡ has l n)
           → ((k' l' : List ℕ) → ((n : ℕ) → has (numbers_of ps) n ≡ true → has k' n ≡ has l' n) → counted us them k' ps ≡ counted us them l' ps)
           → unless_met us them o k ∷ counted us them (numbers (unless_met us them o k ∷ []) ++ k) ps
           ≡ unless_met us them o l ∷ counted us them (numbers (unless_met us them o l ∷ []) ++ l) ps
@@ -231,7 +232,7 @@ module _ (us them : Bytes) where
       → (get_or (counted us them met ps) i none ≡ none) ⊎ (full (counted us them met ps) ≡ true) → counted us them met (set ps i p) ≡ set (counted us them met ps) i (some r)
   counted_set r p met [] i e h n l E = absurd (omega (arith, l))
   counted_set r p met (q ∷ ps) zero e h n l E =
-      let N = (neither (eqb (number_of (held us them q)) r.number) (has (numbers_of ps) r.number) n).1 in
+      let N = (neither (eqb (number (held us them q)) r.number) (has (numbers_of ps) r.number) n).1 in
       let u : unless_met us them (held us them p) met ≡ some r = ap (λ (o : Option Report). unless_met us them o met) e ∙ rw h in
       ap (λ (o : Option Report). o ∷ counted us them (numbers (o ∷ []) ++ met) ps) u ∙ ap (λ (t : Table). some r ∷ t) (go (unless_met us them (held us them q) met) E N)
     where
@@ -247,7 +248,7 @@ module _ (us them : Bytes) where
           counted_alike (r.number ∷ met) (x.number ∷ met) ps (λ m t. rw (other m r.number N t, other m x.number M t))
   counted_set r p met (q ∷ ps) (suc i) e h n l E =
       go (unless_met us them (held us them q) met) (counts (held us them q) met) E
-      (λ met' h' E'. counted_set r p met' ps i e h' (neither (eqb (number_of (held us them q)) r.number) (has (numbers_of ps) r.number) n).1 (omega (arith, l)) E')
+      (λ met' h' E'. counted_set r p met' ps i e h' (neither (eqb (number (held us them q)) r.number) (has (numbers_of ps) r.number) n).1 (omega (arith, l)) E')
     where
       go : (u : Option Report) → Counts (held us them q) met u
           → (get_or (counted us them (numbers (u ∷ []) ++ met) ps) i none ≡ none) ⊎ (full (u ∷ counted us them (numbers (u ∷ []) ++ met) ps) ≡ true)
@@ -257,5 +258,5 @@ module _ (us them : Bytes) where
       go none C (inl f) rest = ap (λ (t : Table). none ∷ t) (rest met h (inl f))
       go none C (inr f) rest = absurd (false≢true f)
       go (some x) C E rest =
-          let d : eqb x.number r.number ≡ false = sym (ap (λ (o : Option Report). eqb (number_of o) r.number) C.0) ∙ (neither (eqb (number_of (held us them q)) r.number) (has (numbers_of ps) r.number) n).0 in
+          let d : eqb x.number r.number ≡ false = sym (ap (λ (o : Option Report). eqb (number o) r.number) C.0) ∙ (neither (eqb (number (held us them q)) r.number) (has (numbers_of ps) r.number) n).0 in
           ap (λ (t : Table). some x ∷ t) (rest (x.number ∷ met) (rw d h) E)

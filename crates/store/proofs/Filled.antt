@@ -1,6 +1,6 @@
 -- The places as far as they were looked at: as long as each holds a report of another number, the table is known so far.
 -- Assumes nothing.
-use Prim.Native.Nat.{ℕ, ◌+◌, ◌-◌, ◌*◌, ◌≤◌, ◌<◌}
+use Prim.Native.Nat.{ℕ, ◌+◌, ◌≤◌, ◌<◌}
 use native.Mathlib.Omega.{arith}
 use native.Mathlib.Numerals.{add-one}
 use mathlib.Core.Path.{◌≡◌, refl, sym, ap, ◌∙◌, subst}
@@ -13,15 +13,14 @@ use lib.Seq.{drop-cons, append_snoc, take_all, take-suc-set}
 use Rattle.octets.specs.Bytes.{Bytes, has}
 use Rattle.octets.proofs.Tests.{any_append}
 use Rattle.places.specs.Places.{is_store, places}
-use Rattle.places.proofs.Cuts.{places-length, place-length}
+use Rattle.places.proofs.Cuts.{places-length}
 use Rattle.report.specs.Report.{Report}
-use Rattle.report.proofs.ReadBack.{sendable_is}
 use Rattle.kept.specs.Kept.{held, number_of}
-use Rattle.kept.proofs.Holding.{held_is}
+use Rattle.kept.proofs.Numbers.{number_none, number_some, number_low}
 use Rattle.store.specs.Store.{Table, numbers, first_empty, full, takes, unless_met, counted, kept}
-use Rattle.store.specs.code.Lowest.{LowestOf}
+use Rattle.std.specs.Prelude.{nat_lt, Some, None}
+use Rattle.std.specs.List.{IsFirstBest}
 use Rattle.store.proofs.Counting.{numbered, number_at, counted_alike}
-use Rattle.store.proofs.Running.{number_at_lem}
 use Rattle.store.proofs.Free.{lowest_stands}
 
 has_last : (x : ℕ) (l : List ℕ) (n : ℕ) → has (x ∷ l) n ≡ has (l ++ (x ∷ [])) n
@@ -71,12 +70,8 @@ module _ (us them : Bytes) where
       let e : first_empty (counted us them [] ps) ≡ i = F.empty_so ∙ ap (λ (t : Table). i + first_empty t) c ∙ omega arith in
       sym (rw f e)
 
-  pub holds_none : (ps : List Bytes) (i : ℕ) (met : List ℕ) → Filled ps i met → i < length ps → length (get_or ps i []) ≡ 512 → number_at us them ps i ≡ 0 → i ≡ takes (counted us them [] ps)
-  holds_none ps i met F l d e = at_empty ps i met F l (ap (λ (o : Option Report). unless_met us them o met) (go (held us them (get_or ps i [])) refl e))
-    where
-      go : (o : Option Report) → held us them (get_or ps i []) ≡ o → number_of o ≡ 0 → o ≡ none
-      go none p q = refl
-      go (some r) p q = let S = (sendable_is us them r (held_is us them (get_or ps i []) r d p).sends).low in absurd (omega (arith, S, q))
+  pub holds_none : (ps : List Bytes) (i : ℕ) (met : List ℕ) → Filled ps i met → i < length ps → held us them (get_or ps i []) ≡ none → i ≡ takes (counted us them [] ps)
+  holds_none ps i met F l e = at_empty ps i met F l (ap (λ (o : Option Report). unless_met us them o met) e)
 
   pub holds_met : (ps : List Bytes) (i n : ℕ) (met : List ℕ) → Filled ps i met → i < length ps → number_at us them ps i ≡ n → 1 ≤ n → has met n ≡ true → i ≡ takes (counted us them [] ps)
   holds_met ps i n met F l e k h =
@@ -84,38 +79,44 @@ module _ (us them : Bytes) where
       at_empty ps i met F l (ap (λ (o : Option Report). unless_met us them o met) N.is ∙ rw (N.number_is, h))
 
   -- no place counts as empty
-  pub filled_all : (ps : List Bytes) (i : ℕ) (met : List ℕ) → Filled ps (length ps) met → LowestOf met (length met) i → i ≡ takes (counted us them [] ps)
+  pub filled_all : (ps : List Bytes) (i : ℕ) (met : List ℕ) → Filled ps (length ps) met → IsFirstBest nat_lt met (length met) i → i ≡ takes (counted us them [] ps)
   unfolding takes
   filled_all ps i met F L =
       let c = ap (counted us them met) (drop_of_length-le ps {i = length ps} (omega arith)) in
       let f : full (counted us them [] ps) ≡ true = F.full_so ∙ ap full c in
       let n : numbers (counted us them [] ps) ≡ met = F.numbers_so ∙ ap (λ (t : Table). met ++ numbers t) c ∙ append-nil met in
-      lowest_stands (counted us them [] ps) i f (subst (λ (l : List ℕ). LowestOf l (length l) i) (sym n) L) ∙ sym (rw f)
+      lowest_stands (counted us them [] ps) i f (subst (λ (l : List ℕ). IsFirstBest nat_lt l (length l) i) (sym n) L) ∙ sym (rw f)
 
 -- THE PLACES OF A STORE, and the numbers that were found in them
-module _ (us them store : Bytes) (ns : List ℕ) (i n : ℕ) (l : i < 64) (F : Filled us them (places store) i (take i ns))
-    (e : n ≡ number_of (held us them (take (512 * i + 512 - 512 * i) (drop (512 * i) store)))) where
+module _ (us them store : Bytes) (ns : List ℕ) (i : ℕ) (l : i < 64) (F : Filled us them (places store) i (take i ns)) where
+  place : Bytes
+  place = get_or (places store) i []
+
   among : i < length (places store)
   among = let k = places-length store in omega (arith, k, l)
 
-  pub free_none : is_store store ≡ true → n ≡ 0 → i ≡ takes (kept us them store)
+  pub free_none : is_store store ≡ true → None ≡ number_of (held us them (get_or (places store) i [])) → i ≡ takes (kept us them store)
   unfolding kept
-  free_none s z = holds_none us them (places store) i (take i ns) F among (place-length store i s l) (number_at_lem us them store i l ∙ sym e ∙ z)
+  free_none s e = holds_none us them (places store) i (take i ns) F among (number_none _ e)
 
-  pub free_met : (n ≡ 0 → ⊥) → {b : Bool} → b ≡ has (take i ns) n → b ≡ true → i ≡ takes (kept us them store)
-  unfolding kept
-  free_met d h t = holds_met us them (places store) i n (take i ns) F among (number_at_lem us them store i l ∙ sym e) (omega (arith, d)) (sym h ∙ t)
+  module _ (n : ℕ) (long : length (get_or (places store) i []) ≡ 512) (e : Some n ≡ number_of (held us them (get_or (places store) i []))) where
+    low : 1 ≤ n
+    low = number_low us them (get_or (places store) i []) n long e
 
-  pub free_more : length ns ≡ 64 → (n ≡ 0 → ⊥) → {b : Bool} → b ≡ has (take i ns) n → b ≡ false → Filled us them (places store) (i + 1) (take (i + 1) (set ns i n))
-  free_more k d h t =
-      let g = filled_more us them (places store) i n (take i ns) F among (number_at_lem us them store i l ∙ sym e) (omega (arith, d)) (sym h ∙ t) in
-      subst (Filled us them (places store) (i + 1)) (sym (ap (λ (j : ℕ). take j (set ns i n)) (add-one i) ∙ take-suc-set ns i n (omega (arith, k, l)))) g
+    pub free_met : {b : Bool} → b ≡ has (take i ns) n → b ≡ true → i ≡ takes (kept us them store)
+    unfolding kept
+    free_met h t = holds_met us them (places store) i n (take i ns) F among (number_some _ n e) low (sym h ∙ t)
 
-pub free_full : (us them store : Bytes) (ns : List ℕ) (i j : ℕ) → length ns ≡ 64 → i ≡ 64 → Filled us them (places store) i (take i ns) → LowestOf ns 64 j → j ≡ takes (kept us them store)
+    pub free_more : length ns ≡ 64 → {b : Bool} → b ≡ has (take i ns) n → b ≡ false → Filled us them (places store) (i + 1) (take (i + 1) (set ns i n))
+    free_more k h t =
+        let g = filled_more us them (places store) i n (take i ns) F among (number_some _ n e) low (sym h ∙ t) in
+        subst (Filled us them (places store) (i + 1)) (sym (ap (λ (j : ℕ). take j (set ns i n)) (add-one i) ∙ take-suc-set ns i n (omega (arith, k, l)))) g
+
+pub free_full : (us them store : Bytes) (ns : List ℕ) (i j : ℕ) → length ns ≡ 64 → i ≡ 64 → Filled us them (places store) i (take i ns) → IsFirstBest nat_lt ns 64 j → j ≡ takes (kept us them store)
 unfolding kept
 free_full us them store ns i j k z F L =
     let p = places-length store in
     let t : take i ns ≡ ns = take_all i ns (omega (arith, k, z)) in
     let m : i ≡ length (places store) = omega (arith, p, z) in
     let n : 64 ≡ length ns = omega (arith, k) in
-    filled_all us them (places store) j ns (subst (λ (x : ℕ). Filled us them (places store) x ns) m (subst (Filled us them (places store) i) t F)) (subst (λ (x : ℕ). LowestOf ns x j) n L)
+    filled_all us them (places store) j ns (subst (λ (x : ℕ). Filled us them (places store) x ns) m (subst (Filled us them (places store) i) t F)) (subst (λ (x : ℕ). IsFirstBest nat_lt ns x j) n L)

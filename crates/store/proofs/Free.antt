@@ -1,6 +1,6 @@
 -- The place for a new report: the lowest of some numbers, and the table as far as its places were looked at.
 -- Assumes nothing.
-use Prim.Native.Nat.{ℕ, zero, suc, ◌+◌, ◌≤◌, ◌<◌}
+use Prim.Native.Nat.{ℕ, zero, suc, ◌≤◌, ◌<◌}
 use native.Mathlib.Omega.{arith}
 use mathlib.Core.Path.{◌≡◌, refl, sym, ap}
 use mathlib.Core.List.{List, [], ◌∷◌}
@@ -8,29 +8,21 @@ use mathlib.Core.Option.{none, some}
 use mathlib.Core.Bool.{Bool, true, false, cond, ◌||◌, false≢true}
 use lib.Dec.{eqb, ltb}
 use lib.ListN.{length, get_or}
-use borrow.Author.Count.{below_more}
 use borrow.Author.Tests.{eqb-true, ltb-true, ltb-false, ne_eqb, eq-eqb}
 use Rattle.octets.specs.Bytes.{has}
 use Rattle.octets.proofs.Tests.{has_at}
 use Rattle.store.specs.Store.{Table, numbers, place_of, full, least, lowest}
-use Rattle.store.specs.code.Lowest.{LowestOf}
+use Rattle.std.specs.Prelude.{nat_lt}
+use Rattle.std.specs.List.{IsFirstBest}
 
--- THE LOWEST of the first n numbers
-pub lowest_one : (l : List ℕ) → LowestOf l 1 0
-lowest_one l = record { among = omega arith; low = λ j h. one j (omega (arith, h)); first = λ j h. absurd (omega (arith, h)) }
-  where
-    one : (j : ℕ) → j ≡ 0 → get_or l 0 0 ≤ get_or l j 0
-    one j e = let z : get_or l j 0 ≡ get_or l 0 0 = ap (λ (k : ℕ). get_or l k 0) e in omega (arith, z)
+-- THE LOWEST of the first n numbers, and the first of these
+record Lowest (numbers : List ℕ) (n i : ℕ) : Type 0 where
+  among : i < n
+  low : (j : ℕ) → j < n → get_or numbers i 0 ≤ get_or numbers j 0
+  first : (j : ℕ) → j < i → get_or numbers i 0 < get_or numbers j 0
 
-pub lower : (l : List ℕ) (n i : ℕ) → LowestOf l n i → get_or l n 0 < get_or l i 0 → LowestOf l (n + 1) n
-lower l n i L h =
-    let before : (j : ℕ) → j < n → get_or l n 0 < get_or l j 0 = λ j k. let x = L.low j k in omega (arith, x, h) in
-    record { among = omega arith; low = below_more (λ j. get_or l n 0 ≤ get_or l j 0) n (λ j k. let x = before j k in omega (arith, x)) (omega arith); first = before }
-
-pub not_lower : (l : List ℕ) (n i : ℕ) → LowestOf l n i → get_or l i 0 ≤ get_or l n 0 → LowestOf l (n + 1) i
-not_lower l n i L h =
-    let a = L.among in
-    record { among = omega (arith, a); low = below_more (λ j. get_or l i 0 ≤ get_or l j 0) n L.low h; first = L.first }
+lowest_of : (l : List ℕ) (n i : ℕ) → IsFirstBest nat_lt l n i → Lowest l n i
+lowest_of l n i B = record { among = B.0; low = λ j h. ltb-false _ _ (B.1 j 0 h); first = λ j h. ltb-true _ _ (B.2 j 0 h) }
 
 -- the lowest number is what stands there
 least_above : (x v : ℕ) (l : List ℕ) → v ≤ x → ((j : ℕ) → j < length l → v ≤ get_or l j 0) → v ≤ least x l
@@ -66,7 +58,7 @@ lowest_under (x ∷ l) n h = go (eqb x n) refl h
     go true e h = let a = (least_under x l).0 in let m = eqb-true x n e in omega (arith, a, m)
     go false e h = (least_under x l).1 n h
 
-lowest_is : (l : List ℕ) (i : ℕ) → LowestOf l (length l) i → lowest l ≡ get_or l i 0
+lowest_is : (l : List ℕ) (i : ℕ) → Lowest l (length l) i → lowest l ≡ get_or l i 0
 lowest_is [] i L = let a = L.among in absurd (omega (arith, a))
 lowest_is (x ∷ l) i L =
     let a = least_above x (get_or (x ∷ l) i 0) l (L.low 0 (omega arith)) (λ j h. L.low (suc j) (omega (arith, h))) in
@@ -81,7 +73,8 @@ place-full (some r ∷ l) n zero u h before e = sym (rw (eq-eqb r.number n e))
 place-full (some r ∷ l) n (suc i) u h before e =
     rw (ne_eqb r.number n (before 0 (omega arith))) (ap suc (place-full l n i u (omega (arith, h)) (λ j k. before (suc j) (omega (arith, k))) e))
 
-pub lowest_stands : (l : Table) (i : ℕ) → full l ≡ true → LowestOf (numbers l) (length (numbers l)) i → i ≡ place_of (lowest (numbers l)) l
-lowest_stands l i u L =
+pub lowest_stands : (l : Table) (i : ℕ) → full l ≡ true → IsFirstBest nat_lt (numbers l) (length (numbers l)) i → i ≡ place_of (lowest (numbers l)) l
+lowest_stands l i u B =
+    let L = lowest_of (numbers l) (length (numbers l)) i B in
     let e = lowest_is (numbers l) i L in
     place-full l (lowest (numbers l)) i u L.among (λ j h f. let x = L.first j h in omega (arith, x, e, f)) (sym e)

@@ -11,3 +11,4 @@ pub mod Last
 pub mod FromZero
 pub mod Cases
 pub mod Promise
+pub mod OneOutcome

@@ -1,6 +1,6 @@
 -- One place looked at by its number, and the walk over all places: where a number stands, and how far a run of other numbers goes.
 -- Assumes nothing.
-use Prim.Native.Nat.{ℕ, suc, ◌+◌, ◌-◌, ◌*◌, ◌≤◌, ◌<◌}
+use Prim.Native.Nat.{ℕ, suc, ◌+◌, ◌-◌, ◌≤◌, ◌<◌}
 use native.Mathlib.Omega.{arith}
 use mathlib.Core.Path.{◌≡◌, refl, sym, ap, ◌∙◌, subst}
 use mathlib.Core.List.{List, [], ◌∷◌}
@@ -8,32 +8,34 @@ use mathlib.Core.Option.{Option, none, some}
 use mathlib.Core.Bool.{Bool, true, false, cond, ◌&&◌}
 use mathlib.Core.Logic.{◌⊎◌, inl, inr, ⊎_elim}
 use lib.Dec.{leb, ltb}
-use lib.ListN.{length, take, drop, get_or, set, drop_of_length-le}
+use lib.ListN.{length, drop, get_or, set, drop_of_length-le}
 use lib.Seq.{drop-cons, get_or-set_same, get_or-set_other}
 use borrow.Author.Count.{below_more}
 use borrow.Author.Tests.{ltb-true, leb-true, leb-false, lt-ltb, le-ltb, le-leb, lt-leb}
 use Rattle.octets.specs.Bytes.{Bytes, has}
-use Rattle.places.specs.Places.{is_store, places}
-use Rattle.places.proofs.Cuts.{places-length, slice_at, place-length}
+use Rattle.places.specs.Places.{places}
+use Rattle.places.proofs.Cuts.{places-length}
 use Rattle.report.specs.Report.{Report}
-use Rattle.kept.specs.Kept.{held, number_of}
+use Rattle.kept.specs.Kept.{held}
+use Rattle.kept.proofs.Numbers.{number}
 use Rattle.kept.specs.code.Peeked.{Peeked}
-use Rattle.store.specs.Store.{numbers, place_of, kept}
+use Rattle.store.specs.Store.{Table, numbers, place_of, stands, kept}
 use Rattle.store.specs.Plan.{run_to}
-use Rattle.store.specs.code.Peeked.{AllPeeked}
 use Rattle.store.proofs.Plan.{run_within, run_clear, run_stops}
 use Rattle.store.proofs.Counting.{number_at, place_is, numbers_of, numbers_kept}
+use Rattle.store.proofs.Standing.{kept_length}
+use Rattle.std.specs.Prelude.{Some, None}
 
 -- ONE PLACE: the number read alone is the place's number, or the place has none
 module _ (us them place : Bytes) where
-  peeked : (n : ℕ) → Peeked place (length us + length them) n → (number_of (held us them place) ≡ 0) ⊎ (number_of (held us them place) ≡ n)
+  peeked : (n : ℕ) → Peeked place (length us + length them) n → (number (held us them place) ≡ 0) ⊎ (number (held us them place) ≡ n)
   peeked n P = go (held us them place) refl
     where
-      go : (o : Option Report) → held us them place ≡ o → (number_of o ≡ 0) ⊎ (number_of o ≡ n)
+      go : (o : Option Report) → held us them place ≡ o → (number o ≡ 0) ⊎ (number o ≡ n)
       go none e = inl refl
       go (some r) e = inr (sym (P.right us them r refl e))
 
-  pub peeked_other : (n k : ℕ) → Peeked place (length us + length them) n → 1 ≤ k → (n ≡ k → ⊥) → number_of (held us them place) ≡ k → ⊥
+  pub peeked_other : (n k : ℕ) → Peeked place (length us + length them) n → 1 ≤ k → (n ≡ k → ⊥) → number (held us them place) ≡ k → ⊥
   peeked_other n k P l d e = ⊎_elim (λ z. omega (arith, z, e, l)) (λ z. d (sym z ∙ e)) (peeked n P)
 
   run_on : (at end m : ℕ) → (m ≤ at) ⊎ (end < m) → end ≡ run_to at end (m ∷ [])
@@ -44,17 +46,17 @@ module _ (us them place : Bytes) where
       go true = sym (rw (lt-leb m end l))
       go false = refl
 
-  pub run_low : (at end n : ℕ) → Peeked place (length us + length them) n → n ≤ at → end ≡ run_to at end (number_of (held us them place) ∷ [])
-  run_low at end n P l = run_on at end (number_of (held us them place)) (inl (⊎_elim (λ z. omega (arith, z)) (λ z. omega (arith, z, l)) (peeked n P)))
+  pub run_low : (at end n : ℕ) → Peeked place (length us + length them) n → n ≤ at → end ≡ run_to at end (number (held us them place) ∷ [])
+  run_low at end n P l = run_on at end (number (held us them place)) (inl (⊎_elim (λ z. omega (arith, z)) (λ z. omega (arith, z, l)) (peeked n P)))
 
-  pub run_high : (at end n : ℕ) → Peeked place (length us + length them) n → end < n → end ≡ run_to at end (number_of (held us them place) ∷ [])
-  run_high at end n P l = run_on at end (number_of (held us them place)) (⊎_elim (λ z. inl (omega (arith, z))) (λ z. inr (omega (arith, z, l))) (peeked n P))
+  pub run_high : (at end n : ℕ) → Peeked place (length us + length them) n → end < n → end ≡ run_to at end (number (held us them place) ∷ [])
+  run_high at end n P l = run_on at end (number (held us them place)) (⊎_elim (λ z. inl (omega (arith, z))) (λ z. inr (omega (arith, z, l))) (peeked n P))
 
-  pub run_not : (at end n k : ℕ) → Peeked place (length us + length them) n → k ≡ number_of (held us them place) → (k ≡ n → ⊥) → end ≡ run_to at end (number_of (held us them place) ∷ [])
+  pub run_not : (at end n k : ℕ) → Peeked place (length us + length them) n → k ≡ number (held us them place) → (k ≡ n → ⊥) → end ≡ run_to at end (number (held us them place) ∷ [])
   run_not at end n k P e d =
-      run_on at end (number_of (held us them place)) (inl (⊎_elim (λ z. omega (arith, z)) (λ z. absurd (d (e ∙ z))) (peeked n P)))
+      run_on at end (number (held us them place)) (inl (⊎_elim (λ z. omega (arith, z)) (λ z. absurd (d (e ∙ z))) (peeked n P)))
 
-  pub run_ends : (at end n k : ℕ) → k ≡ number_of (held us them place) → k ≡ n → at < n → n ≤ end → n - 1 ≡ run_to at end (number_of (held us them place) ∷ [])
+  pub run_ends : (at end n k : ℕ) → k ≡ number (held us them place) → k ≡ n → at < n → n ≤ end → n - 1 ≡ run_to at end (number (held us them place) ∷ [])
   run_ends at end n k e f l h = rw (sym e ∙ f, lt-ltb at n l, le-leb n end h)
 
 -- THE SAME NUMBERS, whatever their order and however often: the same run
@@ -124,62 +126,60 @@ run_first : (n e m : ℕ) (ms : List ℕ) → run_to n e (m ∷ ms) ≡ run_to n
 run_first n e m [] = refl
 run_first n e m (x ∷ ms) = run_swap n (run_to n e ms) x m ∙ ap (λ (k : ℕ). run_to n k (x ∷ [])) (run_first n e m ms)
 
--- THE WALK over the places of a store
-pub slice-length : (store : Bytes) (i : ℕ) → is_store store ≡ true → i < 64 → length (take (512 * i + 512 - 512 * i) (drop (512 * i) store)) ≡ 512
-slice-length store i s l = ap length (sym (slice_at store i l)) ∙ place-length store i s l
-
--- the number of each place, read alone
+-- THE WALK over the places of a store: the number of each place, read alone
 module _ (store : Bytes) (ids : ℕ) where
   abbrev pub PeekedTo : List ℕ → ℕ → Type 0
   PeekedTo ns i = (j : ℕ) → j < i → Peeked (get_or (places store) j []) ids (get_or ns j 0)
 
-  pub peeked_more : (ns : List ℕ) (i n : ℕ) → i < 64 → length ns ≡ 64 → PeekedTo ns i → Peeked (take (512 * i + 512 - 512 * i) (drop (512 * i) store)) ids n
-      → PeekedTo (set ns i n) (i + 1)
+  pub peeked_more : (ns : List ℕ) (i n : ℕ) → i < 64 → length ns ≡ 64 → PeekedTo ns i → Peeked (get_or (places store) i []) ids n → PeekedTo (set ns i n) (i + 1)
   peeked_more ns i n l e before P =
-      let place = get_or (places store) i [] in
-      let here = subst (λ (p : Bytes). Peeked p ids n) (sym (slice_at store i l)) P in
       below_more (λ j. Peeked (get_or (places store) j []) ids (get_or (set ns i n) j 0)) i
       (λ j h. subst (Peeked (get_or (places store) j []) ids) (sym (get_or-set_other ns i j n 0 (λ q. omega (arith, q, h)))) (before j h))
-      (subst (Peeked place ids) (sym (get_or-set_same ns i n 0 (omega (arith, l, e)))) here)
+      (subst (Peeked (get_or (places store) i []) ids) (sym (get_or-set_same ns i n 0 (omega (arith, l, e)))) P)
 
-  pub peeked_at : (ns : List ℕ) (i : ℕ) → AllPeeked store ids ns → i < 64 → Peeked (take (512 * i + 512 - 512 * i) (drop (512 * i) store)) ids (get_or ns i 0)
-  peeked_at ns i A l = subst (λ (p : Bytes). Peeked p ids (get_or ns i 0)) (slice_at store i l) (A.each i l)
+-- where a number stands in a table
+stands_some : (n i : ℕ) (l : Table) → i ≡ place_of n l → i < length l → Some i ≡ stands n l
+stands_some n i l e h =
+    ap (λ (j : ℕ). Some j) e ∙ sym (ap (λ (b : Bool). cond b (Some (place_of n l)) None) (lt-ltb (place_of n l) (length l) (omega arith)))
+
+stands_none : (n : ℕ) (l : Table) → length l ≤ place_of n l → None ≡ stands n l
+stands_none n l h = sym (ap (λ (b : Bool). cond b (Some (place_of n l)) None) (le-ltb (place_of n l) (length l) h))
 
 module _ (us them store : Bytes) where
-  pub number_at_lem : (i : ℕ) → i < 64 → number_at us them (places store) i ≡ number_of (held us them (take (512 * i + 512 - 512 * i) (drop (512 * i) store)))
-  number_at_lem i l = ap (λ (p : Bytes). number_of (held us them p)) (slice_at store i l)
-
-  pub is_there : (i n k : ℕ) → i < 64 → k ≡ number_of (held us them (take (512 * i + 512 - 512 * i) (drop (512 * i) store))) → k ≡ n → number_at us them (places store) i ≡ n
-  is_there i n k l e t = number_at_lem i l ∙ sym e ∙ t
-
-  pub not_there : (i n k : ℕ) → i < 64 → k ≡ number_of (held us them (take (512 * i + 512 - 512 * i) (drop (512 * i) store))) → (k ≡ n → ⊥)
-      → number_at us them (places store) i ≡ n → ⊥
-  not_there i n k l e t h = t (e ∙ sym (number_at_lem i l) ∙ h)
-
-  pub stands_at : (n i : ℕ) → 1 ≤ n → i ≤ 64 → ((j : ℕ) → j < i → number_at us them (places store) j ≡ n → ⊥) → (i < 64 → number_at us them (places store) i ≡ n)
+  stands_at : (n i : ℕ) → 1 ≤ n → i ≤ 64 → ((j : ℕ) → j < i → number_at us them (places store) j ≡ n → ⊥) → (i < 64 → number_at us them (places store) i ≡ n)
       → i ≡ place_of n (kept us them store)
   unfolding kept
   stands_at n i k l before at =
       let e = places-length store in
       place_is us them n [] (places store) i k refl (omega (arith, e, l)) before (λ h. at (omega (arith, e, h)))
 
+  pub stands_here : (n i : ℕ) → 1 ≤ n → i < 64 → ((j : ℕ) → j < i → number_at us them (places store) j ≡ n → ⊥) → number_at us them (places store) i ≡ n
+      → Some i ≡ stands n (kept us them store)
+  stands_here n i k l before at =
+      stands_some n i (kept us them store) (stands_at n i k (omega arith) before (λ _. at)) (omega (arith, kept_length us them store))
+
+  pub stands_nowhere : (n : ℕ) → 1 ≤ n → ((j : ℕ) → j < 64 → number_at us them (places store) j ≡ n → ⊥) → None ≡ stands n (kept us them store)
+  stands_nowhere n k before =
+      let e = stands_at n 64 k (omega arith) before (λ h. absurd (omega arith)) in
+      stands_none n (kept us them store) (omega (arith, kept_length us them store))
+
   -- what is left of a run behind all places is the run; one place more, and then the others
   pub run_all : (at e i : ℕ) → 64 ≤ i → run_to at e (numbers_of us them (drop i (places store))) ≡ e
   run_all at e i l = let n = places-length store in ap (λ (ps : List Bytes). run_to at e (numbers_of us them ps)) (drop_of_length-le (places store) {i = i} (omega (arith, n, l)))
 
-  run_next : (at e f i : ℕ) → i < 64 → f ≡ run_to at e (number_of (held us them (take (512 * i + 512 - 512 * i) (drop (512 * i) store))) ∷ [])
+  run_next : (at e f i : ℕ) → i < 64 → f ≡ run_to at e (number (held us them (get_or (places store) i [])) ∷ [])
       → run_to at f (numbers_of us them (drop (suc i) (places store))) ≡ run_to at e (numbers_of us them (drop i (places store)))
   run_next at e f i l q =
       let n = places-length store in
       let rest = numbers_of us them (drop (suc i) (places store)) in
-      ap (λ (k : ℕ). run_to at k rest) (q ∙ ap (λ (m : ℕ). run_to at e (m ∷ [])) (sym (number_at_lem i l)))
+      ap (λ (k : ℕ). run_to at k rest) q
       ∙ sym (run_first at e (number_at us them (places store) i) rest)
       ∙ sym (ap (λ (ps : List Bytes). run_to at e (numbers_of us them ps)) (drop-cons (places store) i [] (omega (arith, n, l))))
 
   abbrev pub RunFrom : ℕ → ℕ → ℕ → ℕ → Type 0
   RunFrom at end e i = run_to at e (numbers_of us them (drop i (places store))) ≡ run_to at end (numbers_of us them (places store))
 
-  pub run_past : (at end e f i : ℕ) → i < 64 → RunFrom at end e i → f ≡ run_to at e (number_of (held us them (take (512 * i + 512 - 512 * i) (drop (512 * i) store))) ∷ [])
+  pub run_past : (at end e f i : ℕ) → i < 64 → RunFrom at end e i → f ≡ run_to at e (number (held us them (get_or (places store) i [])) ∷ [])
       → RunFrom at end f (i + 1)
   run_past at end e f i l w q =
       let s : i + 1 ≡ suc i = omega arith in

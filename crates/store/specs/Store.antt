@@ -1,5 +1,6 @@
 -- The reports that a store keeps (document 02, Q-4): which place counts as empty, which report is found under a number, and where a new one goes.
-use Rattle.std.specs.Prelude.{ℕ, suc, List, [], ◌∷◌, ◌++◌, Bool, true, false, cond, eqb, ltb}
+use Rattle.std.specs.Prelude as rust
+use Rattle.std.specs.Prelude.{ℕ, suc, List, [], ◌∷◌, ◌++◌, Bool, true, false, cond, eqb, ltb, length, Some, None}
 use Rattle.std.proofs.Math.Option.{Option, none, some}
 use Rattle.octets.specs.Bytes.{Bytes, has}
 use Rattle.places.specs.Places.{places, put_at}
@@ -26,6 +27,9 @@ abbrev pub place_of : ℕ → Table → ℕ
 place_of n [] = 0
 place_of n (none ∷ l) = suc (place_of n l)
 place_of n (some r ∷ l) = let later = suc (place_of n l) in cond (eqb r.number n) 0 later
+
+abbrev pub stands : ℕ → Table → rust.Option ℕ
+stands n l = let i = place_of n l in cond (ltb i (length l)) (Some i) None
 
 -- the first empty place, and whether there is none
 abbrev pub first_empty : Table → ℕ

@@ -1,127 +1,101 @@
 // The reports that a store keeps: where a new one goes, where the one of a number stands, and how far a run of other numbers goes.
 #![tactic(auto)]
 
-ghost use Rattle.std.specs.Prelude.{◌≡◌, true, ◌+◌, ◌≤◌, length, take};
-ghost use Rattle.octets.specs.Bytes.{has};
-ghost use Rattle.message.specs.Unfit.{comp_id};
-ghost use Rattle.places.specs.Places.{is_store};
-ghost use Rattle.store.specs.Store.{numbers, place_of, takes, kept};
+ghost use Rattle.std.specs.Prelude.{◌≡◌, true, ◌+◌, ◌≤◌, ◌<◌, [], length, get_or, nat_lt};
+ghost use Rattle.std.specs.List.{IsFirstBest};
+ghost use Rattle.places.specs.Places.{is_store, places};
+ghost use Rattle.store.specs.Store.{numbers, stands, takes, kept};
 ghost use Rattle.store.specs.Plan.{run_to};
-ghost use Rattle.store.specs.code.Lowest.{LowestOf};
 ghost use Rattle.store.specs.code.Peeked.{AllPeeked};
 
-use kept::{kept_number, peek_number};
+use kept::{CompIds, kept_number, peek_number};
 
-// Whether one of the first n of these numbers is x.
-fn is_met(numbers: &[u64; 64], n: usize, x: u64) -> bool
-    requires { (length numbers.now ≡ 64) × (n ≤ 64) }
-    ensures { result ≡ has (take n numbers.now) x }
-{
-    let mut i = 0;
-    while i < n {
-        if numbers[i] == x {
-            return true;
-        }
-        i += 1;
-    }
-    false
+// A store, and the CompIDs between which it keeps reports.
+#[derive(Clone, Copy)]
+pub struct Reports<'s, 'i> {
+    pub store: &'s [u8],
+    pub ids: CompIds<'i>,
+    pub ghost whole: { is_store store.now ≡ true },
 }
 
 // The place of the lowest of 64 numbers.
 fn lowest_place(numbers: &[u64; 64]) -> usize
-    requires { length numbers.now ≡ 64 }
-    ensures { LowestOf numbers.now 64 result }
+    ensures { IsFirstBest nat_lt numbers.now 64 result }
 {
     let mut at = 0;
-    let mut i = 1;
-    while i < 64 {
+    for i in 1..64 {
         if numbers[i] < numbers[at] {
             at = i;
         }
-        i += 1;
     }
     at
 }
 
-// The place that a new report takes: the first empty one, else the lowest number's.
-pub fn free_place(store: &[u8], us: &[u8], them: &[u8]) -> usize
-    requires { (is_store store.now ≡ true) × (comp_id us.now ≡ true) × (comp_id them.now ≡ true) }
-    ensures { result ≡ takes (kept us.now them.now store.now) }
-{
-    let mut numbers = [0u64; 64];
-    let mut i = 0;
-    while i < 64 {
-        let n = kept_number(&store[512 * i..512 * i + 512], us, them);
-        if n == 0 {
-            return i;
-        }
-        if is_met(&numbers, i, n) {
-            return i;
-        }
-        numbers[i] = n;
-        i += 1;
+impl<'s, 'i> Reports<'s, 'i> {
+    // A place of the store, counted from 0.
+    pub fn place(&self, i: usize) -> &'s [u8]
+        requires { i < 64 }
+        ensures is { result.now ≡ get_or (places self.now.store.now) i [] }
+        ensures size { length result.now ≡ 512 }
+    {
+        &self.store[512 * i..512 * i + 512]
     }
-    lowest_place(&numbers)
-}
 
-// The number that stands in each place of a store, read alone, for CompIDs of so many bytes together.
-pub fn peeked(store: &[u8], ids: usize) -> [u64; 64]
-    requires { (is_store store.now ≡ true) × (ids ≤ 22) }
-    ensures { AllPeeked store.now ids result }
-{
-    let mut numbers = [0u64; 64];
-    let mut i = 0;
-    while i < 64 {
-        let n = peek_number(&store[512 * i..512 * i + 512], ids);
-        numbers[i] = n;
-        i += 1;
+    // The place that a new report takes: the first empty one, else the lowest number's.
+    pub fn free_place(&self) -> usize
+        ensures { result ≡ takes (kept self.now.ids.us.now self.now.ids.them.now self.now.store.now) }
+    {
+        let mut numbers = [0; 64];
+        for i in 0..64 {
+            let Some(n) = kept_number(self.place(i), &self.ids) else {
+                return i;
+            };
+            if numbers[..i].contains(&n) {
+                return i;
+            }
+            numbers[i] = n;
+        }
+        lowest_place(&numbers)
     }
-    numbers
-}
 
-// Where the report of a number stands; 64 for none. Only a place in which that number stands read alone is looked at whole.
-pub fn place_of(store: &[u8], alone: &[u64; 64], us: &[u8], them: &[u8], n: u64) -> usize
-    requires { (is_store store.now ≡ true) × (comp_id us.now ≡ true) × (comp_id them.now ≡ true) × (1 ≤ n) × AllPeeked store.now (length us.now + length them.now) alone.now }
-    ensures { result ≡ place_of n (kept us.now them.now store.now) }
-{
-    let mut i = 0;
-    while i < 64 {
-        if alone[i] != n {
-            i += 1;
-            continue;
+    // The number that stands in each place, read alone: once for a whole replay call, so that it is no field.
+    pub fn peeked(&self) -> [u64; 64]
+        ensures { AllPeeked self.now.store.now (length self.now.ids.us.now + length self.now.ids.them.now) result }
+    {
+        let ids = self.ids.len();
+        let mut numbers = [0; 64];
+        for i in 0..64 {
+            numbers[i] = peek_number(self.place(i), ids);
         }
-        if kept_number(&store[512 * i..512 * i + 512], us, them) == n {
-            return i;
-        }
-        i += 1;
+        numbers
     }
-    64
-}
 
-// How far a run of numbers goes that are not kept, from one to another at most. Reports stand mostly in the order of their numbers, so the first places end
-// it soon; and only a place whose number read alone would end it is looked at whole.
-pub fn run_to(store: &[u8], alone: &[u64; 64], us: &[u8], them: &[u8], at: u64, end: u64) -> u64
-    requires { (is_store store.now ≡ true) × (comp_id us.now ≡ true) × (comp_id them.now ≡ true) × AllPeeked store.now (length us.now + length them.now) alone.now }
-    ensures { result ≡ run_to at end (numbers (kept us.now them.now store.now)) }
-{
-    let mut e = end;
-    let mut i = 0;
-    while i < 64 {
-        let n = alone[i];
-        if n <= at {
-            i += 1;
-            continue;
+    // Where the report of a number stands, if it is kept. Only a place in which that number stands read alone is looked at whole.
+    pub fn place_of(&self, alone: &[u64; 64], n: u64) -> Option<usize>
+        requires { (1 ≤ n) × AllPeeked self.now.store.now (length self.now.ids.us.now + length self.now.ids.them.now) alone.now }
+        ensures { result ≡ stands n (kept self.now.ids.us.now self.now.ids.them.now self.now.store.now) }
+    {
+        for i in 0..64 {
+            if alone[i] == n && kept_number(self.place(i), &self.ids) == Some(n) {
+                return Some(i);
+            }
         }
-        if e < n {
-            i += 1;
-            continue;
-        }
-        if kept_number(&store[512 * i..512 * i + 512], us, them) != n {
-            i += 1;
-            continue;
-        }
-        e = n - 1;
-        i += 1;
+        None
     }
-    e
+
+    // How far a run of numbers goes that are not kept, from one to another at most. Reports stand mostly in the order of their numbers, so the first
+    // places end it soon; and only a place whose number read alone would end it is looked at whole.
+    pub fn run_to(&self, alone: &[u64; 64], at: u64, end: u64) -> u64
+        requires { AllPeeked self.now.store.now (length self.now.ids.us.now + length self.now.ids.them.now) alone.now }
+        ensures { result ≡ run_to at end (numbers (kept self.now.ids.us.now self.now.ids.them.now self.now.store.now)) }
+    {
+        let mut e = end;
+        for i in 0..64 {
+            let n = alone[i];
+            if at < n && n <= e && kept_number(self.place(i), &self.ids) == Some(n) {
+                e = n - 1;
+            }
+        }
+        e
+    }
 }

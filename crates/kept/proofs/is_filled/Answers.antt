@@ -1,9 +1,7 @@
 -- `is_filled`: each piece in its turn.
 use native.Mathlib.Omega.{arith}
-use Prim.Native.Nat.{◌-◌}
 use mathlib.Core.Path.{sym, ◌∙◌}
 use mathlib.Core.Bool.{false≢true}
-use lib.Seq.{length-take-le}
 use Rattle.kept.proofs.Behind.{seen, missed, stood, refuted}
 use Rattle.kept.proofs.Fillings.{filled_long, filled_label, filled_stamp, filled_bar, filled_listed, is_filled}
 use Rattle.kept.proofs.is_filled.Goals as goal
@@ -27,12 +25,6 @@ pub returns-then-place-at-ne1 : goal.returns-then-place-at-ne1
 returns-then-place-at-ne1 c =
     let a = c.args in
     refuted (λ F. c.if-place-at-ne1.true (filled_bar a.place.now a.at a.n F))
-
-pub slice_bounds-is_listed-length : goal.slice_bounds-is_listed-length
-slice_bounds-is_listed-length c = let a = c.args in sym (length-take-le (a.n - 7) a.place.now (omega arith))
-
-pub is_listed-requires : goal.is_listed-requires
-is_listed-requires c = let a = c.args in (omega arith, omega (arith, length-take-le (a.n - 7) a.place.now (omega arith)))
 
 pub returns-then-not-is_listed : goal.returns-then-not-is_listed
 returns-then-not-is_listed c =

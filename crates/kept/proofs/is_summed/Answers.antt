@@ -3,6 +3,7 @@ use native.Mathlib.Omega.{arith}
 use Prim.Native.Nat.{ℕ, ◌-◌}
 use mathlib.Core.Path.{sym, subst}
 use lib.Seq.{length-take-le}
+use Rattle.octets.specs.Bytes.{Bytes}
 use Rattle.octets.specs.code.Leaf.{Standing}
 use Rattle.frame.specs.Frame.{trailer}
 use Rattle.kept.proofs.is_summed.Goals as goal
@@ -13,4 +14,5 @@ slice_bounds-checksum-end c = let a = c.args in sym (length-take-le (a.n - 7) a.
 pub returns : goal.returns
 returns c =
     let a = c.args in
-    subst (λ (x : ℕ). Standing a.place.now (a.n - 7) (trailer x) c.stands_at.result) c.checksum-s.ensures c.stands_at.ensures
+    subst (λ (x : ℕ). Standing a.place.now (a.n - 7) (trailer x) c.stands_at.result) c.checksum-s.ensures
+    (subst (λ (l : Bytes). Standing a.place.now (a.n - 7) l c.stands_at.result) c.trailer.ensures c.stands_at.ensures)

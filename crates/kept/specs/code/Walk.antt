@@ -1,5 +1,5 @@
 -- What the walk over a place finds, part by part. Only the code needs these: nothing here states document 02.
-use Rattle.std.specs.Prelude.{ℕ, ◌+◌, ◌-◌, ◌%◌, ◌≤◌, ◌<◌, ◌≡◌, ◌++◌, Bool, true, length, take, replicate}
+use Rattle.std.specs.Prelude.{ℕ, ◌+◌, ◌-◌, ◌%◌, ◌≤◌, ◌<◌, ◌≡◌, ◌++◌, Bool, true, length, take, replicate, Option, Some}
 use Rattle.octets.specs.Bytes.{Bytes, fix, sum, decimal, At}
 use Rattle.frame.specs.Frame.{fixt, trailer}
 use Rattle.calendar.specs.Time.{utc, limit}
@@ -24,11 +24,10 @@ pub record Headed (us them place : Bytes) : Type 0 where
   pub mark : At place 0 fixt.mark
   pub head : At place 16 (heading us them)
 
--- n is 0, or the length of a frame that fits a place, by the three digits of its body's
-pub record Ended (place : Bytes) (n : ℕ) : Type 0 where
-  pub fits : n ≤ 512
-  pub is : 1 ≤ n → (124 ≤ n) × At place 13 (decimal (n - 24))
-  pub only : (k : ℕ) → 100 ≤ k → k ≤ 488 → At place 13 (decimal k) → n ≡ k + 24
+-- r is the length of a frame that fits a place, by the three digits of its body's, if they are worth one
+pub record Ended (place : Bytes) (r : Option ℕ) : Type 0 where
+  pub is : (n : ℕ) → r ≡ Some n → (124 ≤ n) × (n ≤ 512) × At place 13 (decimal (n - 24))
+  pub only : (k : ℕ) → 100 ≤ k → k ≤ 488 → At place 13 (decimal k) → r ≡ Some (k + 24)
 
 -- from a place on to the end: 52, the own fields, the trailer before n, zeros behind
 pub record Filled (place : Bytes) (at n : ℕ) : Type 0 where
