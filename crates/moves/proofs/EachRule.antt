@@ -11,8 +11,7 @@ use borrow.Author.Tests.{ltb-true, ltb-false, leb-true, leb-false, eqb-true, eqb
 use Rattle.octets.specs.Bytes.{Bytes, fix}
 use Rattle.fields.specs.Field.{first_field}
 use Rattle.kinds.proofs.Values.{same_true, same_refl}
-use Rattle.dictionary.specs.declared.Verdict.TheVariants.{Clean}
-use Rattle.dictionary.specs.Verdict.{verdict}
+use Rattle.dictionary.specs.Verdict.{verdict, Clean}
 use Rattle.message.specs.Message.{absent, bytes}
 use Rattle.gap.specs.Gap.{no_gap, asks, seen}
 use Rattle.moves.specs.Words.{first, ◌when◌, ◌otherwise◌, speaks}

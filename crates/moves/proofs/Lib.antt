@@ -2,6 +2,4 @@ pub mod Words
 pub mod Readings
 pub mod Ranges
 pub mod Types
-pub mod Numbering
 pub mod EachRule
-pub mod GapPlans

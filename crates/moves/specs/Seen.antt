@@ -1,5 +1,5 @@
 -- What is seen of a frame's body: a field's value, its number, its time, its type, the verdict.
-use Rattle.std.specs.Prelude.{ℕ, Bool, true, false, ◌&&◌}
+use Rattle.std.specs.Prelude.{ℕ, Bool, true, false, ◌&&◌, Ok, Err}
 use Rattle.std.proofs.Math.Option.{Option, none, some}
 use Rattle.octets.specs.Bytes.{Bytes, same, within, value}
 use Rattle.kinds.specs.Kind.{is_number}
@@ -7,8 +7,8 @@ use Rattle.calendar.specs.Later.{is_readable, moment_of, later}
 use Rattle.calendar.specs.declared.moments.Moment.{Moment}
 use Rattle.table.specs.declared.MsgType.{MsgType}
 use Rattle.table.specs.Dictionary.{code35}
-use Rattle.dictionary.specs.declared.Verdict.{Verdict}
-use Rattle.dictionary.specs.declared.Verdict.TheVariants.{Clean, Finding, NoBody}
+use Rattle.dictionary.specs.Verdict.{Verdict}
+use Rattle.dictionary.specs.declared.Unclean.TheVariants.{Found, NoBody}
 use Rattle.message.specs.Message.{Value, absent, bytes}
 use Rattle.moves.specs.Words.{◌when◌}
 
@@ -46,16 +46,15 @@ code_of (some m) = some (code35 m)
 
 -- the verdict (NoBody is not met: the body of a good frame is a body)
 abbrev pub reason_of : Verdict → ℕ
-reason_of Clean = 0
-reason_of (Finding reason tag) = reason
-reason_of NoBody = 0
+reason_of (Ok _) = 0
+reason_of (Err (Found f)) = f.reason
+reason_of (Err NoBody) = 0
 
 abbrev pub tag_of : Verdict → ℕ
-tag_of Clean = 0
-tag_of (Finding reason tag) = tag
-tag_of NoBody = 0
+tag_of (Ok _) = 0
+tag_of (Err (Found f)) = f.tag
+tag_of (Err NoBody) = 0
 
 abbrev pub is_clean : Verdict → Bool
-is_clean Clean = true
-is_clean (Finding reason tag) = false
-is_clean NoBody = false
+is_clean (Ok _) = true
+is_clean (Err _) = false

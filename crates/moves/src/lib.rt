@@ -7,11 +7,10 @@ mod reads;
 mod record;
 mod times;
 
-pub use gaps::{Missed, asks_or_not, missing, resetting, settled};
+pub use gaps::{asks_or_not, resetting};
 pub use plan::{
-    Letter, Plan, accepting, closing, counting, delivering, expecting, is_nothing, is_quiet,
-    next_after, saying, serving,
+    Letter, Plan, accepting, closing, counting, delivering, expecting, next_after, saying, staying,
 };
-pub use reads::{holds, holds_at, is_clean, number_at, number_in, type_in};
-pub use record::{Record, Status, changed, in_range, is_active, is_comp_id, is_string, turned};
-pub use times::{TimeIn, is_missing, time_in};
+pub use reads::{holds, holds_at, number, number_at, number_in, type_in};
+pub use record::{Record, Replay, Status, is_comp_id, is_string};
+pub use times::{NoTime, time_in};

@@ -1,3 +1,3 @@
+pub mod Read
 pub mod Deciding
 pub mod Choosing
-pub mod Accepting

@@ -4,58 +4,51 @@ ghost use Rattle.dictionary.specs.Verdict.{msg_type};
 ghost use Rattle.moves.specs.Words.{◌otherwise◌};
 ghost use Rattle.moves.specs.Moves.{counted, unserved, served};
 ghost use Rattle.moves.specs.Held.{session_of};
-ghost use Rattle.moves.specs.code.Plan.{planned, summed, unserved_tag, is_servable, last_asked, type_byte, Ready};
+ghost use Rattle.moves.specs.code.Plan.{planned, summed, served_by, served_early, Ready};
+ghost use Rattle.moves.specs.code.Reads.{told};
 
 use dictionary::verdict_on;
-use moves::{Letter, Plan, Record, counting, is_clean, number_in, serving};
+use moves::{Letter, Plan, Record, Replay, counting, expecting, number};
+use table::MsgType;
 
-// Why a Resend Request is not served: the tag, or 0.
-pub fn unserved_tag(r: Record, body: &[u8]) -> u64
+// The replay that serves a Resend Request, or the tag for which it is not served.
+fn served_by(r: Record, body: &[u8]) -> Result<Replay, u64>
     requires { Ready r }
-    ensures { result ≡ unserved_tag (session_of r) body.now }
+    ensures { result ≡ served_by (session_of r) body.now }
 {
-    let begin = number_in(body, 7, 0);
-    if r.next - 1 < begin {
-        return 7;
+    let last = r.next - 1;
+    let begin = number(body, 7);
+    if last < begin {
+        return Err(7);
     }
-    let end = number_in(body, 16, 0);
+    let end = number(body, 16);
     if end == 0 {
-        return 0;
+        return Ok(Replay {
+            at: begin,
+            to: last,
+        });
     }
     if end < begin {
-        return 16;
+        return Err(16);
     }
-    0
+    Ok(Replay {
+        at: begin,
+        to: end.min(last),
+    })
 }
 
-// Whether what came is a Resend Request that can be served, by the byte of its type.
-pub fn is_servable(r: Record, t: u8, body: &[u8]) -> bool
-    requires { Ready r × (t ≡ type_byte (msg_type body.now)) }
-    ensures { result ≡ is_servable (session_of r) body.now }
+// The replay that serves what came above E, if that is a Resend Request that can be served.
+pub fn served_early(r: Record, kind: Option<MsgType>, body: &[u8]) -> Option<Replay>
+    requires { Ready r × (kind ≡ told (msg_type body.now)) }
+    ensures { result ≡ served_early (session_of r) body.now }
 {
-    if t != b'2' {
-        return false;
+    if kind != Some(MsgType::ResendRequest) {
+        return None;
     }
-    let v = verdict_on(body);
-    if !is_clean(v) {
-        return false;
+    if verdict_on(body).is_err() {
+        return None;
     }
-    unserved_tag(r, body) == 0
-}
-
-// The last number that is asked for.
-pub fn last_asked(r: Record, body: &[u8]) -> u64
-    requires { Ready r }
-    ensures { result ≡ last_asked (session_of r) body.now }
-{
-    let end = number_in(body, 16, 0);
-    if end == 0 {
-        return r.next - 1;
-    }
-    if end <= r.next - 1 {
-        return end;
-    }
-    r.next - 1
+    served_by(r, body).ok()
 }
 
 // A Resend Request in turn: served, or rejected; E + 1.
@@ -63,11 +56,11 @@ pub fn serve(r: Record, body: &[u8]) -> Plan
     requires { Ready r }
     ensures { planned body.now (session_of r) result ≡ summed (session_of r) (counted (session_of r) body.now (unserved (session_of r) body.now otherwise served (session_of r) body.now)) }
 {
-    let tag = unserved_tag(r, body);
-    if tag != 0 {
-        return counting(r, Letter::Reject { reason: 5, tag });
+    match served_by(r, body) {
+        Ok(replay) => Plan {
+            replay,
+            ..expecting(r, r.expected + 1)
+        },
+        Err(tag) => counting(r, Letter::Reject { reason: 5, tag }),
     }
-    let begin = number_in(body, 7, 0);
-    let last = last_asked(r, body);
-    serving(r, Letter::Nothing, r.expected + 1, begin, last, r.gap)
 }

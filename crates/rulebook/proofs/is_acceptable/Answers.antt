@@ -1,13 +1,13 @@
 -- `is_acceptable`: the 34, the CompIDs, the verdict.
-use native.Mathlib.Omega.{arith}
-use Rattle.rulebook.proofs.Accepting.{not_numbered, not_ours, by_verdict}
+use Rattle.moves.specs.Held.{session_of}
+use Rattle.rulebook.proofs.Choosing.{accepts_none, accepts_strange, accepts_by}
 use Rattle.rulebook.proofs.is_acceptable.Goals as goal
 
-pub returns-then-number_at-eq0 : goal.returns-then-number_at-eq0
-returns-then-number_at-eq0 c = not_numbered _ _ c.number_at.ensures (omega arith)
+pub returns-then-is_none : goal.returns-then-is_none
+returns-then-is_none c = accepts_none (session_of c.args.r) _ c.number_at.ensures c.is_none.ensures c.if-is_none.true
 
-pub returns-then-strange_at-ne0 : goal.returns-then-strange_at-ne0
-returns-then-strange_at-ne0 c = not_ours _ _ c.number_at.ensures (λ e. omega arith) c.strange_at.ensures (λ e. omega arith)
+pub returns-then-is_some : goal.returns-then-is_some
+returns-then-is_some c = accepts_strange (session_of c.args.r) _ c.number_at.ensures c.is_none.ensures c.if-is_none.false c.strange_tag.ensures c.is_some.ensures c.if-is_some.true
 
 pub returns : goal.returns
-returns c = by_verdict _ _ c.number_at.ensures (λ e. omega arith) c.strange_at.ensures (omega arith) c.verdict_on.ensures c.is_clean.ensures
+returns c = accepts_by (session_of c.args.r) _ c.number_at.ensures c.is_none.ensures c.if-is_none.false c.strange_tag.ensures c.is_some.ensures c.if-is_some.false c.verdict_on.ensures c.is_ok.ensures.value

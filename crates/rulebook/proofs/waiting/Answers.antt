@@ -1,6 +1,9 @@
 use Rattle.rulebook.proofs.Choosing.{choosing}
 use Rattle.rulebook.proofs.waiting.Goals as goal
 
+pub returns-in_default : goal.returns-in_default
+returns-in_default c = search choosing
+
 pub returns-then-n-eq1 : goal.returns-then-n-eq1
 returns-then-n-eq1 c = search choosing
 

@@ -1,8 +1,8 @@
 use Rattle.rulebook.proofs.Deciding.{deciding}
 use Rattle.rulebook.proofs.serving.serve.Goals as goal
 
-pub returns-then-tag-ne0 : goal.returns-then-tag-ne0
-returns-then-tag-ne0 c = search deciding
+pub returns-in-Ok : goal.returns-in-Ok
+returns-in-Ok c = search deciding
 
-pub returns : goal.returns
-returns c = search deciding
+pub returns-in-Err : goal.returns-in-Err
+returns-in-Err c = search deciding
