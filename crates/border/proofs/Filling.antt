@@ -2,13 +2,17 @@
 use Prim.Native.Nat.{ℕ, zero, suc, ◌+◌, ◌-◌, ◌*◌, ◌<◌}
 use mathlib.Core.Path.{◌≡◌, refl, sym, ap, ◌∙◌}
 use mathlib.Core.List.{List, [], ◌∷◌, ◌++◌, map, append_assoc, map-append}
-use mathlib.Core.Bool.{Bool, false, not}
+use mathlib.Core.Bool.{Bool, true, false, cond, not}
 use native.Mathlib.Numerals.{add-one}
 use native.Mathlib.Omega.{arith}
 use lib.Dec.{eqb}
 use lib.ListN.{length, set, get_or, replicate, length-append, length-map}
 use lib.Seq.{set_at}
-use Rattle.border.specs.Values.{up_to, values_of}
+use Rattle.std.specs.Prelude.{Option, Some, None}
+use Rattle.std.specs.Bool.{then_some}
+use Rattle.writer.specs.declared.Given.{Given}
+use Rattle.writer.specs.Call.{Values}
+use Rattle.border.specs.Values.{up_to, value_at, values_of}
 
 up_length : (n : ℕ) → length (up_to n) ≡ n
 up_length zero = refl
@@ -28,32 +32,21 @@ module _ {A : Type 0} (f : ℕ → A) where
       ∙ sym (append_assoc (map f (up_to k)) (f k ∷ []) rest)
       ∙ ap (λ (l : List A). l ++ rest) (sym (map-append f (up_to k) (k ∷ [])) ∙ ap (λ (m : ℕ). map f (up_to m)) (sym (add-one k)))
 
--- the words of a place
-abbrev flag : List ℕ → ℕ → Bool
-flag words k = not (eqb (get_or words (3 * k) 0) 0)
+-- the value of a place, as the code makes it
+pub made : (words : List ℕ) (k : ℕ) → then_some (not (eqb (get_or words (3 * k) 0) 0)) (record { a = get_or words (3 * k + 1) 0; b = get_or words (3 * k + 2) 0 }) ≡ value_at words k
+made words k = go (eqb (get_or words (3 * k) 0) 0)
+  where
+    x : Given
+    x = record { a = get_or words (3 * k + 1) 0; b = get_or words (3 * k + 2) 0 }
 
-abbrev word : ℕ → List ℕ → ℕ → ℕ
-word j words k = get_or words (3 * k + j) 0
+    go : (b : Bool) → then_some (not b) x ≡ cond b None (Some x)
+    go true = refl
+    go false = refl
 
-pub record Filled (words : List ℕ) (given : List Bool) (numbers starts ends : List ℕ) (k : ℕ) : Type 0 where
-  pub given_is : given ≡ filled (flag words) false 21 k
-  pub numbers_is : numbers ≡ filled (word 1 words) 0 21 k
-  pub starts_is : starts ≡ filled (word 1 words) 0 21 k
-  pub ends_is : ends ≡ filled (word 2 words) 0 21 k
+pub next_filled : (words : List ℕ) {values : Values} (k : ℕ) {v : Option Given} → k < 21 → v ≡ then_some (not (eqb (get_or words (3 * k) 0) 0)) (record { a = get_or words (3 * k + 1) 0; b = get_or words (3 * k + 2) 0 })
+    → values ≡ filled (value_at words) None 21 k → set values k v ≡ filled (value_at words) None 21 (k + 1)
+next_filled words k h e F = rw (F, e ∙ made words k) (fill_more (value_at words) None 21 k h)
 
-module _ (words : List ℕ) where
-  pub none_filled : Filled words (replicate 21 false) (replicate 21 0) (replicate 21 0) (replicate 21 0) 0
-  none_filled = record { given_is = refl; numbers_is = refl; starts_is = refl; ends_is = refl }
-
-  pub next_filled : {given : List Bool} {numbers starts ends : List ℕ} (k : ℕ) → k < 21 → Filled words given numbers starts ends k → Filled words (set given k (flag words k)) (set numbers k (word 1 words k)) (set starts k (word 1 words k)) (set ends k (word 2 words k)) (k + 1)
-  next_filled k h F =
-      record {
-        given_is = rw F.given_is (fill_more (flag words) false 21 k h);
-        numbers_is = rw F.numbers_is (fill_more (word 1 words) 0 21 k h);
-        starts_is = rw F.starts_is (fill_more (word 1 words) 0 21 k h);
-        ends_is = rw F.ends_is (fill_more (word 2 words) 0 21 k h);
-      }
-
-  pub all_filled : {given : List Bool} {numbers starts ends : List ℕ} {k : ℕ} → k ≡ 21 → Filled words given numbers starts ends k → record { given = given; numbers = numbers; starts = starts; ends = ends } ≡ values_of words
-  unfolding values_of
-  all_filled e F = rw (F.given_is, F.numbers_is, F.starts_is, F.ends_is, e)
+pub all_filled : (words : List ℕ) {values : Values} {k : ℕ} → k ≡ 21 → values ≡ filled (value_at words) None 21 k → values ≡ values_of words
+unfolding values_of
+all_filled words e F = rw (F, e)

@@ -1,14 +1,15 @@
 -- The record is kept: what a new session's record was saved as is loaded again; saving another state changes the state's words alone, and that state is
 -- loaded again; saving what was loaded changes nothing; and a session that is Closed differs in its status and its replay. Assumes nothing.
-use Prim.Native.Nat.{ℕ, zero, suc, ◌+◌, ◌≤◌, ◌<◌}
+use Prim.Native.Nat.{ℕ, zero, suc, ◌+◌, ◌-◌, ◌≤◌, ◌<◌}
 use mathlib.Core.Path.{◌≡◌, refl, sym, ap, ◌∙◌, subst}
-use mathlib.Core.List.{List, [], ◌∷◌, ◌++◌}
-use mathlib.Core.Bool.{Bool, true, false, cond, ◌&&◌, false≢true}
+use mathlib.Core.List.{List, [], ◌∷◌, ◌++◌, append-nil}
+use mathlib.Core.Bool.{Bool, true, false, cond, ◌&&◌}
 use mathlib.Core.Option.{Option, none, some, some-injective, none-ne-some}
 use native.Mathlib.Omega.{arith}
 use borrow.Author.Tests.{eqb-true}
 use lib.Dec.{eqb, leb}
-use lib.ListN.{length, get_or, take, drop, drop_of_length-le}
+use lib.ListN.{length, get_or, set, take, drop, drop_of_length-le}
+use borrow.Rule.Slice.PartMut.{put_mid}
 use lib.Seq.{drop-cons, length-sets}
 use Rattle.octets.specs.Bytes.{Bytes, Byted}
 use Rattle.octets.proofs.Tests.{both}
@@ -20,7 +21,9 @@ use Rattle.moves.specs.declared.record.Status.{Status}
 use Rattle.moves.specs.declared.record.Status.TheVariants.{Waiting, Active, Closed}
 use Rattle.border.proofs.Records.{status_read}
 use Rattle.border.specs.Record.{eleven, comp_ids_of, state, words_of, saved, closed_in, status_of, spare, status_if, status_in, gap_in, record_with, record_if, record_in}
-use Rattle.border.specs.code.Held.{found, status_held}
+use Rattle.moves.specs.code.Reads.{told}
+use Rattle.std.specs.Prelude as Std
+use Rattle.std.specs.Prelude.{Some, None}
 
 -- A LIST element by element
 front_of : (w : List ℕ) (j : ℕ) → j < length w → drop j w ≡ get_or w j 0 ∷ drop (suc j) w
@@ -36,6 +39,14 @@ eleven_all l e =
     let at : (j : ℕ) → j < 11 → drop j l ≡ get_or l j 0 ∷ drop (suc j) l = λ j h. front_of l j (omega arith) in
     let end : length l ≤ 11 = omega arith in
     sym (at 0 (omega arith) ∙ rw (at 1 (omega arith), at 2 (omega arith), at 3 (omega arith), at 4 (omega arith), at 5 (omega arith), at 6 (omega arith), at 7 (omega arith), at 8 (omega arith), at 9 (omega arith), at 10 (omega arith), drop_of_length-le l end))
+
+-- a CompID behind its length
+pub id_put : (half : List ℕ) (n : ℕ) (c : Bytes) {x : Bytes} → length half ≡ 12 → length c ≡ 11 → x ≡ c → put_mid 1 (length (set half 0 n) - 1) (set half 0 n) x ≡ n ∷ eleven 0 c
+id_put [] n c h l e = absurd (omega arith)
+id_put (b ∷ t) n c h l e =
+    let k : length (b ∷ t) - 1 ≡ length t = omega arith in
+    let z : drop (length t) t ≡ [] = drop_of_length-le t (omega arith) in
+    rw (e, k, z) (ap (λ (z : Bytes). n ∷ z) (append-nil c ∙ sym (eleven_all c l)))
 
 -- BYTES
 bytes-eleven : (k : ℕ) (l : Bytes) → Byted l → Byted (eleven k l)
@@ -118,7 +129,7 @@ module _ (ids : Bytes) (words : List ℕ) where
       let K = kept_is words r.status L.0 in
       let n = its_number (get_or words 1 0) r.status K.numbered in
       saved_is words r (omega (arith, K.long))
-      ∙ ap (λ (x : Record). get_or words 0 0 ∷ (code r.status ∷ x.expected ∷ x.next ∷ x.heartbeat ∷ x.sent ∷ x.at ∷ x.to ∷ x.gap.isOpen ∷ x.gap.expected ∷ x.gap.highest ∷ x.gap.asked ∷ drop 12 words)) L.1
+      ∙ ap (λ (x : Record). get_or words 0 0 ∷ (code r.status ∷ x.expected ∷ x.next ∷ x.heartbeat ∷ x.sent ∷ x.replay.at ∷ x.replay.to ∷ x.gap.isOpen ∷ x.gap.expected ∷ x.gap.highest ∷ x.gap.asked ∷ drop 12 words)) L.1
       ∙ ap (λ (k : ℕ). get_or words 0 0 ∷ k ∷ get_or words 2 0 ∷ get_or words 3 0 ∷ get_or words 4 0 ∷ get_or words 5 0 ∷ get_or words 6 0 ∷ get_or words 7 0 ∷ get_or words 8 0 ∷ get_or words 9 0 ∷ get_or words 10 0 ∷ get_or words 11 0 ∷ drop 12 words) (sym n)
       ∙ sym (twelve words (omega (arith, K.long)))
 
@@ -152,33 +163,29 @@ module _ (ids : Bytes) (words : List ℕ) where
       (subst (λ (x : Record). Byted (held x.oursLen x.ours)) (sym L) (bytes-held (get_or ids 0 0) (eleven 1 ids) (bytes-eleven 1 ids B)), subst (λ (x : Record). Byted (held x.peerLen x.peer)) (sym L) (bytes-held (get_or ids 12 0) (eleven 13 ids) (bytes-eleven 13 ids B)))
 
 -- WHAT THE CODE LOADS is what lies there
-module _ (words : List ℕ) where
-  its_found : found (status_in words) ≡ true → status_in words ≡ some (status_held (status_in words))
-  its_found = go (status_in words)
-    where
-      go : (o : Option Status) → found o ≡ true → o ≡ some (status_held o)
-      go none e = absurd (false≢true e)
-      go (some st) e = refl
+module _ (words : List ℕ) (ids : Bytes) where
+  pub record_length : (r : Record) → some r ≡ record_in ids words → length words ≡ 24
+  record_length r e = (kept_is words r.status (loaded_with ids words r (sym e)).0).long
 
-  pub record_length : found (status_in words) ≡ true → length words ≡ 24
-  record_length e = (kept_is words (status_held (status_in words)) (its_found e)).long
+  pub no_record : none ≡ status_in words → told (record_in ids words) ≡ None
+  no_record e = ap (λ (o : Option Status). told (record_if ids words o)) (sym e)
 
-  pub no_record : (ids : Bytes) → found (status_in words) ≡ false → none ≡ record_in ids words
-  no_record ids = go (status_in words)
-    where
-      go : (o : Option Status) → found o ≡ false → none ≡ record_if ids words o
-      go none e = refl
-      go (some st) e = absurd (false≢true (sym e))
+  pub a_record : {ours peer : Bytes} {st : Status} {g : Gap} → some st ≡ status_in words → ours ≡ eleven 1 ids → peer ≡ eleven 13 ids → g ≡ gap_in words
+      → Some (record { ours = ours; oursLen = get_or ids 0 0; peer = peer; peerLen = get_or ids 12 0; status = st; expected = get_or words 2 0; next = get_or words 3 0; heartbeat = get_or words 4 0; sent = get_or words 5 0; replay = record { at = get_or words 6 0; to = get_or words 7 0 }; gap = g }) ≡ told (record_in ids words)
+  a_record h a c i = rw (a, c, i) (ap (λ (o : Option Status). told (record_if ids words o)) h)
 
-  pub a_record : (ids : Bytes) {ours peer : Bytes} {o p : ℕ} {st : Status} {g : Gap} → found (status_in words) ≡ true → ours ≡ eleven 1 ids → o ≡ get_or ids 0 0 → peer ≡ eleven 13 ids → p ≡ get_or ids 12 0 → st ≡ status_held (status_of (get_or words 1 0)) → g ≡ gap_in words → some (record { ours = ours; oursLen = o; peer = peer; peerLen = p; status = st; expected = get_or words 2 0; next = get_or words 3 0; heartbeat = get_or words 4 0; sent = get_or words 5 0; at = get_or words 6 0; to = get_or words 7 0; gap = g }) ≡ record_in ids words
-  a_record ids h a b c d e i =
-      let f = its_found h in
-      let s = ap status_held (kept_is words (status_held (status_in words)) f).numbered in
-      rw (a, b, c, d, e, i) (ap (λ (z : Status). some (record_with ids words z)) s ∙ ap (record_if ids words) (sym f))
+-- what is told was there
+pub told_some : {A : Type 0} (o : Option A) (x : A) → Some x ≡ told o → some x ≡ o
+told_some none x e = let z : ◌≡◌ (Some x) None = e in absurd (cc)
+told_some (some y) x e = let z : ◌≡◌ (Some x) (Some y) = e in cc
+
+pub told_none : {A : Type 0} (o : Option A) → None ≡ told o → none ≡ o
+told_none none e = refl
+told_none {A = A} (some y) e = let z : ◌≡◌ {A = Std.Option A} None (Some y) = e in absurd (cc)
 
 -- a new session's record is loaded again
 pub new_loads : (r : Record) → length r.ours ≡ 11 → length r.peer ≡ 11 → record_in (comp_ids_of r) (words_of r) ≡ some r
 unfolding status_in spare
 new_loads r a b =
     ap (record_if (comp_ids_of r) (words_of r)) (its_status r.status)
-    ∙ ap (λ (x : Bytes × Bytes). some (record { ours = x.0; oursLen = r.oursLen; peer = x.1; peerLen = r.peerLen; status = r.status; expected = r.expected; next = r.next; heartbeat = r.heartbeat; sent = r.sent; at = r.at; to = r.to; gap = r.gap })) (rw (eleven_all r.ours a, eleven_all r.peer b))
+    ∙ ap (λ (x : Bytes × Bytes). some (record { ours = x.0; oursLen = r.oursLen; peer = x.1; peerLen = r.peerLen; status = r.status; expected = r.expected; next = r.next; heartbeat = r.heartbeat; sent = r.sent; replay = r.replay; gap = r.gap })) (rw (eleven_all r.ours a, eleven_all r.peer b))

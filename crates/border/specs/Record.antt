@@ -25,7 +25,7 @@ gap_words g = g.isOpen ∷ g.expected ∷ g.highest ∷ g.asked ∷ []
 
 -- status, E, next out, heartbeat, last sent, the next number of a replay and the last one asked for, the gap
 abbrev pub state : Record → List ℕ
-state r = code r.status ∷ r.expected ∷ r.next ∷ r.heartbeat ∷ r.sent ∷ r.at ∷ r.to ∷ gap_words r.gap
+state r = code r.status ∷ r.expected ∷ r.next ∷ r.heartbeat ∷ r.sent ∷ r.replay.at ∷ r.replay.to ∷ gap_words r.gap
 
 abbrev pub words_of : Record → List ℕ
 words_of r = (1 ∷ state r) ++ replicate 12 0
@@ -62,7 +62,7 @@ gap_in words = record { isOpen = get_or words 8 0; expected = get_or words 9 0; 
 
 abbrev pub record_with : Bytes → List ℕ → Status → Record
 record_with ids words st =
-    record { ours = eleven 1 ids; oursLen = get_or ids 0 0; peer = eleven 13 ids; peerLen = get_or ids 12 0; status = st; expected = get_or words 2 0; next = get_or words 3 0; heartbeat = get_or words 4 0; sent = get_or words 5 0; at = get_or words 6 0; to = get_or words 7 0; gap = gap_in words }
+    record { ours = eleven 1 ids; oursLen = get_or ids 0 0; peer = eleven 13 ids; peerLen = get_or ids 12 0; status = st; expected = get_or words 2 0; next = get_or words 3 0; heartbeat = get_or words 4 0; sent = get_or words 5 0; replay = record { at = get_or words 6 0; to = get_or words 7 0 }; gap = gap_in words }
 
 abbrev pub record_if : Bytes → List ℕ → Option Status → Option Record
 record_if ids words none = none

@@ -3,17 +3,15 @@ ghost use Rattle.std.specs.Prelude.{◌≡◌};
 ghost use Rattle.session.specs.Refusals.{numbers};
 ghost use Rattle.border.specs.Numbers.{refusal_of, value_of};
 
-use session::{Answer, refusal_number};
+use session::{Answer, Success};
 
 // The number of an answer: the refusal, or 0.
 pub fn number_of(a: Answer) -> u32
     ensures { result ≡ refusal_of (numbers a) }
 {
     match a {
-        Answer::Done => 0,
-        Answer::Delivered => 0,
-        Answer::NothingDue => 0,
-        Answer::Refused(k) => refusal_number(k),
+        Ok(_) => 0,
+        Err(k) => u32::from(k),
     }
 }
 
@@ -21,10 +19,5 @@ pub fn number_of(a: Answer) -> u32
 pub fn delivered(a: Answer) -> u64
     ensures { result ≡ value_of (numbers a) }
 {
-    match a {
-        Answer::Done => 0,
-        Answer::Delivered => 1,
-        Answer::NothingDue => 0,
-        Answer::Refused(_) => 0,
-    }
+    u64::from(matches!(a, Ok(Success::Delivered)))
 }

@@ -6,5 +6,5 @@ mod record;
 mod values;
 
 pub use answer::{delivered, number_of};
-pub use record::{is_record, leave, load, save_new};
+pub use record::{leave, load, refuse, replied, save_new};
 pub use values::values_of;

@@ -1,76 +1,34 @@
 // The session's record as the C side keeps it: 24 bytes for the CompIDs with their lengths, and 24 words.
-ghost use Rattle.std.specs.Prelude.{◌≤◌, ◌≡◌, true, length, replicate};
-ghost use Rattle.std.proofs.Math.Option.{some};
+ghost use Rattle.std.specs.Prelude.{◌≤◌, ◌≡◌, [], ◌∷◌, eqb, length, replicate};
 ghost use Rattle.std.proofs.lemmas.List.Edits.{sets};
-ghost use Rattle.moves.specs.Session.{code};
-ghost use Rattle.session.specs.Refusals.{numbers};
+ghost use Rattle.octets.specs.Bytes.{all};
+ghost use Rattle.session.specs.Refusals.{No, numbers};
 ghost use Rattle.border.specs.Numbers.{refusal_of};
-ghost use Rattle.border.specs.Record.{eleven, comp_ids_of, gap_words, words_of, saved, spare, status_of, status_in, gap_in, record_in};
-ghost use Rattle.border.specs.code.Held.{found, status_held};
+ghost use Rattle.border.specs.Record.{eleven, comp_ids_of, gap_words, words_of, saved, status_of, gap_in, record_in};
+ghost use Rattle.moves.specs.code.Reads.{told};
 
 use crate::answer::number_of;
 use gap::Gap;
-use moves::{Record, Status};
-use session::Answered;
+use moves::{Record, Replay, Status};
+use session::{Answered, Refusal};
 
-// Whether the words that are kept for later are zero. The loop has no way out, so the compiler compares several words at once.
-fn is_spare(words: &[u64]) -> bool
-    ensures { result ≡ spare words.now }
+// Whether words are zero. The fold has no way out, so the compiler compares several words at once.
+fn are_zero(words: &[u64]) -> bool
+    ensures { result ≡ all (λ w. eqb w 0) words.now }
 {
-    let mut none = true;
-    let mut i = 12;
-    while i < words.len() {
-        if words[i] != 0 {
-            none = false;
-        }
-        i += 1;
-    }
-    none
+    words.iter().fold(true, |zero, w| zero & (*w == 0))
 }
 
-// Whether the words are a record's: 24, of this version, with a status, and zeros behind the twelve that are used.
-#[tactic(auto, using(crate::proofs::Records::tests))]
-pub fn is_record(words: &[u64]) -> bool
-    ensures { result ≡ found (status_in words.now) }
-{
-    if words.len() != 24 {
-        return false;
-    }
-    if words[0] != 1 {
-        return false;
-    }
-    if words[1] > 2 {
-        return false;
-    }
-    is_spare(words)
-}
-
-// The status by its number, which is at most 2.
-fn status_of(n: u64) -> Status
-    ensures { result ≡ status_held (status_of n) }
+// The status by its number.
+fn status_of(n: u64) -> Option<Status>
+    ensures { result ≡ told (status_of n) }
 {
     match n {
-        0 => Status::Waiting,
-        1 => Status::Active,
-        _ => Status::Closed,
+        0 => Some(Status::Waiting),
+        1 => Some(Status::Active),
+        2 => Some(Status::Closed),
+        _ => None,
     }
-}
-
-fn status_number(st: Status) -> u64
-    ensures { result ≡ code st }
-{
-    match st {
-        Status::Waiting => 0,
-        Status::Active => 1,
-        Status::Closed => 2,
-    }
-}
-
-// A CompID's length, which is a byte.
-fn length_of(b: u8) -> usize
-    ensures { result ≡ b }
-{
-    b as usize
 }
 
 fn eleven_from(ids: &[u8; 24], at: usize) -> [u8; 11]
@@ -78,11 +36,7 @@ fn eleven_from(ids: &[u8; 24], at: usize) -> [u8; 11]
     ensures { result ≡ eleven at ids.now }
 {
     let mut c = [0u8; 11];
-    let mut i = 0;
-    while i < 11 {
-        c[i] = ids[at + i];
-        i += 1;
-    }
+    c.copy_from_slice(&ids[at..at + 11]);
     c
 }
 
@@ -99,25 +53,37 @@ fn gap_from(words: &[u64]) -> Gap
     }
 }
 
-// The record that lies in the bytes and words.
-pub fn load(ids: &[u8; 24], words: &[u64]) -> Record
-    requires { found (status_in words.now) ≡ true }
-    ensures { some result ≡ record_in ids.now words.now }
+// The record that lies in the bytes and words, if they are 24 words of this version, with a status, and zeros behind the twelve that are used. The words go by
+// the places that the host's header gives them (FIXGW_WORD_ in include/fixgw.h).
+pub fn load(ids: &[u8; 24], words: &[u64]) -> Option<Record>
+    ensures { result ≡ told (record_in ids.now words.now) }
 {
-    Record {
+    if words.len() != 24 {
+        return None;
+    }
+    if words[0] != 1 {
+        return None;
+    }
+    let status = status_of(words[1])?;
+    if !are_zero(&words[12..]) {
+        return None;
+    }
+    Some(Record {
         ours: eleven_from(ids, 1),
-        oursLen: length_of(ids[0]),
+        oursLen: usize::from(ids[0]),
         peer: eleven_from(ids, 13),
-        peerLen: length_of(ids[12]),
-        status: status_of(words[1]),
+        peerLen: usize::from(ids[12]),
+        status,
         expected: words[2],
         next: words[3],
         heartbeat: words[4],
         sent: words[5],
-        at: words[6],
-        to: words[7],
+        replay: Replay {
+            at: words[6],
+            to: words[7],
+        },
         gap: gap_from(words),
-    }
+    })
 }
 
 // A gap into its words.
@@ -136,14 +102,13 @@ fn save(words: &mut [u64], r: Record)
     requires { length words.old ≡ 24 }
     ensures { words.new ≡ saved words.old r }
 {
-    let st = r.status;
-    words[1] = status_number(st);
+    words[1] = r.status as u64;
     words[2] = r.expected;
     words[3] = r.next;
     words[4] = r.heartbeat;
     words[5] = r.sent;
-    words[6] = r.at;
-    words[7] = r.to;
+    words[6] = r.replay.at;
+    words[7] = r.replay.to;
     save_gap(words, r.gap);
 }
 
@@ -152,54 +117,34 @@ pub fn leave(words: &mut [u64], left: Answered) -> u32
     requires { length words.old ≡ 24 }
     ensures { (result ≡ refusal_of (numbers left.answer)) × (words.new ≡ saved words.old left.after) }
 {
-    let answer = left.answer;
     save(words, left.after);
-    number_of(answer)
+    number_of(left.answer)
 }
 
-fn zero(words: &mut [u64])
-    ensures { words.new ≡ replicate (length words.old) 0 }
+// What a call that writes a reply leaves: how long that is goes out too.
+pub fn replied(words: &mut [u64], out: &mut [u64; 1], left: Answered) -> u32
+    requires { length words.old ≡ 24 }
+    ensures { (result ≡ refusal_of (numbers left.answer)) × (words.new ≡ saved words.old left.after) × (out.new ≡ left.len ∷ []) }
 {
-    let mut i = 0;
-    while i < words.len() {
-        words[i] = 0;
-        i += 1;
-    }
+    *out = [left.len as u64];
+    leave(words, left)
 }
 
-// The CompIDs of a record, each with its length in front.
-fn comp_ids(r: Record) -> [u8; 24]
-    requires { (r.oursLen ≤ 11) × (r.peerLen ≤ 11) }
-    ensures { result ≡ comp_ids_of r }
+// A refusal of a call's: its number, and nothing goes out.
+pub fn refuse<const N: usize>(out: &mut [u64; N], k: Refusal) -> u32
+    ensures { (result ≡ No k) × (out.new ≡ replicate N 0) }
 {
-    let a = r.ours;
-    let b = r.peer;
-    [
-        r.oursLen as u8,
-        a[0],
-        a[1],
-        a[2],
-        a[3],
-        a[4],
-        a[5],
-        a[6],
-        a[7],
-        a[8],
-        a[9],
-        a[10],
-        r.peerLen as u8,
-        b[0],
-        b[1],
-        b[2],
-        b[3],
-        b[4],
-        b[5],
-        b[6],
-        b[7],
-        b[8],
-        b[9],
-        b[10],
-    ]
+    out.fill(0);
+    u32::from(k)
+}
+
+// A CompID into its half of the bytes, behind its length.
+fn save_id(half: &mut [u8], n: usize, c: &[u8; 11])
+    requires { (length half.old ≡ 12) × (n ≤ 11) }
+    ensures { half.new ≡ n ∷ eleven 0 c.now }
+{
+    half[0] = n as u8;
+    half[1..].copy_from_slice(c);
 }
 
 // All bytes and words of a new record.
@@ -207,8 +152,10 @@ pub fn save_new(ids: &mut [u8; 24], words: &mut [u64], r: Record)
     requires { (length words.old ≡ 24) × ((r.oursLen ≤ 11) × (r.peerLen ≤ 11)) }
     ensures { (ids.new ≡ comp_ids_of r) × (words.new ≡ words_of r) }
 {
-    *ids = comp_ids(r);
-    zero(words);
+    let (us, them) = ids.split_at_mut(12);
+    save_id(us, r.oursLen, &r.ours);
+    save_id(them, r.peerLen, &r.peer);
+    words.fill(0);
     words[0] = 1;
     save(words, r);
 }

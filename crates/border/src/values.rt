@@ -2,30 +2,19 @@
 ghost use Rattle.std.specs.Prelude.{◌≡◌};
 ghost use Rattle.border.specs.Values.{values_of};
 
-use writer::Values;
+use writer::{Given, Values};
 
-// Three words for each tag of the writer, in its order.
+// Three words for each tag of the writer, in its order: a value is made of three words at its place, so the loop goes by the place.
 pub fn values_of(words: &[u64; 63]) -> Values
     ensures { result ≡ values_of words.now }
 {
-    let mut given = [false; 21];
-    let mut numbers = [0u64; 21];
-    let mut starts = [0usize; 21];
-    let mut ends = [0usize; 21];
-    let mut k = 0;
-    while k < 21 {
-        let at = 3 * k;
-        let a = words[at + 1];
-        given[k] = words[at] != 0;
-        numbers[k] = a;
-        starts[k] = a as usize;
-        ends[k] = words[at + 2] as usize;
-        k += 1;
+    let mut values = [None; 21];
+    for k in 0..21 {
+        let given = Given {
+            a: words[3 * k + 1],
+            b: words[3 * k + 2],
+        };
+        values[k] = (words[3 * k] != 0).then_some(given);
     }
-    Values {
-        given,
-        numbers,
-        starts,
-        ends,
-    }
+    values
 }

@@ -5,7 +5,7 @@ use Rattle.octets.specs.Bytes.{Bytes, fix}
 use Rattle.message.specs.Message.{framed}
 use Rattle.session.specs.Calls.{Outcome}
 use Rattle.session.specs.Desk.{GW_MM, half_past_nine, stepped, leaves}
-use Rattle.session.specs.declared.Answer.TheVariants.{Done}
+use Rattle.session.specs.Answer.{Done}
 
 -- E is 5, and number 4 comes once more, a Heartbeat with these two times behind its 43=Y; whichever store is lent
 abbrev pub again : Bytes → String → Outcome

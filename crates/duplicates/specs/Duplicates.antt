@@ -11,7 +11,7 @@ use Rattle.moves.specs.Moves.{Logout, letter, N, ◌holds◌}
 use Rattle.moves.specs.declared.record.Status.TheVariants.{Closed}
 use Rattle.session.specs.Calls.{Outcome, over, keeping, settling, step}
 use Rattle.session.specs.Delivery.{ByNumber, reject_with}
-use Rattle.session.specs.declared.Answer.TheVariants.{Done}
+use Rattle.session.specs.Answer.{Done}
 
 -- A session s, a frame f, a time t, a reply buffer and a store.
 module _ (s : Session) (f : Bytes) (t : ℕ) (buf store : Bytes) where

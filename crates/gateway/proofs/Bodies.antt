@@ -8,7 +8,7 @@ use Rattle.octets.specs.Bytes.{Bytes, fix}
 use Rattle.frame.specs.Frame.{fixt, front, Good, BodyOf}
 use Rattle.frame.specs.Frame as Frame
 use Rattle.frame.proofs.Good.{good_length, same_digits, good_body}
-use Rattle.gateway.specs.Border.{BodyOut, its_body, no_frame}
+use Rattle.gateway.specs.Border.{BodyOut, its_body}
 
 -- a good frame has one body, at one place
 pub same_lengths : (f : Bytes) (G H : Good fixt f) → ◌≡◌ {A = ℕ × ℕ} (length (front fixt G.digits []), length G.body) (length (front fixt H.digits []), length H.body)
@@ -22,17 +22,11 @@ module _ {f : Bytes} (G : Good fixt f) where
   frame_length : length f ≡ length (front fixt G.digits []) + (length G.body + 7)
   frame_length = let a = good_length fixt f G in let b = front_length in let d = G.inner.sized in omega (arith, a, b, d)
 
-pub body-room : {f b : Bytes} → BodyOf fixt f b → (length b ≡ 0 → ⊥) → length b + 7 ≤ length f
-body-room (Frame.its_body G) h = let a = frame_length G in omega (arith, a)
-body-room (Frame.no_frame k) h = absurd (h refl)
+pub body-room : {f b : Bytes} → BodyOf fixt f b → length b + 7 ≤ length f
+body-room (Frame.its_body G) = let a = frame_length G in omega (arith, a)
 
-pub body-found : {f b : Bytes} → BodyOf fixt f b → (length b ≡ 0 → ⊥) → BodyOut f 0 ((length f - (length b + 7)) ∷ length b ∷ [])
-body-found {f} (Frame.its_body G) h =
+pub body-found : {f b : Bytes} → BodyOf fixt f b → BodyOut f 0 ((length f - (length b + 7)) ∷ length b ∷ [])
+body-found {f} (Frame.its_body G) =
     let a = frame_length G in
     let e : length f - (length G.body + 7) ≡ length (front fixt G.digits []) = omega (arith, a) in
     rw e (its_body G)
-body-found (Frame.no_frame k) h = absurd (h refl)
-
-pub body_none : {f b : Bytes} → BodyOf fixt f b → length b ≡ 0 → BodyOut f 10 (0 ∷ 0 ∷ [])
-body_none (Frame.its_body G) e = let s = G.inner.sized in let l = G.len.low in absurd (omega (arith, s, l, e))
-body_none (Frame.no_frame k) e = no_frame k

@@ -1,6 +1,6 @@
 -- What the calls of writing and of the session leave at the border, a law for each way out of them. Assumes nothing.
 use Rattle.std.specs.Prelude.{if◌then◌else◌}
-use Prim.Native.Nat.{ℕ, ◌≤◌}
+use Prim.Native.Nat.{ℕ, ◌+◌, ◌≤◌}
 use mathlib.Core.Path.{◌≡◌, refl, sym, ap, ◌∙◌}
 use mathlib.Core.List.{List, [], ◌∷◌}
 use mathlib.Core.Bool.{Bool, true, false, not, ◌&&◌}
@@ -11,9 +11,12 @@ use lib.ListN.{length}
 use Rattle.octets.specs.Bytes.{Bytes, has, within}
 use Rattle.octets.proofs.Numerals.{within_is}
 use Rattle.octets.proofs.Tests.{both}
-use Rattle.writer.specs.Call.{write}
-use Rattle.writer.specs.declared.Values.{Values}
-use Rattle.writer.specs.declared.Written.{Written}
+use Rattle.std.specs.Prelude.{Err}
+use denote.Enum.Declared.{tag_of}
+use Rattle.writer.specs.contracts.Unwritten.{the_type}
+use Rattle.writer.specs.declared.Unwritten.{Unwritten}
+use Rattle.writer.specs.declared.Unwritten.TheVariants.{Unfit, Short}
+use Rattle.writer.specs.Call.{Values, Written, write}
 use Rattle.session.specs.Refusals.{numbers}
 use Rattle.moves.specs.Session.{fresh, turned}
 use Rattle.message.specs.Unfit.{comp_id}
@@ -28,7 +31,7 @@ use Rattle.moves.specs.declared.record.Record.{Record}
 use Rattle.session.specs.declared.Answered.{Answered}
 use Rattle.moves.specs.declared.record.Status.TheVariants.{Closed}
 use Rattle.session.specs.declared.Refusal.TheVariants.{BadRecord}
-use Rattle.session.specs.declared.Answer.TheVariants.{Done, Refused}
+use Rattle.session.specs.Answer.{Done, Refused}
 use Rattle.border.specs.Numbers.{refusal_of, value_of}
 use Rattle.border.specs.Record.{comp_ids_of, words_of, saved, record_in}
 use Rattle.border.specs.Values.{values_of}
@@ -127,3 +130,9 @@ pub write-left : (type : Bytes) (words : List ℕ) (text buf : Bytes) {vs : Valu
 unfolding write_out
 write-left type words text buf {buf' = buf'} v w e =
     ap (λ (z : Written). write_from (record { answer = z; buffer = buf' })) (sym e) ∙ ap write_from w ∙ ap (λ (z : Values). write_from (write type z text buf)) v
+
+-- a refusal of its, by the number that the code gives it
+pub write-refused : (type : Bytes) (words : List ℕ) (text buf : Bytes) {vs : Values} {x : Written} {buf' : Bytes} (e : Unwritten) → vs ≡ values_of words → record { answer = x; buffer = buf' } ≡ write type vs text buf → x ≡ Err e
+    → record { number = tag_of the_type e + 8; out = 0 ∷ []; buffer = buf' } ≡ write_out type words text buf
+write-refused type words text buf Unfit v w e = write-left type words text buf v w e
+write-refused type words text buf Short v w e = write-left type words text buf v w e

@@ -29,7 +29,9 @@ use Rattle.reporting.specs.Call as Told
 use Rattle.replaying.specs.Call.{replay}
 use Rattle.reporting.proofs.Promise as Reporting
 use Rattle.moves.specs.declared.record.Record.{Record}
-use Rattle.session.specs.declared.Answer.{Answer}
+use Rattle.std.specs.Prelude.{Ok, Err}
+use Rattle.session.specs.declared.Success.TheVariants as Success
+use Rattle.session.specs.Answer.{Answer, Done, Refused}
 use Rattle.session.specs.declared.Refusal.{Refusal}
 use Rattle.session.specs.declared.Refusal.TheVariants.{BadRecord}
 use Rattle.moves.specs.declared.record.Status.{Status}
@@ -43,11 +45,11 @@ use Rattle.gateway.proofs.Leaving.{left_lies, left_ranged, left-unread, left_cal
 use Rattle.border.proofs.Keeping.{new_loads}
 
 -- a number other than 0 is that of a refusal
-is_refused : (a : Answer) → (refusal_of (numbers a) ≡ 0 → ⊥) → (k : Refusal) × (a ≡ Answer.Refused k)
-is_refused Answer.Done h = absurd (h refl)
-is_refused Answer.Delivered h = absurd (h refl)
-is_refused Answer.NothingDue h = absurd (h refl)
-is_refused (Answer.Refused k) h = (k, refl)
+is_refused : (a : Answer) → (refusal_of (numbers a) ≡ 0 → ⊥) → (k : Refusal) × (a ≡ Refused k)
+is_refused (Ok Success.Done) h = absurd (h refl)
+is_refused (Ok Success.Delivered) h = absurd (h refl)
+is_refused (Ok Success.NothingDue) h = absurd (h refl)
+is_refused (Err k) h = (k, refl)
 
 -- a new record
 module _ (us them : Bytes) (a : comp_id us ≡ true) (b : comp_id them ≡ true) where
@@ -65,7 +67,7 @@ module _ (us them : Bytes) (a : comp_id us ≡ true) (b : comp_id them ≡ true)
   unfolding in_range bounded
   fresh_in = rw (a, b)
 
-  begun : Begun us them (new_from (keeping Answer.Done (fresh us them) []))
+  begun : Begun us them (new_from (keeping Done (fresh us them) []))
   begun =
       let r = record_of (fresh us them) in
       let l = new_loads r (padded_long us (short us a)) (padded_long them (short them b)) in
@@ -76,7 +78,7 @@ new_lasts : (ids : Bytes) (words : List ℕ) (us them : Bytes) → (let o = new_
 unfolding new_out new
 new_lasts ids words us them = go (eqb (length words) 24)
   where
-    by : (x y : Bool) → comp_id us ≡ x → comp_id them ≡ y → (let o = new_from (if x && y then keeping Answer.Done (fresh us them) [] else keeping (Answer.Refused BadRecord) (turned Closed (fresh [] [])) []) in o.number ≡ 0 → Begun us them o)
+    by : (x y : Bool) → comp_id us ≡ x → comp_id them ≡ y → (let o = new_from (if x && y then keeping Done (fresh us them) [] else keeping (Refused BadRecord) (turned Closed (fresh [] [])) []) in o.number ≡ 0 → Begun us them o)
     by true true p q h = begun us them p q
     by true false p q h = absurd (omega (arith, h))
     by false true p q h = absurd (omega (arith, h))
@@ -150,12 +152,12 @@ module _ (ids : Bytes) (words : List ℕ) where
     replayed B (some r) e = left_replay ids words r e t buf store B
 
     -- the seventh word is the place of the replay
-    its_place : (r : Record) → record_in ids words ≡ some r → r.at ≡ get_or words 6 0
+    its_place : (r : Record) → record_in ids words ≡ some r → r.replay.at ≡ get_or words 6 0
     its_place r = go (status_in words)
       where
-        go : (st : Option Status) → record_if ids words st ≡ some r → r.at ≡ get_or words 6 0
+        go : (st : Option Status) → record_if ids words st ≡ some r → r.replay.at ≡ get_or words 6 0
         go none e = absurd (none-ne-some r e)
-        go (some st) e = ap (λ (x : Record). x.at) (sym (some-injective (record_with ids words st) r e))
+        go (some st) e = ap (λ (x : Record). x.replay.at) (sym (some-injective (record_with ids words st) r e))
 
     one_replayed : Byted store → Byted ids → (x : Option Record) → record_in ids words ≡ x → (left_by_replay x).number ≡ 0 → (get_or words 6 0 ≡ 0 → ⊥)
         → OneMessage (λ m. Of x (Replayed t store m)) buf (out_length (left_by_replay x).out) (left_by_replay x).buffer

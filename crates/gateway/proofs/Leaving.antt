@@ -22,7 +22,9 @@ use Rattle.replaying.specs.Call.{replay}
 use Rattle.replaying.specs.Run.{OurReplay}
 use Rattle.replaying.proofs.Promise as Replaying
 use Rattle.moves.specs.declared.record.Record.{Record}
-use Rattle.session.specs.declared.Answer.{Answer}
+use Rattle.std.specs.Prelude.{Ok, Err}
+use Rattle.session.specs.declared.Success.TheVariants as Success
+use Rattle.session.specs.Answer.{Answer}
 use Rattle.session.specs.declared.Refusal.{Refusal}
 use Rattle.session.specs.declared.Refusal.TheVariants.{SessionClosed, NotLogon, BadLogon, NumbersSpent, BufferShort, TimePast, BadValue, NoRoom, NotOneFrame, BadRecord, ReportTooLong, Replaying, BadStore}
 use Rattle.session.proofs.Promise as Session
@@ -32,7 +34,7 @@ use Rattle.gateway.specs.Calls.{left_by, unread, reply_length}
 use Rattle.gateway.specs.Promise.{Ranged, Refused, Lies, Carried, WholeReport, Replayed, AllOf, Replied, OneMessage, Leaves, out_length}
 use Rattle.gateway.proofs.Reports.{report_done, report_whole}
 use Rattle.gateway.proofs.Replays.{replay_done, replay_rests, replay_whole}
-use Rattle.report.proofs.Given.{given_bytes}
+use Rattle.report.proofs.Supplied.{given_bytes}
 use Rattle.border.proofs.Keeping.{loaded_saves, saved_loads, closed_words, held_bytes}
 
 -- a table's row at the border: nothing of the words is changed, or the session is Closed
@@ -58,10 +60,10 @@ module _ (ids : Bytes) (words : List ℕ) (r : Record) (lies : record_in ids wor
     left_refused out = go o.answer refl
       where
         go : (a : Answer) → o.answer ≡ a → (refusal_of (numbers o.answer) ≡ 0 → ⊥) → Refused words buf (refusal_of (numbers o.answer)) (saved words (with r o.session)) o.buffer
-        go Answer.Done e h = absurd (h (ap (λ (x : Answer). refusal_of (numbers x)) e))
-        go Answer.Delivered e h = absurd (h (ap (λ (x : Answer). refusal_of (numbers x)) e))
-        go Answer.NothingDue e h = absurd (h (ap (λ (x : Answer). refusal_of (numbers x)) e))
-        go (Answer.Refused k) e h =
+        go (Ok Success.Done) e h = absurd (h (ap (λ (x : Answer). refusal_of (numbers x)) e))
+        go (Ok Success.Delivered) e h = absurd (h (ap (λ (x : Answer). refusal_of (numbers x)) e))
+        go (Ok Success.NothingDue) e h = absurd (h (ap (λ (x : Answer). refusal_of (numbers x)) e))
+        go (Err k) e h =
             let q = kept.refused k e in
             subst (λ (y : Outcome). Refused words buf (refusal_of (numbers y.answer)) (saved words (with r y.session)) y.buffer) (sym q)
             (record { buffer = refl; session = refused_words k })
@@ -175,12 +177,12 @@ module _ (ids : Bytes) (words : List ℕ) (r : Record) (lies : record_in ids wor
       (λ h. ((Replaying.promise).ranges (session_of r) (OurReplay t buf store ∷ []) tt h).0.ranged)
       (λ Bi. let h = held_bytes ids words r lies Bi in replay_whole (session_of r) t buf store h.0 h.1 B)
 
-  pub replay_one : Byted store → Byted ids → refusal_of (numbers played.answer) ≡ 0 → (r.at ≡ 0 → ⊥) → OneMessage (λ m. Replayed t store m (session_of r)) buf (reply_length played) played.buffer
+  pub replay_one : Byted store → Byted ids → refusal_of (numbers played.answer) ≡ 0 → (r.replay.at ≡ 0 → ⊥) → OneMessage (λ m. Replayed t store m (session_of r)) buf (reply_length played) played.buffer
   replay_one B Bi e n =
       let h = held_bytes ids words r lies Bi in
       let P = (Replaying.promise).played (session_of r) t buf store h.0 h.1 B (replay_done (session_of r) t buf store e n) in
       let W = subst (AllOf (λ m. Replayed t store m (session_of r))) P.one (replay_whole (session_of r) t buf store h.0 h.1 B).0 in
       one_left (λ m. Replayed t store m (session_of r)) r buf played _ ((Replaying.promise).kept (session_of r) t buf store) P.one W.0
 
-  pub replay_none : r.at ≡ 0 → reply_length played ≡ 0
+  pub replay_none : r.replay.at ≡ 0 → reply_length played ≡ 0
   replay_none e = ap (λ (ms : List Bytes). length (joined ms)) (replay_rests (session_of r) t buf store e)

@@ -18,8 +18,9 @@ use Rattle.fields.proofs.Promise as Fields
 use Rattle.dictionary.proofs.Promise as Dictionary
 use Rattle.writer.specs.Call as Written
 use Rattle.writer.specs.Promise.{MessageOf, CallPromise}
-use Rattle.writer.specs.declared.Written.{Written}
-use Rattle.writer.specs.declared.Written.TheVariants.{Message, Unfit, Short}
+use Rattle.writer.specs.Call.{Written}
+use Rattle.writer.specs.declared.Unwritten.TheVariants.{Unfit, Short}
+use Rattle.std.specs.Prelude.{Ok, Err}
 use Rattle.replies.proofs.Promise as Replies
 use Rattle.writer.proofs.Promise as Writer
 use Rattle.kept.proofs.Promise as Kept
@@ -96,9 +97,9 @@ module _ (type : Bytes) (values : List ℕ) (text buf : Bytes) (B : Byted text) 
       subst (λ (b : Bytes). MessageOf type (values_of values) text buf b n) (sym (ap (λ (x : LeftByWrite). x.buffer) W)) (call_is.a_length n (go its.answer (sym e) (sym v)))
     where
       go : (a : Written) → refusal_of (Written.numbers a) ≡ 0 → value_of (Written.numbers a) ≡ n → Written.numbers a ≡ (none, n ∷ [])
-      go (Message len) e v = ap (λ (k : ℕ). (none, k ∷ [])) v
-      go Unfit e v = absurd (omega (arith, e))
-      go Short e v = absurd (omega (arith, e))
+      go (Ok len) e v = ap (λ (k : ℕ). (none, k ∷ [])) v
+      go (Err Unfit) e v = absurd (omega (arith, e))
+      go (Err Short) e v = absurd (omega (arith, e))
 
   unwritten : (r : ℕ) (out : List ℕ) (buf' : Bytes) → WriteOut type values text buf r out buf' → (r ≡ 0 → ⊥) → ((r ≡ 8) ⊎ (r ≡ 9)) × (buf' ≡ buf)
   unfolding write_out
@@ -108,9 +109,9 @@ module _ (type : Bytes) (values : List ℕ) (text buf : Bytes) (B : Byted text) 
       (p.0, ap (λ (x : LeftByWrite). x.buffer) W ∙ p.1)
     where
       go : (a : Written) → refusal_of (Written.numbers a) ≡ r → (Written.numbers a).0 ≡ some r
-      go (Message len) e = absurd (h (sym e))
-      go Unfit e = ap some e
-      go Short e = ap some e
+      go (Ok len) e = absurd (h (sym e))
+      go (Err Unfit) e = ap some e
+      go (Err Short) e = ap some e
 
 pub promise : Promise
 promise =

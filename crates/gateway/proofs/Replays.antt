@@ -12,7 +12,7 @@ use Rattle.frame.specs.Frame.{fixt, Good}
 use Rattle.frame.specs.Stream.{Frames, joined}
 use Rattle.fields.specs.Field.{first_field}
 use Rattle.dictionary.specs.Verdict.{verdict}
-use Rattle.dictionary.specs.declared.Verdict.TheVariants.{Clean}
+use Rattle.dictionary.specs.Verdict.{Clean}
 use Rattle.calendar.specs.Time.{limit}
 use Rattle.message.specs.Whole.{body_in}
 use Rattle.message.proofs.Wholes.{body_is}
@@ -26,7 +26,7 @@ use Rattle.store.specs.Plan.{Item, Again, Fill, Run}
 use Rattle.moves.specs.Session.{Session}
 use Rattle.session.specs.Refusals.{numbers}
 use Rattle.session.specs.Calls.{Outcome}
-use Rattle.session.specs.declared.Answer.TheVariants.{Done}
+use Rattle.session.specs.Answer.{Done}
 use Rattle.replaying.specs.Call.{its_table, its_item, message, replay}
 use Rattle.replaying.specs.Promise.{Filled, Carries, Played}
 use Rattle.replaying.proofs.Ways.{each_replay}

@@ -21,8 +21,8 @@ use Rattle.moves.specs.Session.{Session}
 use Rattle.places.specs.Places.{is_store}
 use Rattle.session.specs.Calls.{Outcome}
 use Rattle.session.specs.Refusals.{No, numbers}
-use Rattle.session.specs.declared.Answer.{Answer}
-use Rattle.session.specs.declared.Answer.TheVariants.{Done}
+use Rattle.session.specs.Answer.{Answer}
+use Rattle.session.specs.Answer.{Done}
 use Rattle.session.specs.declared.Refusal.{Refusal}
 use Rattle.session.specs.declared.Refusal.TheVariants.{SessionClosed, NotLogon, BadLogon, NumbersSpent, BufferShort, TimePast, BadValue, NoRoom, NotOneFrame, BadRecord, ReportTooLong, Replaying, BadStore}
 use Rattle.border.specs.Numbers.{refusal_of}

@@ -12,7 +12,7 @@ use Rattle.line.specs.Promise as Line
 use Rattle.fields.specs.Field.{first_field}
 use Rattle.fields.specs.Promise as Fields
 use Rattle.dictionary.specs.Verdict.{verdict}
-use Rattle.dictionary.specs.declared.Verdict.TheVariants.{Clean}
+use Rattle.dictionary.specs.Verdict.{Clean}
 use Rattle.dictionary.specs.Promise as Dictionary
 use Rattle.replies.specs.Promise as Replies
 use Rattle.writer.specs.Promise as Writer
@@ -25,7 +25,7 @@ use Rattle.store.specs.Store.{find}
 use Rattle.store.specs.Plan.{Run}
 use Rattle.store.specs.Promise as Store
 use Rattle.readback.specs.Back.{read_back, words_in}
-use Rattle.readback.specs.declared.ReadBack.TheVariants as ReadBack
+use Rattle.readback.specs.Back as ReadBack
 use Rattle.readback.specs.Promise as Back
 use Rattle.moves.specs.Session.{Session, fresh, in_range}
 use Rattle.moves.specs.Held.{session_of}

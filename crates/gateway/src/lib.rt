@@ -1,5 +1,5 @@
 // The calls of the C host: numbers, byte slices and words in, numbers and words out. No call has a precondition, and each has one relation of
-// specs/ as its contract. They stand by what they work on: the line, a body, a message's values, a session's record, a trade's report.
+// specs/ as its contract. Numbers and words are what C has. They stand by what they work on: the line, a body, a message's values, a session's record, a trade's report.
 #![tactic(auto)]
 
 mod body;

@@ -1,7 +1,9 @@
-// The calls on a session's record, which lies in bytes and words of the host's.
+// The calls on a session's record, which lies in bytes and words of the host's. Each loads it, makes its call and hands on what is left. The call is no
+// closure: it changes the buffer that it borrows, and behind a closure no clause says how.
 ghost use Rattle.gateway.specs.Calls.{NewOut, ReconnectOut, StepOut, TickOut, LogoutOut, TestRequestOut};
 
-use border::{delivered, is_record, leave, load, number_of, save_new};
+use border::{delivered, leave, load, number_of, refuse, replied, save_new};
+use session::Refusal;
 
 // The record of a new session between two CompIDs; refusal 11 leaves one that is Closed and has none.
 #[unsafe(no_mangle)]
@@ -9,12 +11,11 @@ pub extern "C" fn fixgw_new(ids: &mut [u8; 24], words: &mut [u64], us: &[u8], th
     ensures { NewOut ids.old words.old us.now them.now result ids.new words.new }
 {
     if words.len() != 24 {
-        return 11;
+        return u32::from(Refusal::BadRecord);
     }
     let left = session::new(us, them);
-    let answer = left.answer;
     save_new(ids, words, left.after);
-    number_of(answer)
+    number_of(left.answer)
 }
 
 // A reconnect: the status becomes Waiting.
@@ -22,10 +23,10 @@ pub extern "C" fn fixgw_new(ids: &mut [u8; 24], words: &mut [u64], us: &[u8], th
 pub extern "C" fn fixgw_reconnect(ids: &[u8; 24], words: &mut [u64]) -> u32
     ensures { ReconnectOut ids.now words.old result words.new }
 {
-    if !is_record(words) {
-        return 11;
-    }
-    leave(words, session::reconnect(load(ids, words)))
+    let Some(r) = load(ids, words) else {
+        return u32::from(Refusal::BadRecord);
+    };
+    leave(words, session::reconnect(r))
 }
 
 // A step: one frame moves the record on, and the reply stands at the front of the buffer. An accepted logon with 141=Y zeroes the store.
@@ -41,13 +42,11 @@ pub extern "C" fn fixgw_step(
 ) -> u32
     ensures { StepOut ids.now words.old frame.now time buf.old store.old result words.new out.new buf.new store.new }
 {
-    if !is_record(words) {
-        *out = [0, 0];
-        return 11;
-    }
-    let left = session::step(load(ids, words), frame, time, buf, store);
-    let answer = left.answer;
-    *out = [delivered(answer), left.len as u64];
+    let Some(r) = load(ids, words) else {
+        return refuse(out, Refusal::BadRecord);
+    };
+    let left = session::step(r, frame, time, buf, store);
+    *out = [delivered(left.answer), left.len as u64];
     leave(words, left)
 }
 
@@ -62,13 +61,10 @@ pub extern "C" fn fixgw_tick(
 ) -> u32
     ensures { TickOut ids.now words.old time buf.old result words.new out.new buf.new }
 {
-    if !is_record(words) {
-        *out = [0];
-        return 11;
-    }
-    let left = session::tick(load(ids, words), time, buf);
-    *out = [left.len as u64];
-    leave(words, left)
+    let Some(r) = load(ids, words) else {
+        return refuse(out, Refusal::BadRecord);
+    };
+    replied(words, out, session::tick(r, time, buf))
 }
 
 // The venue's own Logout stands at the front of the buffer, and the record is Closed.
@@ -82,13 +78,10 @@ pub extern "C" fn fixgw_logout(
 ) -> u32
     ensures { LogoutOut ids.now words.old time buf.old result words.new out.new buf.new }
 {
-    if !is_record(words) {
-        *out = [0];
-        return 11;
-    }
-    let left = session::logout(load(ids, words), time, buf);
-    *out = [left.len as u64];
-    leave(words, left)
+    let Some(r) = load(ids, words) else {
+        return refuse(out, Refusal::BadRecord);
+    };
+    replied(words, out, session::logout(r, time, buf))
 }
 
 // The venue's own Test Request with this 112 stands at the front of the buffer.
@@ -103,11 +96,8 @@ pub extern "C" fn fixgw_test_request(
 ) -> u32
     ensures { TestRequestOut ids.now words.old id.now time buf.old result words.new out.new buf.new }
 {
-    if !is_record(words) {
-        *out = [0];
-        return 11;
-    }
-    let left = session::test_request(load(ids, words), id, time, buf);
-    *out = [left.len as u64];
-    leave(words, left)
+    let Some(r) = load(ids, words) else {
+        return refuse(out, Refusal::BadRecord);
+    };
+    replied(words, out, session::test_request(r, id, time, buf))
 }

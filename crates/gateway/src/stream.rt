@@ -1,7 +1,9 @@
 // The calls on the line: the frames in its bytes, the body of a frame, the lent buffer that holds what came.
 ghost use Rattle.gateway.specs.Border.{ReadOut, PutOut, DropOut, BodyOut};
 
-use frame::Reading;
+use border::refuse;
+use frame::{Found, NoFrame};
+use session::Refusal;
 
 // One reading of the bytes: 0 with the bytes skipped and the frame's length, or refusal 1 with the bytes to drop.
 #[unsafe(no_mangle)]
@@ -9,11 +11,11 @@ pub extern "C" fn fixgw_read(bytes: &[u8], out: &mut [u64; 2]) -> u32
     ensures { ReadOut bytes.now result out.new }
 {
     match frame::reading_of(bytes) {
-        Reading::Frame { skip, len } => {
+        Ok(Found { skip, len }) => {
             *out = [skip as u64, len as u64];
             0
         }
-        Reading::NoFrame { drop } => {
+        Err(NoFrame { drop }) => {
             *out = [drop as u64, 0];
             1
         }
@@ -25,11 +27,10 @@ pub extern "C" fn fixgw_read(bytes: &[u8], out: &mut [u64; 2]) -> u32
 pub extern "C" fn fixgw_body(frame: &[u8], out: &mut [u64; 2]) -> u32
     ensures { BodyOut frame.now result out.new }
 {
-    let n = frame::body_of(frame).len();
-    if n == 0 {
-        *out = [0, 0];
-        return 10;
-    }
+    let Some(body) = frame::body_of(frame) else {
+        return refuse(out, Refusal::NotOneFrame);
+    };
+    let n = body.len();
     let start = frame.len() - (n + 7);
     *out = [start as u64, n as u64];
     0

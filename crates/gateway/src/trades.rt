@@ -2,8 +2,10 @@
 ghost use Rattle.gateway.specs.Border.{ReportValuesOut};
 ghost use Rattle.gateway.specs.Calls.{ReportOut, ReplayOut};
 
-use border::{is_record, leave, load};
-use readback::ReadBack;
+use crate::body::judged;
+use border::{load, refuse, replied};
+use report::Given;
+use session::Refusal;
 
 // The venue's Trade Capture Report of values that lie in 82 words and a text beside them stands at the front of the buffer, and in the
 // store.
@@ -20,13 +22,14 @@ pub extern "C" fn fixgw_report(
 ) -> u32
     ensures { ReportOut ids.now words.old values.now text.now time buf.old store.old result words.new out.new buf.new store.new }
 {
-    if !is_record(words) {
-        *out = [0];
-        return 11;
-    }
-    let left = reporting::report(load(ids, words), values, text, time, buf, store);
-    *out = [left.len as u64];
-    leave(words, left)
+    let Some(r) = load(ids, words) else {
+        return refuse(out, Refusal::BadRecord);
+    };
+    let given = Given {
+        words: values,
+        text,
+    };
+    replied(words, out, reporting::report(r, given, time, buf, store))
 }
 
 // The next message of a replay stands at the front of the buffer, if one is running; the store is only read.
@@ -41,13 +44,10 @@ pub extern "C" fn fixgw_replay(
 ) -> u32
     ensures { ReplayOut ids.now words.old time buf.old store.now result words.new out.new buf.new }
 {
-    if !is_record(words) {
-        *out = [0];
-        return 11;
-    }
-    let left = replaying::replay(load(ids, words), time, buf, store);
-    *out = [left.len as u64];
-    leave(words, left)
+    let Some(r) = load(ids, words) else {
+        return refuse(out, Refusal::BadRecord);
+    };
+    replied(words, out, replaying::replay(r, time, buf, store))
 }
 
 // A report's values: where they lie in the body, or a reason and a tag; refusal 10 for bytes that are none.
@@ -59,18 +59,5 @@ pub extern "C" fn fixgw_report_values(
 ) -> u32
     ensures { ReportValuesOut body.now result values.new out.new }
 {
-    match readback::report_values(body, values) {
-        ReadBack::Values => {
-            *out = [0, 0, 0];
-            0
-        }
-        ReadBack::Finding { reason, tag } => {
-            *out = [1, reason as u64, tag as u64];
-            0
-        }
-        ReadBack::NoBody => {
-            *out = [0, 0, 0];
-            10
-        }
-    }
+    judged(readback::report_values(body, values), out)
 }

@@ -2,7 +2,6 @@
 ghost use Rattle.gateway.specs.Calls.{WriteOut};
 
 use border::values_of;
-use writer::Written;
 
 // One administrative message from its values, at the front of a buffer; refusal 8 or 9, with the buffer as it was.
 #[unsafe(no_mangle)]
@@ -15,18 +14,14 @@ pub extern "C" fn fixgw_write(
 ) -> u32
     ensures { WriteOut code.now values.now text.now buf.old result out.new buf.new }
 {
-    match writer::write(code, values_of(values), text, buf) {
-        Written::Message { len } => {
+    match writer::write(code, &values_of(values), text, buf) {
+        Ok(len) => {
             *out = [len as u64];
             0
         }
-        Written::Unfit => {
+        Err(e) => {
             *out = [0];
-            8
-        }
-        Written::Short => {
-            *out = [0];
-            9
+            e as u32
         }
     }
 }

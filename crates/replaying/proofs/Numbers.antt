@@ -14,7 +14,7 @@ use Rattle.places.specs.Places.{is_store}
 use Rattle.moves.specs.Session.{Session}
 use Rattle.session.specs.Calls.{Outcome, call}
 use Rattle.session.specs.Promise.{Headed, OfBytes, renews, first_out, time_of}
-use Rattle.session.specs.declared.Answer.{Answer}
+use Rattle.session.specs.Answer.{Answer}
 use Rattle.session.proofs.EachCall.{each_refusal}
 use Rattle.session.proofs.Promise as Session
 use Rattle.reporting.specs.Call.{the_report, message, unless, report}

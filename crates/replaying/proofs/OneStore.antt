@@ -20,7 +20,7 @@ use Rattle.store.proofs.FromZero.{zeroed_behind, still_store, one_more}
 use Rattle.moves.specs.Session.{Session}
 use Rattle.session.specs.Calls.{Outcome, renewed, step, Call, Step, Tick, OurLogout, OurTestRequest, Reconnect, call}
 use Rattle.session.specs.Promise.{renews}
-use Rattle.session.specs.declared.Answer.{Answer}
+use Rattle.session.specs.Answer.{Answer}
 use Rattle.session.specs.declared.Refusal.{Refusal}
 use Rattle.session.specs.Refusals.{after}
 use Rattle.session.proofs.EachCall.{each_refusal}

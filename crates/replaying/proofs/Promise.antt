@@ -12,7 +12,7 @@ use borrow.Author.Tests.{ltb-true, ne_eqb, le-leb, lt-leb, lt-ltb, le-ltb}
 use Rattle.octets.specs.Bytes.{Bytes, Byted, has}
 use Rattle.octets.proofs.Tests.{both_true}
 use Rattle.frame.specs.Frame.{fixt, Good}
-use Rattle.dictionary.specs.declared.Verdict.TheVariants.{Clean}
+use Rattle.dictionary.specs.Verdict.{Clean}
 use Rattle.dictionary.specs.Verdict.{verdict}
 use Rattle.fields.specs.Field.{first_field}
 use Rattle.table.specs.declared.MsgType.TheVariants.{SequenceReset}
@@ -38,7 +38,7 @@ use Rattle.letters.specs.code.Fit.{Numbered}
 use Rattle.session.specs.Refusals.{No}
 use Rattle.session.specs.Calls.{Outcome, keeping}
 use Rattle.session.specs.Promise.{Whole, AllInRange, Kept}
-use Rattle.session.specs.declared.Answer.TheVariants.{Done, NothingDue, Refused}
+use Rattle.session.specs.Answer.{Done, NothingDue, Refused}
 use Rattle.session.specs.declared.Refusal.{Refusal}
 use Rattle.session.proofs.Stepping.{Ranged, ranged_is}
 use Rattle.session.proofs.Ranged.{is_ranged}

@@ -19,8 +19,7 @@ use Rattle.moves.specs.declared.record.Status.TheVariants.{Active}
 use Rattle.moves.proofs.Words.{Said, each_first, then_by, said_when, not_said}
 use Rattle.session.specs.Refusals.{No, after}
 use Rattle.session.specs.Calls.{Outcome, refusing, keeping, answering}
-use Rattle.session.specs.declared.Answer.{Answer}
-use Rattle.session.specs.declared.Answer.TheVariants.{NothingDue, Refused}
+use Rattle.session.specs.Answer.{Answer, NothingDue, Refused}
 use Rattle.session.specs.declared.Refusal.{Refusal}
 use Rattle.session.specs.declared.Refusal.TheVariants.{BufferShort, TimePast, BadRecord, BadStore}
 use Rattle.session.proofs.Stepping.{ranged_is}

@@ -12,8 +12,7 @@ use Rattle.moves.specs.Session.{Session, Replay, no_replay, running, replaying, 
 use Rattle.moves.specs.Moves.{GapFill, letter}
 use Rattle.session.specs.Calls.{Outcome, over, answering, least_room}
 use Rattle.session.specs.declared.Refusal.TheVariants.{BufferShort, TimePast, BadRecord, BadStore}
-use Rattle.session.specs.declared.Answer.{Answer}
-use Rattle.session.specs.declared.Answer.TheVariants.{Done, NothingDue, Refused}
+use Rattle.session.specs.Answer.{Answer, Done, NothingDue, Refused}
 
 -- a session s
 module _ (s : Session) where

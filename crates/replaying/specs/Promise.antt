@@ -4,7 +4,7 @@ use Rattle.std.specs.Prelude.{ℕ, ◌+◌, ◌≤◌, ◌<◌, ◌≡◌, List,
 use Rattle.std.proofs.Math.Option.{some}
 use Rattle.octets.specs.Bytes.{Bytes, Byted, fix, decimal, has}
 use Rattle.frame.specs.Frame.{fixt, Good}
-use Rattle.dictionary.specs.declared.Verdict.TheVariants.{Clean}
+use Rattle.dictionary.specs.Verdict.{Clean}
 use Rattle.dictionary.specs.Verdict.{verdict}
 use Rattle.fields.specs.Field.{first_field}
 use Rattle.message.specs.Whole.{body_in}
@@ -23,7 +23,7 @@ use Rattle.session.specs.Calls.{Outcome, keeping, least_room, step}
 use Rattle.session.specs.Replays.{Served}
 use Rattle.session.specs.Promise.{Head, Whole, AllInRange, Kept}
 use Rattle.session.specs.declared.Refusal.{Refusal}
-use Rattle.session.specs.declared.Answer.TheVariants.{Done, NothingDue, Refused}
+use Rattle.session.specs.Answer.{Done, NothingDue, Refused}
 use Rattle.replaying.specs.Call.{its_table, its_item, message, behind, replay}
 use Rattle.replaying.specs.Run.{Turn, run, final, Lent, resent_by, AllUndisturbed, Finished, item_if, sent_items, Lends, Onward, UsedOnce, day}
 

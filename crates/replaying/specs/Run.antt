@@ -1,6 +1,6 @@
 -- ANY RUN of a session's calls, with reports and replay calls among them: the numbers that go out, a replay that is finished, and the store that a host
 -- lends to all of them.
-use Rattle.std.specs.Prelude.{ℕ, ◌+◌, ◌≡◌, List, [], ◌∷◌, ◌++◌, map, Bool, true, false, length, if◌then◌else◌}
+use Rattle.std.specs.Prelude.{ℕ, ◌+◌, ◌≡◌, List, [], ◌∷◌, ◌++◌, map, Bool, true, false, Ok, Err, length, if◌then◌else◌}
 use Rattle.std.proofs.Math.Option.{some}
 use Rattle.octets.specs.Bytes.{Bytes, decimal}
 use Rattle.fields.specs.Field.{first_field}
@@ -12,8 +12,8 @@ use Rattle.store.specs.Plan.{Item, range, covered}
 use Rattle.moves.specs.Session.{Session, no_replay, running}
 use Rattle.session.specs.Calls.{Outcome, store_after, Call, Step, Tick, OurLogout, OurTestRequest, Reconnect, call}
 use Rattle.session.specs.Promise.{OfBytes, renews}
-use Rattle.session.specs.declared.Answer.{Answer}
-use Rattle.session.specs.declared.Answer.TheVariants.{Done, Delivered, NothingDue, Refused}
+use Rattle.session.specs.declared.Success.TheVariants as Success
+use Rattle.session.specs.Answer.{Answer}
 use Rattle.reporting.specs.Call.{the_report, report}
 use Rattle.reporting.specs.Call as Reporting
 use Rattle.replaying.specs.Call.{its_item, replay}
@@ -78,10 +78,10 @@ pub record UsedOnce (s : Session) (cs : List Turn) : Type 0 where
 -- A FINISHED REPLAY
 -- what a replay call sends, and over a run
 abbrev pub item_if : Answer → Item → List Item
-item_if Done i = i ∷ []
-item_if Delivered i = []
-item_if NothingDue i = []
-item_if (Refused k) i = []
+item_if (Ok Success.Done) i = i ∷ []
+item_if (Ok Success.Delivered) i = []
+item_if (Ok Success.NothingDue) i = []
+item_if (Err k) i = []
 
 abbrev pub items_of : Session → Turn → List Item
 items_of s (Ours c) = []
@@ -140,10 +140,10 @@ left s store (OurTestRequest id t buf) = store
 left s store Reconnect = store
 
 abbrev pub went_out : Answer → Report → List Report
-went_out Done r = r ∷ []
-went_out Delivered r = []
-went_out NothingDue r = []
-went_out (Refused k) r = []
+went_out (Ok Success.Done) r = r ∷ []
+went_out (Ok Success.Delivered) r = []
+went_out (Ok Success.NothingDue) r = []
+went_out (Err k) r = []
 
 abbrev pub after : Day → Turn → Day
 after d (Ours c) =

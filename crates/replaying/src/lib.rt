@@ -8,45 +8,40 @@ ghost use Rattle.store.specs.Plan.{Fill};
 ghost use Rattle.moves.specs.Session.{running, replaying, sent_at, in_range};
 ghost use Rattle.moves.specs.Held.{session_of, with};
 ghost use Rattle.session.specs.Held.{Leaves};
-ghost use Rattle.session.specs.declared.Answer.TheVariants as Answer;
-ghost use Rattle.replaying.specs.Call.{its_item, behind, playing, replay};
+ghost use Rattle.session.specs.Answer.{Done};
+ghost use Rattle.session.specs.code.Played.{stilled};
+ghost use Rattle.moves.specs.Words.{first};
+ghost use Rattle.replaying.specs.Call.{its_item, behind, playing, refusals, replay};
 
 use calendar::utc;
-use moves::{Record, changed, in_range};
+use kept::CompIds;
+use moves::{Record, Replay};
 use places::is_store;
 use possdup::put_again;
-use replies::gap_fill;
-use session::{Answer, Answered, Refusal, unchanged};
-use store::{peeked, place_of, run_to};
+use replies::{Heading, Reply, put_reply};
+use session::{Answered, LEAST_ROOM, LIMIT, Refusal, Success, refused, unchanged};
+use store::Reports;
 
 // A message of so many bytes went out that covers the numbers up to e: the place behind it.
 fn moved_on(r: Record, e: u64, len: usize, time: u64) -> Answered
     requires { e < 1_000_000_000 }
-    ensures { result ≡ record { answer = Answer.Done; after = with r (replaying (behind (session_of r) (Fill r.at e)) (sent_at time (session_of r))); len = len } }
+    ensures { result ≡ record { answer = Done; after = with r (replaying (behind (session_of r) (Fill r.replay.at e)) (sent_at time (session_of r))); len = len } }
 {
-    let st = r.status;
-    if e < r.to {
-        let after = changed(
-            r,
-            st,
-            r.expected,
-            r.next,
-            r.heartbeat,
-            time,
-            e + 1,
-            r.to,
-            r.gap,
-        );
-        return Answered {
-            answer: Answer::Done,
-            after,
-            len,
-        };
-    }
-    let after = changed(r, st, r.expected, r.next, r.heartbeat, time, 0, 0, r.gap);
+    let replay = if e < r.replay.to {
+        Replay {
+            at: e + 1,
+            ..r.replay
+        }
+    } else {
+        Replay::none()
+    };
     Answered {
-        answer: Answer::Done,
-        after,
+        answer: Ok(Success::Done),
+        after: Record {
+            sent: time,
+            replay,
+            ..r
+        },
         len,
     }
 }
@@ -56,42 +51,48 @@ fn play_next(r: Record, time: u64, buf: &mut [u8], store: &[u8]) -> Answered
     requires { (in_range (session_of r) ≡ true) × (running (session_of r).replay ≡ true) × (is_store store.now ≡ true) × (time < limit) × (600 ≤ length buf.old) }
     ensures { Leaves r (playing (session_of r) time (its_item (session_of r) store.now) buf.old) result buf.new }
 {
-    let ours = r.ours;
-    let o = r.oursLen;
-    let peer = r.peer;
-    let p = r.peerLen;
-    let us = &ours[..o];
-    let them = &peer[..p];
-    let numbers = peeked(store, us.len() + them.len());
-    let i = place_of(store, &numbers, us, them, r.at);
-    if i < 64 {
-        let len = put_again(buf, &store[512 * i..512 * i + 512], us, them, r.at, time);
-        return moved_on(r, r.at, len, time);
+    let ids = CompIds {
+        us: &r.ours[..r.oursLen],
+        them: &r.peer[..r.peerLen],
+    };
+    let reports = Reports { store, ids };
+    let at = r.replay.at;
+    let numbers = reports.peeked();
+    if let Some(i) = reports.place_of(&numbers, at) {
+        let len = put_again(buf, reports.place(i), &ids, at, time);
+        return moved_on(r, at, len, time);
     }
-    let e = run_to(store, &numbers, us, them, r.at, r.to);
+    let e = reports.run_to(&numbers, at, r.replay.to);
     let stamp = utc(time);
-    let len = gap_fill(buf, 0, us, them, r.at, &stamp, e + 1);
+    let head = Heading {
+        ours: ids.us,
+        peers: ids.them,
+        number: at,
+        time: &stamp,
+    };
+    let len = put_reply(buf, 0, &head, Reply::GapFill { next: e + 1 }).unwrap();
     moved_on(r, e, len, time)
 }
 
-// A replay call: the next message of the replay stands at the front of the buffer, if one is running. 11, 14, 7, 6.
+// 11, 14, 7, 6; and whether one is running.
+#[tactic(auto, using(session::proofs::Gating::ladder), unfolding(crate::specs::Call::refusals))]
+fn replay_gate(r: Record, stored: bool, time: u64, room: usize) -> Result<bool, Refusal>
+    ensures { stilled result ≡ first (refusals (session_of r) time stored room) }
+{
+    Refusal::BadRecord.when(!r.in_range())?;
+    Refusal::BadStore.when(!stored)?;
+    Refusal::TimePast.when(LIMIT <= time)?;
+    Refusal::BufferShort.when(room < LEAST_ROOM)?;
+    Ok(r.replay.at != 0)
+}
+
+// A replay call: the next message of the replay stands at the front of the buffer, if one is running.
 pub fn replay(r: Record, time: u64, buf: &mut [u8], store: &[u8]) -> Answered
     ensures { Leaves r (replay (session_of r) time buf.old store.now) result buf.new }
 {
-    if !in_range(r) {
-        return unchanged(r, Answer::Refused(Refusal::BadRecord));
+    match replay_gate(r, is_store(store), time, buf.len()) {
+        Err(k) => refused(r, k),
+        Ok(false) => unchanged(r, Ok(Success::NothingDue)),
+        Ok(true) => play_next(r, time, buf, store),
     }
-    if !is_store(store) {
-        return unchanged(r, Answer::Refused(Refusal::BadStore));
-    }
-    if 253_402_300_800_000_000 <= time {
-        return unchanged(r, Answer::Refused(Refusal::TimePast));
-    }
-    if buf.len() < 600 {
-        return unchanged(r, Answer::Refused(Refusal::BufferShort));
-    }
-    if r.at == 0 {
-        return unchanged(r, Answer::NothingDue);
-    }
-    play_next(r, time, buf, store)
 }

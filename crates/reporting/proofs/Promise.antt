@@ -27,8 +27,8 @@ use Rattle.moves.specs.declared.record.Status.TheVariants.{Waiting, Active, Clos
 use Rattle.moves.proofs.Words.{Said, each_first, then_by, said_when, not_said}
 use Rattle.session.specs.Calls.{Outcome, keeping, spent}
 use Rattle.session.specs.Promise.{Kept}
-use Rattle.session.specs.declared.Answer.{Answer}
-use Rattle.session.specs.declared.Answer.TheVariants.{Done, Refused}
+use Rattle.session.specs.Answer.{Answer}
+use Rattle.session.specs.Answer.{Done, Refused}
 use Rattle.session.specs.declared.Refusal.{Refusal}
 use Rattle.session.specs.declared.Refusal.TheVariants.{SessionClosed, NumbersSpent, TimePast, BadValue, NoRoom, BadRecord, ReportTooLong, Replaying, BadStore}
 use Rattle.session.proofs.Stepping.{Ranged, ranged_is, unspent_is}

@@ -12,8 +12,7 @@ use Rattle.moves.specs.Session.{◌equals◌, Session, running, numbering, sent_
 use Rattle.moves.specs.declared.record.Status.TheVariants.{Active}
 use Rattle.session.specs.Calls.{Outcome, over, answering, spent}
 use Rattle.session.specs.declared.Refusal.TheVariants.{SessionClosed, NumbersSpent, TimePast, BadValue, NoRoom, BadRecord, ReportTooLong, Replaying, BadStore}
-use Rattle.session.specs.declared.Answer.{Answer}
-use Rattle.session.specs.declared.Answer.TheVariants.{Done, Refused}
+use Rattle.session.specs.Answer.{Answer, Done, Refused}
 
 -- "is at most 512 bytes"; "12, report longer than 512 bytes"
 abbrev pub longest : ℕ

@@ -14,7 +14,7 @@ use Rattle.session.specs.Calls.{Outcome, keeping, spent}
 use Rattle.session.specs.Promise.{InRange, Kept}
 use Rattle.session.specs.declared.Refusal.{Refusal}
 use Rattle.session.specs.declared.Refusal.TheVariants.{SessionClosed}
-use Rattle.session.specs.declared.Answer.TheVariants.{Done, Refused}
+use Rattle.session.specs.Answer.{Done, Refused}
 use Rattle.reporting.specs.Call.{the_report, message, longest, report, store_after}
 
 -- A REPORT THAT IS SENT: no refusal stands, "the order for a report is 11, 7, 2, 5, 8, 12, 9", with 13 and 14 behind 11

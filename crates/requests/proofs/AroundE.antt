@@ -20,7 +20,7 @@ use Rattle.moves.specs.Moves.{Deeds, Heartbeat, Write, Count, Deliver, N, reject
 use Rattle.moves.specs.declared.record.Status.TheVariants.{Closed}
 use Rattle.moves.proofs.EachRule.{each_logon, each_serving, each_reset, each_high, each_low, each_gap, each_turn, each_rule}
 use Rattle.session.specs.Calls.{Outcome, keeping, settled, after_deed, after_all, step, new, Step, Tick, OurLogout, OurTestRequest, Reconnect}
-use Rattle.session.specs.declared.Answer.TheVariants.{Done, Refused}
+use Rattle.session.specs.Answer.{Done, Refused}
 use Rattle.session.specs.declared.Refusal.TheVariants.{BadRecord}
 use Rattle.session.proofs.EachCall.{each_refusal, each_step}
 use Rattle.replaying.specs.Run.{Turn, Ours, OurReport, OurReplay, turn, run}

@@ -9,7 +9,7 @@ use Rattle.places.specs.Places.{is_store}
 use Rattle.report.specs.Values.{Values}
 use Rattle.moves.specs.Session.{Session}
 use Rattle.session.specs.Calls.{Outcome, refusing, tick, logout, test_request, reconnect, Step, Tick, OurLogout, OurTestRequest, Reconnect}
-use Rattle.session.specs.declared.Answer.{Answer}
+use Rattle.session.specs.Answer.{Answer}
 use Rattle.session.specs.declared.Refusal.{Refusal}
 use Rattle.session.proofs.Promise as Session
 use Rattle.session.proofs.EachCall.{each_refusal, each_tick, each_logout, each_test, each_reconnect}

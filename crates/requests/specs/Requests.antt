@@ -12,7 +12,7 @@ use Rattle.moves.specs.declared.record.Status.TheVariants.{Waiting, Active}
 use Rattle.session.specs.Calls.{Outcome, step, Step, Tick, OurLogout, OurTestRequest, Reconnect}
 use Rattle.session.specs.Delivery.{Unrefused, ByNumber, Reset}
 use Rattle.session.specs.declared.Refusal.{Refusal}
-use Rattle.session.specs.declared.Answer.TheVariants.{Refused}
+use Rattle.session.specs.Answer.{Refused}
 use Rattle.replaying.specs.Run.{Turn, Ours, OurReport, OurReplay, turn, final}
 
 -- a gap that was asked for at the time t: it is open for E

@@ -27,8 +27,9 @@ use Rattle.moves.specs.Moves.{OurPeer, Heartbeat, GapFill, Write, #, N, bare, re
 use Rattle.session.specs.Calls.{Outcome, refusing, Step, Tick, OurLogout, OurTestRequest, Reconnect, step}
 use Rattle.session.specs.Delivery.{Deliverable}
 use Rattle.session.specs.Sequence.{Made, refuses, delivers, is_reject, rejects, Share, nothing, counts, skips, filled_by, counted_by, share_of, delivered_by, body_of, by_body, resets, reset_by, share, delivered, Passes, Idle, Rejected}
-use Rattle.session.specs.declared.Answer.{Answer}
-use Rattle.session.specs.declared.Answer.TheVariants.{Done, Delivered, NothingDue, Refused}
+use Rattle.std.specs.Prelude.{Ok, Err}
+use Rattle.session.specs.declared.Success.TheVariants as Success
+use Rattle.session.specs.Answer.{Answer, Delivered, Refused}
 use Rattle.session.specs.declared.Refusal.{Refusal}
 use Rattle.session.proofs.EachCall.{each_refusal, each_tick, each_logout, each_test, each_reconnect}
 use Rattle.session.proofs.Delivered.{delivery}
@@ -111,10 +112,10 @@ covers_passes m C = go (share m) refl C
     go (skips n z) e c = record { moved_by = rw e (omega (arith, c.0, c.1, c.2)); all_passed = λ i k l. rw e (omega (arith, k, c.0), omega (arith, l, c.2)); no_other = λ i. rw e (λ b. (omega (arith, b.0, c.0), omega (arith, b.1, c.2))) }
 
 delivers_is : (a : Answer) → delivers a ≡ true → a ≡ Delivered
-delivers_is Done e = absurd (false≢true e)
-delivers_is Delivered e = refl
-delivers_is NothingDue e = absurd (false≢true e)
-delivers_is (Refused k) e = absurd (false≢true e)
+delivers_is (Ok Success.Done) e = absurd (false≢true e)
+delivers_is (Ok Success.Delivered) e = refl
+delivers_is (Ok Success.NothingDue) e = absurd (false≢true e)
+delivers_is (Err k) e = absurd (false≢true e)
 
 module _ (s : Session) (f : Bytes) (t : ℕ) (buf store : Bytes) where
   abbrev body : Bytes

@@ -14,7 +14,7 @@ use Rattle.fields.specs.Field.{first_field}
 use Rattle.table.specs.declared.MsgType.{MsgType}
 use Rattle.table.specs.declared.MsgType.TheVariants.{OrderCancelRequest, TradeCaptureReportRequest}
 use Rattle.table.specs.Dictionary.{code35}
-use Rattle.dictionary.specs.declared.Verdict.TheVariants.{Clean}
+use Rattle.dictionary.specs.Verdict.{Clean}
 use Rattle.dictionary.specs.Verdict.{verdict}
 use Rattle.message.specs.Message.{Value, row, message, written}
 use Rattle.message.specs.Whole.{body_in}

@@ -23,7 +23,7 @@ use Rattle.calendar.specs.Later.{moment_of, later}
 use Rattle.gap.specs.Gap.{passed, asks, unless_past, bounded}
 use Rattle.moves.specs.Session.{in_range}
 use Rattle.moves.specs.Moves.{#, readable, reject, reject_type, acceptable, logon, reset, no_reset, waiting, unserved, served, rule_1, rule_2, bare_reset, rule_3, served_first, asks_or_not, too_high, rule_4, too_low, rule_5, filled, in_turn, rule_6, active}
-use Rattle.session.specs.Calls.{Tick, spent, refusals, turned_away, step, due, tick, reconnect}
+use Rattle.session.specs.Calls.{Tick, spent, refusals, turned_away, step, due, unticked, tick, reconnect}
 use Rattle.session.specs.Sequence as Sequence
 use Rattle.session.specs.Sequence.{reset_by, filled_by, counted_by, share_of}
 use Rattle.amounts.specs.Amount.{amount_text}
@@ -70,7 +70,7 @@ abbrev idle : List Turn
 idle = Ours (Tick half_past_nine empty) ∷ []
 
 computed : Day × Wrong
-unfolding writes decimal is_store fixt part_of first_field is_body kind_of is_number formed good_day good_clock allowed №453 №580 №552 header code35 fields type_of administrative groups_of member rows_of in_dictionary incomplete closing rule1 left rule2 skipped rule3 rule4 rule5 rule6 rule7 rule8 rule9 rule10 rules4to10 said taken after verdict framed own order written Reply.heartbeat Reply.logon Reply.resend_request Reply.reject Reply.gap_fill Reply.logout body_in good year_days in_year date_of utc comp_id in_range # readable reject reject_type acceptable logon reset no_reset waiting unserved served rule_1 rule_2 bare_reset rule_3 served_first asks_or_not too_high rule_4 passed asks unless_past bounded moment_of later too_low rule_5 filled in_turn rule_6 active spent refusals turned_away step due tick reconnect Sequence.taken reset_by filled_by counted_by share_of amount_text takes sent rejected required is_decimal decimal_of Reporting.message Reporting.refusals Reporting.report Replaying.refusals Replaying.replay zeros
+unfolding writes decimal is_store fixt part_of first_field is_body kind_of is_number formed good_day good_clock allowed №453 №580 №552 header code35 fields type_of administrative groups_of member rows_of in_dictionary incomplete closing rule1 left rule2 skipped rule3 rule4 rule5 rule6 rule7 rule8 rule9 rule10 rules4to10 said taken after verdict framed own order written Reply.heartbeat Reply.logon Reply.resend_request Reply.reject Reply.gap_fill Reply.logout body_in good year_days in_year date_of utc comp_id in_range # readable reject reject_type acceptable logon reset no_reset waiting unserved served rule_1 rule_2 bare_reset rule_3 served_first asks_or_not too_high rule_4 passed asks unless_past bounded moment_of later too_low rule_5 filled in_turn rule_6 active spent refusals turned_away step due unticked tick reconnect Sequence.taken reset_by filled_by counted_by share_of amount_text takes sent rejected required is_decimal decimal_of Reporting.message Reporting.refusals Reporting.report Replaying.refusals Replaying.replay zeros
 computed = (
   record {
     no_reset = (refl, (refl, (refl, (refl, (refl, (refl, (refl, (refl, (refl, (refl, (refl, (refl, (refl, (refl, (refl, tt)))))))))))))));

@@ -9,7 +9,7 @@ use Rattle.moves.specs.Session.{Session, fresh}
 use Rattle.session.specs.Calls.{Step, Tick, Reconnect}
 use Rattle.session.specs.Desk.{GW_MM, half_past_nine, empty}
 use Rattle.session.specs.declared.Refusal.TheVariants.{NotOneFrame}
-use Rattle.session.specs.declared.Answer.TheVariants.{Done, Delivered, NothingDue, Refused}
+use Rattle.session.specs.Answer.{Done, Delivered, NothingDue, Refused}
 use Rattle.session.specs.Sequence.{Made, rejects, nothing, counts, skips, resets, share, deliveries, NoReset, end}
 use Rattle.replaying.specs.Run.{Turn, Ours, OurReport, OurReplay}
 use Rattle.sequence.specs.Run.{made, logged}

@@ -7,8 +7,8 @@ use Rattle.moves.specs.Moves.{#, N, type, ◌holds◌}
 use Rattle.session.specs.Calls.{Outcome}
 use Rattle.session.specs.Desk.{beat}
 use Rattle.session.specs.Sequence.{log, delivers, taken, filled_by, body_of, by_body, NoReset, Sequence}
-use Rattle.session.specs.declared.Answer.{Answer}
-use Rattle.session.specs.declared.Answer.TheVariants.{Done, Delivered}
+use Rattle.session.specs.Answer.{Answer}
+use Rattle.session.specs.Answer.{Done, Delivered}
 use Rattle.replaying.specs.Run.{Turn, turn}
 use Rattle.sequence.specs.Run.{given}
 

@@ -1,7 +1,11 @@
 -- Every call of a session has one outcome (S1): any two that its contract allows, for the same input, are equal in all that the call answers and leaves.
 -- Assumes nothing.
 use Prim.Native.Nat.{ℕ}
-use mathlib.Core.Path.{◌≡◌, sym, ◌∙◌}
+use mathlib.Core.Path.{◌≡◌, refl, sym, ap, ◌∙◌}
+use Rattle.std.specs.Prelude.{Result, Ok, Err}
+use Rattle.std.proofs.Math.Option.{Option, none, some}
+use Rattle.session.specs.Answer.{Answer}
+use Rattle.session.specs.code.Played.{shut, Shuts}
 use Rattle.octets.specs.Bytes.{Bytes}
 use Rattle.session.specs.Refusals.{No}
 use Rattle.session.specs.Calls.{Outcome, step, store_after, tick, logout, test_request, new, reconnect}
@@ -42,3 +46,16 @@ reconnect_one r e f = e ∙ sym f
 
 pub number_one : (k : Refusal) {m n : ℕ} → m ≡ No k → n ≡ No k → m ≡ n
 number_one k e f = e ∙ sym f
+
+-- A TEST of a list of refusals
+abbrev from_shut : Option Answer → Result (Unit {0}) Refusal
+from_shut none = Ok tt
+from_shut (some (Ok s)) = Ok tt
+from_shut (some (Err k)) = Err k
+
+shut_back : (x : Result (Unit {0}) Refusal) → from_shut (shut x) ≡ x
+shut_back (Ok _) = refl
+shut_back (Err k) = refl
+
+pub when_one : {x y : Result (Unit {0}) Refusal} {a : Option Answer} → Shuts x a → Shuts y a → x ≡ y
+when_one {x} {y} v w = sym (shut_back x) ∙ ap from_shut v ∙ sym (ap from_shut w) ∙ shut_back y

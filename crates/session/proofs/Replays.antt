@@ -10,7 +10,7 @@ use lib.Dec.{eqb}
 use Rattle.octets.specs.Bytes.{Bytes, Byted}
 use Rattle.table.specs.declared.MsgType.TheVariants.{ResendRequest}
 use Rattle.table.specs.Dictionary.{code35}
-use Rattle.dictionary.specs.declared.Verdict.TheVariants.{Clean}
+use Rattle.dictionary.specs.Verdict.{Clean}
 use Rattle.dictionary.specs.Verdict.{verdict, msg_type}
 use Rattle.message.specs.Whole.{body_in}
 use Rattle.moves.specs.Words.{speaks}
@@ -22,7 +22,7 @@ use Rattle.session.specs.Calls.{Outcome, making, refusing, keeping, settled, set
 use Rattle.session.specs.Delivery.{Unrefused}
 use Rattle.session.specs.Replays.{Served, Moved, kept, dropped, replaced, Disturbs}
 use Rattle.session.specs.declared.Refusal.{Refusal}
-use Rattle.session.specs.declared.Answer.TheVariants.{Done}
+use Rattle.session.specs.Answer.{Done}
 use Rattle.letters.proofs.Carried.{type_is_lem}
 use Rattle.moves.proofs.Readings.{is_clean_lem}
 use Rattle.moves.proofs.EachRule.{each_logon, each_serving, each_reset, each_asking, each_high, each_low, each_gap, each_turn, each_rule}

@@ -17,6 +17,8 @@ use Rattle.session.specs.Calls.{Outcome, refusing, stepping, refusals, turned_aw
 use Rattle.moves.specs.Held.{session_of}
 use Rattle.session.specs.Held.{Leaves}
 use Rattle.moves.specs.declared.record.Record.{Record}
+use denote.Enum.Bare.{sameb}
+use Rattle.moves.specs.contracts.record.Status.{the_type}
 use Rattle.moves.specs.declared.record.Status.{Status}
 use Rattle.moves.specs.declared.record.Status.TheVariants.{Waiting, Active, Closed}
 use Rattle.session.specs.declared.Answered.{Answered}
@@ -58,6 +60,12 @@ pub refusal_stays : (s : Session) (body buf store : Bytes) {o : Outcome} {k : Re
 refusal_stays s body buf store {k = k} e = old_stays s body (refusing k s buf) store (refused_old k s body buf) ∙ ap (λ (o : Outcome). store_by s body o store) (sym e)
 
 -- A LOGON that was answered
+-- the code compares its status by the derived `==`
+pub active_same : (x : Status) → sameb the_type x Active ≡ (x equals Active)
+active_same Waiting = refl
+active_same Active = refl
+active_same Closed = refl
+
 module _ (r : Record) (body store : Bytes) (st : r.status ≡ Waiting) {o : Outcome} {a : Answered} {d : Bytes} (l : Leaves r o a d) {b : Bool} (ra : b ≡ (a.after.status equals Active)) where
   accepted : b ≡ (o.session.status equals Active)
   accepted = ra ∙ ap (λ (z : Answered). z.after.status equals Active) l.answered

@@ -2,7 +2,7 @@
 use Rattle.std.specs.Prelude.{ℕ, ◌+◌, ◌≤◌, ◌<◌, ◌≡◌, [], ◌∷◌, true, false, ◌&&◌, ◌||◌, length, if◌then◌else◌}
 use Rattle.octets.specs.Bytes.{Bytes}
 use Rattle.places.specs.Places.{is_store}
-use Rattle.dictionary.specs.declared.Verdict.TheVariants.{Clean}
+use Rattle.dictionary.specs.Verdict.{Clean}
 use Rattle.dictionary.specs.Verdict.{verdict, msg_type}
 use Rattle.message.specs.Message.{absent}
 use Rattle.message.specs.Whole.{good, body_in}
@@ -15,7 +15,7 @@ use Rattle.moves.specs.Moves.{OurPeer, bare, Reject, letter, #, readable, N, typ
 use Rattle.session.specs.Calls.{Outcome, over, making, keeping, settling, spent, step}
 use Rattle.moves.specs.declared.record.Status.TheVariants.{Active}
 use Rattle.session.specs.declared.Refusal.TheVariants.{NotOneFrame, BadRecord, BadStore}
-use Rattle.session.specs.declared.Answer.TheVariants.{Done, Delivered, Refused}
+use Rattle.session.specs.Answer.{Done, Delivered, Refused}
 
 -- A session s and the body of a frame.
 module _ (s : Session) (body : Bytes) where

@@ -1,12 +1,12 @@
 -- The numbered refusals of a session's calls, and the number of each answer.
-use Rattle.std.specs.Prelude.{ℕ, List, [], ◌∷◌}
+use Rattle.std.specs.Prelude.{ℕ, List, [], ◌∷◌, Ok, Err}
 use Rattle.std.proofs.Math.Option.{Option, none, some}
 use Rattle.moves.specs.Session.{Session, turned}
 use Rattle.moves.specs.declared.record.Status.TheVariants.{Closed}
 use Rattle.session.specs.declared.Refusal.{Refusal}
 use Rattle.session.specs.declared.Refusal.TheVariants.{SessionClosed, NotLogon, BadLogon, NumbersSpent, BufferShort, TimePast, BadValue, NoRoom, NotOneFrame, BadRecord, ReportTooLong, Replaying, BadStore}
-use Rattle.session.specs.declared.Answer.{Answer}
-use Rattle.session.specs.declared.Answer.TheVariants.{Done, Delivered, NothingDue, Refused}
+use Rattle.session.specs.declared.Success.TheVariants as Success
+use Rattle.session.specs.Answer.{Answer}
 
 -- "Numbered refusals": of each that a session's call can give the number, and the session after; behind it the table's "When"
 abbrev unchanged : Session → Session
@@ -39,7 +39,7 @@ after k s = (row k).1 s
 
 -- this paper's number and values for each case of an answer: the refusal, or 1 or 0 for delivered or not; none where nothing is due
 abbrev pub numbers : Answer → Option ℕ × List ℕ
-numbers Done = (none, 0 ∷ [])
-numbers Delivered = (none, 1 ∷ [])
-numbers NothingDue = (none, [])
-numbers (Refused r) = (some (No r), [])
+numbers (Ok Success.Done) = (none, 0 ∷ [])
+numbers (Ok Success.Delivered) = (none, 1 ∷ [])
+numbers (Ok Success.NothingDue) = (none, [])
+numbers (Err r) = (some (No r), [])

@@ -11,7 +11,7 @@ use Rattle.session.specs.Calls.{making, keeping, settling, step, renewed, store_
 use Rattle.session.specs.Delivery.{Unrefused}
 use Rattle.moves.specs.declared.record.Status.TheVariants.{Closed}
 use Rattle.session.specs.declared.Refusal.{Refusal}
-use Rattle.session.specs.declared.Answer.TheVariants.{Done, Refused}
+use Rattle.session.specs.Answer.{Done, Refused}
 
 -- A session s, a frame f, a time t, a reply buffer and a store.
 module _ (s : Session) (f : Bytes) (t : ℕ) (buf store : Bytes) where

@@ -1,6 +1,6 @@
 -- "Nothing delivered twice, nothing stepped over." (document 02, Q-10): what one call contributes to E, a run without a reset, and what holds of every such
 -- run. (That a frame in turn counts, and an AD or F in turn is delivered, is said of each step in Delivery.antt.)
-use Rattle.std.specs.Prelude.{ℕ, ◌+◌, ◌-◌, ◌≤◌, ◌<◌, ◌≡◌, List, [], ◌∷◌, map, Bool, true, false, not, ◌&&◌, ◌||◌, get_or, if◌then◌else◌}
+use Rattle.std.specs.Prelude.{ℕ, ◌+◌, ◌-◌, ◌≤◌, ◌<◌, ◌≡◌, List, [], ◌∷◌, map, Bool, true, false, not, ◌&&◌, ◌||◌, Ok, Err, get_or, if◌then◌else◌}
 use Rattle.std.proofs.Math.Option.{Option, none, some}
 use Rattle.octets.specs.Bytes.{Bytes, fix, any}
 use Rattle.frame.specs.Stream.{joined}
@@ -14,8 +14,8 @@ use Rattle.moves.specs.Moves.{OurPeer, #, N, type, bare, ◌holds◌, acceptable
 use Rattle.moves.specs.declared.record.Status.TheVariants.{Active}
 use Rattle.session.specs.Calls.{Outcome, renewed, Call, Step, Tick, OurLogout, OurTestRequest, Reconnect}
 use Rattle.session.specs.declared.Refusal.{Refusal}
-use Rattle.session.specs.declared.Answer.{Answer}
-use Rattle.session.specs.declared.Answer.TheVariants.{Done, Delivered, NothingDue, Refused}
+use Rattle.session.specs.declared.Success.TheVariants as Success
+use Rattle.session.specs.Answer.{Answer, Refused}
 
 -- A CALL THAT WAS MADE, as a log tells it: the session that it met, the bytes that it was given as a frame, if it is a step, and all that it left
 pub record Made : Type 0 where
@@ -43,16 +43,14 @@ module _ {C : Type 0} (given : C → Option Bytes) (call : Session → C → Out
 
 -- WHAT A CALL ANSWERS
 abbrev pub refuses : Answer → Bool
-refuses Done = false
-refuses Delivered = false
-refuses NothingDue = false
-refuses (Refused k) = true
+refuses (Ok x) = false
+refuses (Err k) = true
 
 abbrev pub delivers : Answer → Bool
-delivers Done = false
-delivers Delivered = true
-delivers NothingDue = false
-delivers (Refused k) = false
+delivers (Ok Success.Done) = false
+delivers (Ok Success.Delivered) = true
+delivers (Ok Success.NothingDue) = false
+delivers (Err k) = false
 
 -- it rejects: a Reject, 35=3, is among the messages of the reply
 abbrev pub is_reject : Bytes → Bool

@@ -3,87 +3,83 @@
 
 mod begin;
 mod gates;
-mod own;
 mod played;
 
 ghost use Rattle.std.specs.Prelude.{◌≡◌, [], true, false, ◌≤◌, ◌<◌, length};
 ghost use Rattle.std.proofs.Math.Option.{none};
 ghost use Rattle.calendar.specs.Time.{limit};
+ghost use Rattle.moves.specs.Words.{first, ◌when◌};
+ghost use Rattle.session.specs.Answer.{Refused};
 ghost use Rattle.session.specs.Refusals.{No};
-ghost use Rattle.moves.specs.Words.{first};
-ghost use Rattle.moves.specs.Session.{◌equals◌, turned, in_range};
-ghost use Rattle.session.specs.declared.Answer.TheVariants as Answer;
-ghost use Rattle.session.specs.Calls.{refusing, turned_away, moves_on, due, step, store_by, store_after, tick, logout, test_request, new, reconnect};
+ghost use Rattle.session.specs.code.Played.{Shuts};
+ghost use Rattle.moves.specs.Session.{◌equals◌, in_range};
+ghost use Rattle.session.specs.Calls.{refusing, turned_away, moves_on, step, store_by, store_after, tick, logout, test_request, new, reconnect};
 ghost use Rattle.moves.specs.Held.{session_of};
 ghost use Rattle.session.specs.Held.{Leaves, LeavesStore, answered_by, answered_new};
 ghost use Rattle.moves.specs.code.Plan.{Ready};
 
-use begin::{blank, in_eleven};
+use begin::begun;
 use frame::body_of;
-use gap::no_gap;
-pub use gates::is_spent;
-use gates::{logon_gate, step_gate};
-use moves::{
-    Letter, Record, Status, closing, holds, in_range, is_active, is_comp_id, saying, settled,
-    turned,
-};
-use own::{is_test_id, own_gate};
+pub use gates::{LEAST_ROOM, LIMIT, is_spent};
+use gates::{logon_gate, own_gate, step_gate, test_gate, tick_gate};
+use moves::{Letter, Record, Status, closing, holds, is_comp_id, saying};
 use places::{is_store, zero_store};
 pub use played::unchanged;
 use played::{beating, play, say};
 use rulebook::{active, waiting};
 
-// Why a call changed nothing, or closed the session.
-#[derive(Clone, Copy)]
+// Why a call changed nothing, or closed the session, by the document's numbers.
+#[derive(Clone, Copy, PartialEq, Eq, Debug)]
 pub enum Refusal {
-    SessionClosed,
-    NotLogon,
-    BadLogon,
-    NumbersSpent,
-    BufferShort,
-    TimePast,
-    BadValue,
-    NoRoom,
-    NotOneFrame,
-    BadRecord,
-    ReportTooLong,
-    Replaying,
-    BadStore,
+    SessionClosed = 2,
+    NotLogon = 3,
+    BadLogon = 4,
+    NumbersSpent = 5,
+    BufferShort = 6,
+    TimePast = 7,
+    BadValue = 8,
+    NoRoom = 9,
+    NotOneFrame = 10,
+    BadRecord = 11,
+    ReportTooLong = 12,
+    Replaying = 13,
+    BadStore = 14,
 }
 
-// The document's number of a refusal.
-pub fn refusal_number(k: Refusal) -> u32
-    ensures { result ≡ No k }
-{
-    match k {
-        Refusal::SessionClosed => 2,
-        Refusal::NotLogon => 3,
-        Refusal::BadLogon => 4,
-        Refusal::NumbersSpent => 5,
-        Refusal::BufferShort => 6,
-        Refusal::TimePast => 7,
-        Refusal::BadValue => 8,
-        Refusal::NoRoom => 9,
-        Refusal::NotOneFrame => 10,
-        Refusal::BadRecord => 11,
-        Refusal::ReportTooLong => 12,
-        Refusal::Replaying => 13,
-        Refusal::BadStore => 14,
+impl Refusal {
+    // The refusal, where its test holds: a list of the document's is a chain of these.
+    pub fn when(self, test: bool) -> Result<(), Refusal>
+        ensures { Shuts result (Refused self when test) }
+    {
+        if test {
+            return Err(self);
+        }
+        Ok(())
     }
 }
 
-// What a call answers.
-#[derive(Clone, Copy)]
-pub enum Answer {
+// The document's number of a refusal.
+impl From<Refusal> for u32 {
+    ghost from_gives = { λ k n. n ≡ No k };
+
+    fn from(k: Refusal) -> u32 {
+        k as u32
+    }
+}
+
+// What a call that is not refused did.
+#[derive(Clone, Copy, PartialEq, Eq, Debug)]
+pub enum Success {
     Done,
     // The frame is to be given to the application.
     Delivered,
     // Nothing is due: no Heartbeat, no message of a replay.
     NothingDue,
-    Refused(Refusal),
 }
 
-// What a call leaves: its answer, the record, and how many bytes of the buffer are the reply.
+pub type Answer = Result<Success, Refusal>;
+
+// What a call leaves: its answer, the record, and how many bytes of the buffer are the reply. No Result of its own: a refusal leaves a record too.
 #[derive(Clone, Copy)]
 pub struct Answered {
     pub answer: Answer,
@@ -91,34 +87,17 @@ pub struct Answered {
     pub len: usize,
 }
 
-// Whether a refusal stands before the moves.
-#[derive(Clone, Copy)]
-pub enum Gate {
-    Open,
-    Shut(Refusal),
-}
-
 // A refusal: the session is Closed under 3, 4 and 5, and unchanged under the others.
-fn refused(r: Record, k: Refusal) -> Answered
+pub fn refused(r: Record, k: Refusal) -> Answered
     ensures { result ≡ answered_by r (refusing k (session_of r) []) }
 {
-    let answer = Answer::Refused(k);
-    let closed = turned(r, Status::Closed);
-    match k {
-        Refusal::SessionClosed => unchanged(r, answer),
-        Refusal::NotLogon => unchanged(closed, answer),
-        Refusal::BadLogon => unchanged(closed, answer),
-        Refusal::NumbersSpent => unchanged(closed, answer),
-        Refusal::BufferShort => unchanged(r, answer),
-        Refusal::TimePast => unchanged(r, answer),
-        Refusal::BadValue => unchanged(r, answer),
-        Refusal::NoRoom => unchanged(r, answer),
-        Refusal::NotOneFrame => unchanged(r, answer),
-        Refusal::BadRecord => unchanged(r, answer),
-        Refusal::ReportTooLong => unchanged(r, answer),
-        Refusal::Replaying => unchanged(r, answer),
-        Refusal::BadStore => unchanged(r, answer),
+    if matches!(
+        k,
+        Refusal::NotLogon | Refusal::BadLogon | Refusal::NumbersSpent
+    ) {
+        return unchanged(r.turned(Status::Closed), Err(k));
     }
+    unchanged(r, Err(k))
 }
 
 // A logon that was not refused; if it is accepted with 141=Y the store is zeroed.
@@ -128,11 +107,9 @@ fn logging_on(r: Record, body: &[u8], time: u64, buf: &mut [u8], store: &mut [u8
     ensures moved { Leaves r (moves_on (session_of r) body.now time buf.old) result buf.new }
     ensures stored { store.new ≡ store_by (session_of r) body.now (moves_on (session_of r) body.now time buf.old) store.old }
 {
-    let p = settled(waiting(r, body, time));
+    let p = waiting(r, body, time).settled();
     let left = say(r, p, body, time, buf);
-    let after = left.after;
-    let st = after.status;
-    if !is_active(st) {
+    if left.after.status != Status::Active {
         return left;
     }
     if !holds(body, 141, b"Y") {
@@ -149,21 +126,17 @@ fn moving(r: Record, body: &[u8], time: u64, buf: &mut [u8], store: &mut [u8]) -
     ensures moved { Leaves r (moves_on (session_of r) body.now time buf.old) result buf.new }
     ensures stored { store.new ≡ store_by (session_of r) body.now (moves_on (session_of r) body.now time buf.old) store.old }
 {
-    let st = r.status;
-    match st {
-        Status::Waiting => {
-            let gate = logon_gate(r, body);
-            match gate {
-                Gate::Shut(k) => refused(r, k),
-                Gate::Open => logging_on(r, body, time, buf, store),
-            }
-        }
+    match r.status {
+        Status::Waiting => match logon_gate(r, body) {
+            Err(k) => refused(r, k),
+            Ok(()) => logging_on(r, body, time, buf, store),
+        },
         Status::Active => {
-            let p = settled(active(r, body, time));
+            let p = active(r, body, time).settled();
             play(r, p, body, time, buf)
         }
         // It was refused before.
-        Status::Closed => unchanged(r, Answer::Done),
+        Status::Closed => unchanged(r, Ok(Success::Done)),
     }
 }
 
@@ -172,70 +145,41 @@ pub fn step(r: Record, frame: &[u8], time: u64, buf: &mut [u8], store: &mut [u8]
     ensures { LeavesStore r (step (session_of r) frame.now time buf.old store.old) (store_after (session_of r) frame.now time buf.old store.old) result buf.new store.new }
 {
     let body = body_of(frame);
-    let gate = step_gate(r, is_store(store), 0 < body.len(), time, buf.len());
-    match gate {
-        Gate::Shut(k) => refused(r, k),
-        Gate::Open => moving(r, body, time, buf, store),
+    match step_gate(r, is_store(store), body.is_some(), time, buf.len()) {
+        Err(k) => refused(r, k),
+        Ok(()) => moving(r, body.unwrap(), time, buf, store),
     }
-}
-
-// Whether the interval is past. A clock that went back is never past it.
-fn is_due(r: Record, time: u64) -> bool
-    requires { r.heartbeat ≤ 60 }
-    ensures { result ≡ due (session_of r) time }
-{
-    if time < r.sent {
-        return false;
-    }
-    r.heartbeat * 1_000_000 <= time - r.sent
 }
 
 // A reconnect sets Waiting and keeps the numbers.
 pub fn reconnect(r: Record) -> Answered
     ensures { result ≡ answered_by r (reconnect (session_of r)) }
 {
-    if !in_range(r) {
+    if !r.in_range() {
         return refused(r, Refusal::BadRecord);
     }
-    unchanged(turned(r, Status::Waiting), Answer::Done)
+    unchanged(r.turned(Status::Waiting), Ok(Success::Done))
 }
 
 // A tick: a Heartbeat if one is due.
-#[tactic(auto, using(crate::proofs::Ticking::ticking))]
 pub fn tick(r: Record, time: u64, buf: &mut [u8]) -> Answered
     ensures { Leaves r (tick (session_of r) time buf.old) result buf.new }
 {
-    if !in_range(r) {
-        return refused(r, Refusal::BadRecord);
+    match tick_gate(r, time, buf.len()) {
+        Err(k) => refused(r, k),
+        Ok(false) => unchanged(r, Ok(Success::NothingDue)),
+        Ok(true) => beating(r, time, buf),
     }
-    if 253_402_300_800_000_000 <= time {
-        return refused(r, Refusal::TimePast);
-    }
-    if buf.len() < 600 {
-        return refused(r, Refusal::BufferShort);
-    }
-    let st = r.status;
-    if !is_active(st) {
-        return unchanged(r, Answer::NothingDue);
-    }
-    if is_spent(r) {
-        return refused(r, Refusal::NumbersSpent);
-    }
-    if !is_due(r, time) {
-        return unchanged(r, Answer::NothingDue);
-    }
-    beating(r, time, buf)
 }
 
 // The venue logs the member out: our Logout, and the session is Closed.
 pub fn logout(r: Record, time: u64, buf: &mut [u8]) -> Answered
     ensures { Leaves r (logout (session_of r) time buf.old) result buf.new }
 {
-    let gate = own_gate(r, time, buf.len());
-    match gate {
-        Gate::Shut(k) => refused(r, k),
-        Gate::Open => {
-            let p = closing(r, Letter::Logout { why: 101 }, Letter::Nothing, r.expected);
+    match own_gate(r, time, buf.len()) {
+        Err(k) => refused(r, k),
+        Ok(()) => {
+            let p = closing(r, 101, r.expected);
             say(r, p, b"", time, buf)
         }
     }
@@ -245,14 +189,10 @@ pub fn logout(r: Record, time: u64, buf: &mut [u8]) -> Answered
 pub fn test_request(r: Record, id: &[u8], time: u64, buf: &mut [u8]) -> Answered
     ensures { Leaves r (test_request (session_of r) id.now time buf.old) result buf.new }
 {
-    let gate = own_gate(r, time, buf.len());
-    match gate {
-        Gate::Shut(k) => refused(r, k),
-        Gate::Open => {
-            if !is_test_id(id) {
-                return refused(r, Refusal::BadValue);
-            }
-            let p = saying(r, Letter::Test, Letter::Nothing);
+    match test_gate(r, id, time, buf.len()) {
+        Err(k) => refused(r, k),
+        Ok(()) => {
+            let p = saying(r, Letter::Test);
             say(r, p, id, time, buf)
         }
     }
@@ -262,25 +202,8 @@ pub fn test_request(r: Record, id: &[u8], time: u64, buf: &mut [u8]) -> Answered
 pub fn new(ours: &[u8], peer: &[u8]) -> Answered
     ensures { result ≡ answered_new (new ours.now peer.now) }
 {
-    if !is_comp_id(ours) {
-        return unchanged(blank(), Answer::Refused(Refusal::BadRecord));
+    if is_comp_id(ours) && is_comp_id(peer) {
+        return unchanged(begun(ours, peer, Status::Waiting), Ok(Success::Done));
     }
-    if !is_comp_id(peer) {
-        return unchanged(blank(), Answer::Refused(Refusal::BadRecord));
-    }
-    let r = Record {
-        ours: in_eleven(ours),
-        oursLen: ours.len(),
-        peer: in_eleven(peer),
-        peerLen: peer.len(),
-        status: Status::Waiting,
-        expected: 1,
-        next: 1,
-        heartbeat: 30,
-        sent: 0,
-        at: 0,
-        to: 0,
-        gap: no_gap(),
-    };
-    unchanged(r, Answer::Done)
+    unchanged(begun(b"", b"", Status::Closed), Err(Refusal::BadRecord))
 }

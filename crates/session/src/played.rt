@@ -4,17 +4,17 @@ ghost use Rattle.calendar.specs.Time.{limit};
 ghost use Rattle.message.specs.Message.{absent};
 ghost use Rattle.moves.specs.Moves.{Heartbeat, Write};
 ghost use Rattle.gap.specs.Held.{gap_of};
-ghost use Rattle.moves.specs.Held.{session_of, with};
+ghost use Rattle.moves.specs.Held.{session_of, replay_of, with};
 ghost use Rattle.moves.specs.code.Plan.{changed, planned, Ready};
 ghost use Rattle.letters.specs.code.Put.{AllPut};
-ghost use Rattle.session.specs.declared.Answer.TheVariants as Answer;
+ghost use Rattle.session.specs.Answer.{Delivered, Done};
 ghost use Rattle.session.specs.Calls.{making};
 ghost use Rattle.session.specs.Held.{Leaves};
 ghost use Rattle.session.specs.code.Played.{outcome_of, Spoken};
 
-use crate::{Answer, Answered};
+use crate::{Answer, Answered, Success};
 use letters::{beat, stamped};
-use moves::{Plan, Record, changed, is_quiet, next_after};
+use moves::{Plan, Record, next_after};
 
 pub fn unchanged(r: Record, answer: Answer) -> Answered
     ensures { result ≡ record { answer = answer; after = r; len = 0 } }
@@ -26,31 +26,29 @@ pub fn unchanged(r: Record, answer: Answer) -> Answered
     }
 }
 
-pub fn answer_of(delivered: bool) -> Answer
-    ensures { result ≡ cond delivered Answer.Delivered Answer.Done }
+fn answer_of(delivered: bool) -> Answer
+    ensures { result ≡ cond delivered Delivered Done }
 {
     if delivered {
-        return Answer::Delivered;
+        return Ok(Success::Delivered);
     }
-    Answer::Done
+    Ok(Success::Done)
 }
 
 // The record as a plan leaves it.
 fn left(r: Record, p: Plan, next: u64, sent: u64) -> Record
-    ensures { result ≡ with r (changed (session_of r) p.status p.expected next p.heartbeat sent (record { at = p.at; to = p.to }) (gap_of p.gap)) }
+    ensures { result ≡ with r (changed (session_of r) p.status p.expected next p.heartbeat sent (replay_of p.replay) (gap_of p.gap)) }
 {
-    let st = p.status;
-    changed(
-        r,
-        st,
-        p.expected,
+    Record {
+        status: p.status,
+        expected: p.expected,
         next,
-        p.heartbeat,
+        heartbeat: p.heartbeat,
         sent,
-        p.at,
-        p.to,
-        p.gap,
-    )
+        replay: p.replay,
+        gap: p.gap,
+        ..r
+    }
 }
 
 // A plan with a message, carried out: what it says is put, and the record changed.
@@ -59,13 +57,13 @@ pub fn say(r: Record, p: Plan, body: &[u8], time: u64, buf: &mut [u8]) -> Answer
     requires in_bounds { (512 ≤ length buf.old) × (time < limit) × AllPut (planned body.now (session_of r) p).letters × Spoken (planned body.now (session_of r) p).letters }
     ensures { Leaves r (outcome_of time (session_of r) (planned body.now (session_of r) p) buf.old) result buf.new }
 {
-    let first = p.first;
-    let second = p.second;
-    let answer = answer_of(p.delivered);
-    let next = next_after(second, next_after(first, r.next));
-    let len = stamped(r, first, second, body, time, buf);
-    let after = left(r, p, next, time);
-    Answered { answer, after, len }
+    let next = next_after(p.second, next_after(p.first, r.next));
+    let len = stamped(r, p.first, p.second, body, time, buf);
+    Answered {
+        answer: answer_of(p.delivered),
+        after: left(r, p, next, time),
+        len,
+    }
 }
 
 // Any plan, carried out. One that writes nothing needs no time in words.
@@ -74,11 +72,8 @@ pub fn play(r: Record, p: Plan, body: &[u8], time: u64, buf: &mut [u8]) -> Answe
     requires in_bounds { (512 ≤ length buf.old) × (time < limit) × AllPut (planned body.now (session_of r) p).letters }
     ensures { Leaves r (outcome_of time (session_of r) (planned body.now (session_of r) p) buf.old) result buf.new }
 {
-    let first = p.first;
-    let second = p.second;
-    if is_quiet(first, second) {
-        let answer = answer_of(p.delivered);
-        return unchanged(left(r, p, r.next, r.sent), answer);
+    if p.is_quiet() {
+        return unchanged(left(r, p, r.next, r.sent), answer_of(p.delivered));
     }
     say(r, p, body, time, buf)
 }
@@ -88,23 +83,14 @@ pub fn beating(r: Record, time: u64, buf: &mut [u8]) -> Answered
     requires { Ready r × (512 ≤ length buf.old) × (time < limit) }
     ensures { Leaves r (making time (session_of r) (Write (Heartbeat absent) ∷ []) buf.old) result buf.new }
 {
-    let st = r.status;
-    let next = r.next + 1;
     let len = beat(r, time, buf);
-    let after = changed(
-        r,
-        st,
-        r.expected,
-        next,
-        r.heartbeat,
-        time,
-        r.at,
-        r.to,
-        r.gap,
-    );
     Answered {
-        answer: Answer::Done,
-        after,
+        answer: Ok(Success::Done),
+        after: Record {
+            next: r.next + 1,
+            sent: time,
+            ..r
+        },
         len,
     }
 }

@@ -11,18 +11,6 @@ use Rattle.report.specs.Layout.{values_given}
 use Rattle.reporting.proofs.Sends.{head_some, body_put}
 use Rattle.reporting.proofs.put_body.Goals as goal
 
-pub slice_bounds-ours-end : goal.slice_bounds-ours-end
-slice_bounds-ours-end c = let e : length c.args.r.ours ≡ 11 = search rules in omega (arith, c.requires.0.ours)
-
-pub slice_bounds-put_head-end : goal.slice_bounds-put_head-end
-slice_bounds-put_head-end c = let e : length c.args.r.ours ≡ 11 = search rules in sym (length-take-le _ _ (omega (arith, c.requires.0.ours)))
-
-pub slice_bounds-peer-end : goal.slice_bounds-peer-end
-slice_bounds-peer-end c = let e : length c.args.r.peer ≡ 11 = search rules in omega (arith, c.requires.0.peer)
-
-pub slice_bounds-put_head-end-2 : goal.slice_bounds-put_head-end-2
-slice_bounds-put_head-end-2 c = let e : length c.args.r.peer ≡ 11 = search rules in sym (length-take-le _ _ (omega (arith, c.requires.0.peer)))
-
 pub put_head-a-requires : goal.put_head-a-requires
 put_head-a-requires c =
     let P = c.requires in
@@ -43,4 +31,4 @@ returns c =
     let a = c.args in
     let P = c.requires in
     let h = c.put_head-a.ensures in
-    body_put (session_of a.r) (values_given a.values.now a.text.now) a.time (sym (held_is a.r.oursLen a.r.ours P.0.ours)) (sym (held_is a.r.peerLen a.r.peer P.0.peer)) (c.utc-stamp.ensures ∙ utc_before _ P.1) (omega (arith, h.bytes.next, head_some (take a.r.oursLen a.r.ours) (take a.r.peerLen a.r.peer) a.r.next c.utc-stamp.result)) h.bytes c.put_own.ensures
+    body_put (session_of a.r) (values_given a.given.words.now a.given.text.now) a.time (sym (held_is a.r.oursLen a.r.ours P.0.ours)) (sym (held_is a.r.peerLen a.r.peer P.0.peer)) (c.utc-stamp.ensures ∙ utc_before _ P.1) (omega (arith, h.bytes.next, head_some (take a.r.oursLen a.r.ours) (take a.r.peerLen a.r.peer) a.r.next c.utc-stamp.result)) h.bytes c.put_own.result c.put_own.ensures

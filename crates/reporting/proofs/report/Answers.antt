@@ -1,36 +1,30 @@
 -- `report`: 11, 13, 14, 7, 2, 5, or what the values come to.
-use mathlib.Core.Bool.{not}
-use mathlib.Core.Path.{ap}
 use mathlib.Core.Path.{sym, ◌∙◌}
+use Rattle.moves.specs.Held.{session_of}
 use Rattle.report.specs.Layout.{values_given}
-use Rattle.reporting.proofs.Gates.{report_11, report_13, report_14, report_7, report_2, report_5, report_sent, ready}
+use Rattle.session.proofs.Stepping.{ready_by}
+use Rattle.reporting.proofs.Gates.{report_shut, report_sent, opened}
 use Rattle.reporting.proofs.report.Goals as goal
 
-pub returns-then-not-in_range : goal.returns-then-not-in_range
-returns-then-not-in_range c = let a = c.args in report_11 a.r (values_given a.values.now a.text.now) a.time a.buf.now a.store.now c.in_range.ensures (ap not c.if-not-in_range.true) c.unchanged.ensures
-
-pub returns-then-r-ne0 : goal.returns-then-r-ne0
-returns-then-r-ne0 c = let a = c.args in report_13 a.r (values_given a.values.now a.text.now) a.time a.buf.now a.store.now c.in_range.ensures (ap not c.if-not-in_range.false) c.if-r-ne0.true c.unchanged-then-r-ne0.ensures
-
-pub returns-then-not-is_store : goal.returns-then-not-is_store
-returns-then-not-is_store c = let a = c.args in report_14 a.r (values_given a.values.now a.text.now) a.time a.buf.now a.store.now c.in_range.ensures (ap not c.if-not-in_range.false) c.if-r-ne0.false c.is_store.ensures (ap not c.if-not-is_store.true) c.unchanged-then-not-is_store.ensures
-
-pub returns-then-time-ge253402300800000000 : goal.returns-then-time-ge253402300800000000
-returns-then-time-ge253402300800000000 c = let a = c.args in report_7 a.r (values_given a.values.now a.text.now) a.time a.buf.now a.store.now c.in_range.ensures (ap not c.if-not-in_range.false) c.if-r-ne0.false c.is_store.ensures (ap not c.if-not-is_store.false) c.if-time-ge253402300800000000.true c.unchanged-then-time-ge253402300800000000.ensures
-
-pub returns-then-not-is_active : goal.returns-then-not-is_active
-returns-then-not-is_active c = let a = c.args in report_2 a.r (values_given a.values.now a.text.now) a.time a.buf.now a.store.now c.in_range.ensures (ap not c.if-not-in_range.false) c.if-r-ne0.false c.is_store.ensures (ap not c.if-not-is_store.false) c.if-time-ge253402300800000000.false c.is_active.ensures (ap not c.if-not-is_active.true) c.unchanged-then-not-is_active.ensures
-
-pub returns-then-is_spent : goal.returns-then-is_spent
-returns-then-is_spent c = let a = c.args in report_5 a.r (values_given a.values.now a.text.now) a.time a.buf.now a.store.now c.in_range.ensures (ap not c.if-not-in_range.false) c.if-r-ne0.false c.is_store.ensures (ap not c.if-not-is_store.false) c.if-time-ge253402300800000000.false c.is_active.ensures (ap not c.if-not-is_active.false) c.is_spent.ensures c.if-is_spent.true c.turned-closed.ensures c.unchanged-then-is_spent.ensures
+pub returns-in-Err : goal.returns-in-Err
+returns-in-Err c = let a = c.args in report_shut a.r (values_given a.given.words.now a.given.text.now) a.time a.buf.now a.store.now c.is_store.ensures c.in-Err.ensures c.refused.ensures
 
 pub send-requires : goal.send-requires
-send-requires c = (
-  ready c.args.r c.in_range.ensures (ap not c.if-not-in_range.false) c.is_spent.ensures c.if-is_spent.false,
-  sym c.in_range.ensures ∙ c.if-not-in_range.false,
-  sym c.is_store.ensures ∙ c.if-not-is_store.false,
-  c.if-time-ge253402300800000000.false,
-)
+send-requires c =
+    let P = opened (session_of c.args.r) _ _ c.in_default.ensures in
+    (ready_by c.args.r P.ranged P.unspent, P.ranged, sym c.is_store.ensures ∙ P.lent, P.timed)
 
-pub returns : goal.returns
-returns c = let a = c.args in report_sent a.r (values_given a.values.now a.text.now) a.time a.buf.now a.store.now c.in_range.ensures (ap not c.if-not-in_range.false) c.if-r-ne0.false c.is_store.ensures (ap not c.if-not-is_store.false) c.if-time-ge253402300800000000.false c.is_active.ensures (ap not c.if-not-is_active.false) c.is_spent.ensures c.if-is_spent.false c.send.ensures.sent c.send.ensures.kept
+pub reported-requires : goal.reported-requires
+reported-requires c = let P = opened (session_of c.args.r) _ _ c.in_default.ensures in ready_by c.args.r P.ranged P.unspent
+
+pub returns-in-Err-send : goal.returns-in-Err-send
+returns-in-Err-send c =
+    let a = c.args in
+    let S = c.in-Err-send.ensures in
+    report_sent a.r (values_given a.given.words.now a.given.text.now) a.time a.buf.now a.store.now c.is_store.ensures c.in_default.ensures (record { answered = c.refused-in-Err-send.ensures ∙ S.sent.answered; buffer = S.sent.buffer }) S.kept
+
+pub returns-in-Ok : goal.returns-in-Ok
+returns-in-Ok c =
+    let a = c.args in
+    let S = c.in-Ok.ensures in
+    report_sent a.r (values_given a.given.words.now a.given.text.now) a.time a.buf.now a.store.now c.is_store.ensures c.in_default.ensures (record { answered = c.reported.ensures ∙ S.sent.answered; buffer = S.sent.buffer }) S.kept

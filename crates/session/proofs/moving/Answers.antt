@@ -16,7 +16,7 @@ use Rattle.session.proofs.moving.Goals as goal
 pub logging_on-requires : goal.logging_on-requires
 logging_on-requires c =
     let st = c.in-Waiting.is in
-    record { ready = (c.requires.ready.0, c.requires.ready.1, st, let_in (session_of c.args.r) c.args.body.now st c.logon_gate-gate.ensures c.in-Open.is); in_bounds = c.requires.in_bounds }
+    record { ready = (c.requires.ready.0, c.requires.ready.1, st, let_in (session_of c.args.r) c.args.body.now st c.in-Ok.ensures); in_bounds = c.requires.in_bounds }
 
 pub play-requires : goal.play-requires
 play-requires c =
@@ -24,10 +24,10 @@ play-requires c =
     let f = active_fit a.time (session_of a.r) a.body.now (ample a.r c.requires.ready.0) (λ i. omega (arith, c.shared_slice_known-1.given i)) c.in-Active.is in
     record { ready = c.requires.ready.0; in_bounds = (omega (arith, c.requires.in_bounds.0), c.requires.in_bounds.1, settled_fits a.time (session_of a.r) a.body.now c.active.result (active (session_of a.r) a.body.now a.time) c.settled-p.ensures c.active.ensures f) }
 
-pub returns-in-Shut : goal.returns-in-Shut
-returns-in-Shut c =
+pub returns-in-Err : goal.returns-in-Err
+returns-in-Err c =
     let a = c.args in
-    let e = wait_shut (session_of a.r) a.body.now a.time a.buf.now c.in-Waiting.is c.logon_gate-gate.ensures c.in-Shut.is in
+    let e = wait_shut (session_of a.r) a.body.now a.time a.buf.now c.in-Waiting.is c.in-Err.ensures in
     record { moved = made_by a.r (sym e) (record { answered = c.refused.ensures; buffer = refl }); stored = refusal_stays (session_of a.r) a.body.now a.buf.now a.store.now e }
 
 pub returns-in-Active : goal.returns-in-Active

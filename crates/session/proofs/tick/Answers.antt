@@ -1,33 +1,32 @@
--- `tick`: 11, 7, 6, the status, 5, and whether a Heartbeat is due.
-use mathlib.Core.Bool.{not}
-use mathlib.Core.Path.{ap}
-use Rattle.session.proofs.Ticking.{tick_11, tick_7, tick_6, tick_idle, tick_beat}
-use Rattle.session.proofs.Stepping.{ranged_is, ready_by}
-use mathlib.Core.Path.{sym, ◌∙◌}
+-- `tick`: a refusal, nothing due, or the Heartbeat.
+use mathlib.Core.List.{[], ◌∷◌}
+use mathlib.Core.Path.{refl}
 use native.Mathlib.Omega.{arith}
+use lib.ListN.{length}
+use Rattle.message.specs.Message.{absent}
+use Rattle.moves.specs.Moves.{Heartbeat, Write}
+use Rattle.moves.specs.Held.{session_of}
+use Rattle.session.specs.Calls.{unticked, tick}
+use Rattle.session.proofs.Ticking.{ticks_by, tick_still}
+use Rattle.session.proofs.Venue.{ready_to, own_shut, own_made}
 use Rattle.session.proofs.tick.Goals as goal
 
-pub returns-then-not-in_range : goal.returns-then-not-in_range
-returns-then-not-in_range c = tick_11 c.args.r c.args.time c.args.buf.now c.in_range.ensures (ap not c.if-not-in_range.true) c.refused.ensures
+pub returns-in-Err : goal.returns-in-Err
+unfolding tick
+returns-in-Err c =
+    let a = c.args in
+    own_shut a.r (unticked (session_of a.r) a.time (length a.buf.now)) a.time (Write (Heartbeat absent) ∷ []) a.buf.now c.in-Err.ensures c.refused.ensures
 
-pub returns-then-time-ge253402300800000000 : goal.returns-then-time-ge253402300800000000
-returns-then-time-ge253402300800000000 c = tick_7 c.args.r c.args.time c.args.buf.now c.in_range.ensures (ap not c.if-not-in_range.false) c.if-time-ge253402300800000000.true c.refused-then-time-ge253402300800000000.ensures
-
-pub returns-then-buf-lt600 : goal.returns-then-buf-lt600
-returns-then-buf-lt600 c = tick_6 c.args.r c.args.time c.args.buf.now c.in_range.ensures (ap not c.if-not-in_range.false) c.if-time-ge253402300800000000.false c.if-buf-lt600.true c.refused-then-buf-lt600.ensures
-
-pub returns-then-not-is_active : goal.returns-then-not-is_active
-returns-then-not-is_active c = tick_idle c.args.r c.args.time c.args.buf.now c.in_range.ensures (ap not c.if-not-in_range.false) c.if-time-ge253402300800000000.false c.if-buf-lt600.false c.is_active.ensures (ap not c.if-not-is_active.true) c.unchanged.ensures
-
-pub is_due-requires : goal.is_due-requires
-is_due-requires c = (ranged_is _ (sym c.in_range.ensures ∙ c.if-not-in_range.false)).heartbeat.1
+pub returns-in-Ok-false : goal.returns-in-Ok-false
+returns-in-Ok-false c = tick_still c.args.r c.args.time c.args.buf.now (rw c.in-Ok-false.field-0-test at c.in-Ok-false.ensures) c.unchanged.ensures
 
 pub beating-requires : goal.beating-requires
 beating-requires c =
-    let R = ready_by c.args.r (sym c.in_range.ensures ∙ c.if-not-in_range.false) (cc) in
-    (R, omega (arith, c.if-buf-lt600.false), c.if-time-ge253402300800000000.false)
+    let S = ticks_by (session_of c.args.r) _ _ (rw c.in-Ok-true.field-0-test at c.in-Ok-true.ensures) in
+    (ready_to c.args.r S, omega (arith, S.roomy), S.timed)
 
-pub returns : goal.returns
-returns c =
+pub returns-in-Ok-true : goal.returns-in-Ok-true
+unfolding tick
+returns-in-Ok-true c =
     let a = c.args in
-    tick_beat a.r a.time a.buf.now c.in_range.ensures (ap not c.if-not-in_range.false) c.if-time-ge253402300800000000.false c.if-buf-lt600.false c.is_active.ensures (ap not c.if-not-is_active.false) c.is_spent.ensures (cc) c.is_due.ensures (ap not c.if-not-is_due.false) c.beating.ensures
+    own_made a.r (unticked (session_of a.r) a.time (length a.buf.now)) a.time (Write (Heartbeat absent) ∷ []) a.buf.now (rw c.in-Ok-true.field-0-test at c.in-Ok-true.ensures) refl c.beating.ensures

@@ -1,5 +1,5 @@
 -- What a plan leaves as the code plays it, and what the code's gates answer. Only the code needs these: nothing here states document 01.
-use Rattle.std.specs.Prelude.{ℕ, List, [], ◌∷◌, cond, not}
+use Rattle.std.specs.Prelude.{ℕ, ◌≡◌, List, [], ◌∷◌, Bool, true, false, cond, not, Result, Ok, Err}
 use Rattle.std.proofs.Math.Option.{Option, none, some}
 use Rattle.octets.specs.Bytes.{Bytes}
 use Rattle.calendar.specs.Time.{utc}
@@ -10,16 +10,24 @@ use Rattle.moves.specs.Moves.{type, acceptable}
 use Rattle.moves.specs.code.Plan.{changed, Sum}
 use Rattle.letters.specs.code.Put.{bytes_of}
 use Rattle.session.specs.Calls.{Outcome, over}
-use Rattle.session.specs.declared.Answer.{Answer}
-use Rattle.session.specs.declared.Answer.TheVariants.{Done, Delivered, Refused}
+use Rattle.session.specs.declared.Refusal.{Refusal}
+use Rattle.session.specs.Answer.{Answer, Done, Delivered, NothingDue, Refused}
 use Rattle.session.specs.declared.Refusal.TheVariants.{NotLogon, BadLogon}
-use Rattle.session.specs.declared.Gate.{Gate}
-use Rattle.session.specs.declared.Gate.TheVariants.{Open, Shut}
 
 -- whether a refusal stands before the moves
-abbrev pub shut : Gate → Option Answer
-shut Open = none
-shut (Shut r) = some (Refused r)
+abbrev pub shut : {A : Type 0} → Result A Refusal → Option Answer
+shut (Ok x) = none
+shut (Err k) = some (Refused k)
+
+-- a test of a list shuts with this refusal, or lets pass
+abbrev pub Shuts : Result (Unit {0}) Refusal → Option Answer → Type 0
+Shuts r a = shut r ≡ a
+
+-- of a tick: whether a refusal does, or nothing is due
+abbrev pub stilled : Result Bool Refusal → Option Answer
+stilled (Ok true) = none
+stilled (Ok false) = some NothingDue
+stilled (Err k) = some (Refused k)
 
 -- while Waiting: the refusal of a frame, if it is refused
 unfoldable pub turning_away : Session → Bytes → Option Answer

@@ -12,7 +12,4 @@ pub returns-in-End : goal.returns-in-End
 returns-in-End c = field_is _ _ c.field_at.ensures c.in-End.is
 
 pub returns-in-NoBody : goal.returns-in-NoBody
-returns-in-NoBody c = field_is _ _ c.field_at.ensures c.in-NoBody.is
-
-pub field_at-requires : goal.field_at-requires
-field_at-requires c = tt
+returns-in-NoBody c = let a = c.args in rw (c.refuse.ensures.0, c.refuse.ensures.1) (field_is a.body.now a.at c.field_at.ensures c.in-NoBody.is)

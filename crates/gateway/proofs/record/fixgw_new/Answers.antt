@@ -3,7 +3,7 @@ use Rattle.gateway.proofs.Calls.{new_unwritten, new_short, new_left}
 use Rattle.gateway.proofs.record.fixgw_new.Goals as goal
 
 pub returns-then-words-ne24 : goal.returns-then-words-ne24
-returns-then-words-ne24 c = new_unwritten _ _ _ _ c.if-words-ne24.true
+returns-then-words-ne24 c = let a = c.args in rw c.from.ensures (new_unwritten a.ids.now a.words.now a.us.now a.them.now c.if-words-ne24.true)
 
 pub save_new-requires : goal.save_new-requires
 save_new-requires c = (c.if-words-ne24.false, new_short _ _ c.new-left.ensures)

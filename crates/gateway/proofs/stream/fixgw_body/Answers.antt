@@ -1,15 +1,13 @@
 -- `fixgw_body`: no body, or where it lies.
-use Rattle.gateway.proofs.Bodies.{body-room, body-found, body_none}
+use Rattle.gateway.specs.Border.{no_frame}
+use Rattle.gateway.proofs.Bodies.{body-room, body-found}
 use Rattle.gateway.proofs.stream.fixgw_body.Goals as goal
 
-pub returns-then-n-eq0 : goal.returns-then-n-eq0
-returns-then-n-eq0 c = body_none c.body_of-n.ensures c.if-n-eq0.true
+pub returns-in_default : goal.returns-in_default
+returns-in_default c = rw (c.refuse.ensures.0, c.refuse.ensures.1) (no_frame c.in_default.ensures.none)
 
 pub overflow_sub-start : goal.overflow_sub-start
-overflow_sub-start c = body-room c.body_of-n.ensures c.if-n-eq0.false
+overflow_sub-start c = body-room c.in-Some.ensures.some
 
 pub returns : goal.returns
-returns c = body-found c.body_of-n.ensures c.if-n-eq0.false
-
-pub body_of-n-requires : goal.body_of-n-requires
-body_of-n-requires c = tt
+returns c = body-found c.in-Some.ensures.some

@@ -2,11 +2,8 @@
 use Rattle.gateway.proofs.Readings.{read-frame, read_none}
 use Rattle.gateway.proofs.stream.fixgw_read.Goals as goal
 
-pub returns-in-Frame : goal.returns-in-Frame
-returns-in-Frame c = read-frame c.in-Frame.is c.reading_of.ensures
+pub returns-in-Ok : goal.returns-in-Ok
+returns-in-Ok c = read-frame c.in-Ok.is c.reading_of.ensures
 
-pub returns-in-NoFrame : goal.returns-in-NoFrame
-returns-in-NoFrame c = read_none c.in-NoFrame.is c.reading_of.ensures
-
-pub reading_of-requires : goal.reading_of-requires
-reading_of-requires c = tt
+pub returns-in-Err : goal.returns-in-Err
+returns-in-Err c = read_none c.in-Err.is c.reading_of.ensures

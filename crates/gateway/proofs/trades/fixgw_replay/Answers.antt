@@ -1,37 +1,21 @@
 -- `fixgw_replay`: no record in the words, or a replay call on it.
-use mathlib.Core.Path.{refl, sym, ◌∙◌}
-use Rattle.border.proofs.Keeping.{no_record, record_length}
+use mathlib.Core.Path.{sym, ◌∙◌}
+use Rattle.border.specs.Record.{record_in}
+use Rattle.border.proofs.Keeping.{record_length, told_none, told_some}
 use Rattle.gateway.proofs.Calls.{replay_unread, replay_left}
 use Rattle.gateway.proofs.trades.fixgw_replay.Goals as goal
 
-pub returns-then-not-is_record : goal.returns-then-not-is_record
-returns-then-not-is_record c =
+pub returns-in_default : goal.returns-in_default
+returns-in_default c =
     let a = c.args in
-    replay_unread a.ids.now a.words.now (no_record a.words.now a.ids.now (sym c.is_record.ensures ∙ c.if-not-is_record.true)) a.time a.buf.now a.store.now
+    rw (c.refuse.ensures.0, c.refuse.ensures.1) (replay_unread a.ids.now a.words.now (told_none (record_in a.ids.now a.words.now) (sym c.in_default.is ∙ c.load.ensures)) a.time a.buf.now a.store.now)
 
-pub load-requires : goal.load-requires
-load-requires c = sym c.is_record.ensures ∙ c.if-not-is_record.false
-
-pub leave-requires : goal.leave-requires
-leave-requires c = record_length c.args.words.now (sym c.is_record.ensures ∙ c.if-not-is_record.false)
+pub replied-requires : goal.replied-requires
+replied-requires c = let a = c.args in record_length a.words.now a.ids.now c.in-Some.r (told_some (record_in a.ids.now a.words.now) c.in-Some.r c.in-Some.ensures)
 
 pub returns : goal.returns
 returns c =
     let a = c.args in
-    let left = c.leave.ensures in
-    replay_left a.ids.now a.words.now c.load.ensures left.0 left.1 a.time a.buf.now a.store.now c.replay-left.ensures
-
-pub is_record-requires : goal.is_record-requires
-is_record-requires c = tt
-
-pub shape_of-words-then-not-is_record : goal.shape_of-words-then-not-is_record
-shape_of-words-then-not-is_record c = refl
-
-pub replay-left-requires : goal.replay-left-requires
-replay-left-requires c = tt
-
-pub shape_of-words : goal.shape_of-words
-shape_of-words c = c.words-1.given
-
-pub shape_of-buf : goal.shape_of-buf
-shape_of-buf c = c.buf-1.given
+    let left = c.replied.ensures in
+    let r = told_some (record_in a.ids.now a.words.now) c.in-Some.r c.in-Some.ensures in
+    rw c.replied.ensures.2 (replay_left a.ids.now a.words.now r left.0 left.1 a.time a.buf.now a.store.now c.replay.ensures)

@@ -1,23 +1,21 @@
 -- `fixgw_report`: no record in the words, or a report of it.
 use mathlib.Core.Path.{sym, ◌∙◌}
-use Rattle.border.proofs.Keeping.{no_record, record_length}
+use Rattle.border.specs.Record.{record_in}
+use Rattle.border.proofs.Keeping.{record_length, told_none, told_some}
 use Rattle.gateway.proofs.Calls.{report_unread, report_left}
 use Rattle.gateway.proofs.trades.fixgw_report.Goals as goal
 
-pub returns-then-not-is_record : goal.returns-then-not-is_record
-returns-then-not-is_record c =
+pub returns-in_default : goal.returns-in_default
+returns-in_default c =
     let a = c.args in
-    report_unread a.ids.now a.words.now (no_record a.words.now a.ids.now (sym c.is_record.ensures ∙ c.if-not-is_record.true)) a.values.now a.text.now a.time a.buf.now a.store.now
+    rw (c.refuse.ensures.0, c.refuse.ensures.1) (report_unread a.ids.now a.words.now (told_none (record_in a.ids.now a.words.now) (sym c.in_default.is ∙ c.load.ensures)) a.values.now a.text.now a.time a.buf.now a.store.now)
 
-pub load-requires : goal.load-requires
-load-requires c = sym c.is_record.ensures ∙ c.if-not-is_record.false
-
-pub leave-requires : goal.leave-requires
-leave-requires c = record_length c.args.words.now (sym c.is_record.ensures ∙ c.if-not-is_record.false)
+pub replied-requires : goal.replied-requires
+replied-requires c = let a = c.args in record_length a.words.now a.ids.now c.in-Some.r (told_some (record_in a.ids.now a.words.now) c.in-Some.r c.in-Some.ensures)
 
 pub returns : goal.returns
 returns c =
     let a = c.args in
-    let left = c.leave.ensures in
-    let reports = c.report-left.ensures in
-    report_left a.ids.now a.words.now c.load.ensures left.0 left.1 a.values.now a.text.now a.time a.buf.now a.store.now reports.leaves reports.stored
+    let left = c.replied.ensures in
+    let r = told_some (record_in a.ids.now a.words.now) c.in-Some.r c.in-Some.ensures in
+    rw c.replied.ensures.2 (report_left a.ids.now a.words.now r left.0 left.1 a.values.now a.text.now a.time a.buf.now a.store.now c.report.ensures.leaves c.report.ensures.stored)

@@ -1,15 +1,24 @@
 -- `logon_gate`: 3, then 4, or neither.
-use mathlib.Core.Bool.{not}
-use mathlib.Core.Path.{ap}
-use native.Mathlib.Omega.{arith}
-use Rattle.session.proofs.Gating.{gate_3, gate_4, gate_logon}
+use mathlib.Core.Path.{refl, ◌∙◌}
+use Rattle.octets.specs.Bytes.{fix}
+use Rattle.table.specs.Dictionary.{code35}
+use Rattle.table.specs.declared.MsgType.TheVariants as Kind
+use Rattle.dictionary.specs.Verdict.{msg_type}
+use Rattle.moves.specs.Held.{session_of}
+use Rattle.moves.proofs.Types.{kind_not}
+use Rattle.session.proofs.Gating.{handed_on, logon_3, logon_4}
 use Rattle.session.proofs.gates.logon_gate.Goals as goal
 
-pub returns-then-type_in-ne65 : goal.returns-then-type_in-ne65
-returns-then-type_in-ne65 c = gate_3 _ _ c.type_in.ensures (λ e. omega arith)
-
-pub returns-then-not-is_acceptable : goal.returns-then-not-is_acceptable
-returns-then-not-is_acceptable c = gate_4 _ _ c.type_in.ensures (omega arith) c.is_acceptable.ensures (ap not c.if-not-is_acceptable.true)
+pub returns-in_err-when : goal.returns-in_err-when
+unfolding code35
+returns-in_err-when c =
+    let body = c.args.body.now in
+    let e = kind_not _ Kind.Logon (fix "A") refl (msg_type body) c.type_in.ensures c.ne.ensures in
+    handed_on c.from_residual.result c.from_residual.ensures.1 ∙ logon_3 (session_of c.args.r) body c.ne.result e c.in_err-when.ensures
 
 pub returns : goal.returns
-returns c = gate_logon _ _ c.type_in.ensures (omega arith) c.is_acceptable.ensures (ap not c.if-not-is_acceptable.false)
+unfolding code35
+returns c =
+    let body = c.args.body.now in
+    let e = kind_not _ Kind.Logon (fix "A") refl (msg_type body) c.type_in.ensures c.ne.ensures in
+    logon_4 (session_of c.args.r) body c.ne.result e c.in_ok-when.ensures c.is_acceptable.ensures c.when-2.ensures

@@ -6,7 +6,7 @@ use Rattle.session.proofs.played.play.Goals as goal
 pub returns-then-is_quiet : goal.returns-then-is_quiet
 returns-then-is_quiet c =
     let a = c.args in
-    quiet_played a.r a.p a.time a.body.now a.buf.now c.answer_of-answer.ensures c.is_quiet.ensures c.if-is_quiet.true c.left.ensures c.unchanged.ensures
+    quiet_played a.r a.p a.time a.body.now a.buf.now c.answer_of.ensures c.is_quiet.ensures c.if-is_quiet.true c.left.ensures c.unchanged.ensures
 
 pub say-requires : goal.say-requires
 say-requires c =

@@ -6,4 +6,4 @@ pub returns : goal.returns
 returns c =
     let a = c.args in
     let w = c.stamped-len.ensures in
-    wrote_played a.r a.p a.time a.body.now a.buf.now c.answer_of-answer.ensures c.next_after.ensures.is c.next_after-next.ensures.is c.requires.ready c.requires.in_bounds.3 c.left-after.ensures c.requires.in_bounds.0 w.room w.bytes
+    wrote_played a.r a.p a.time a.body.now a.buf.now c.answer_of.ensures c.next_after.ensures.is c.next_after-next.ensures.is c.requires.ready c.requires.in_bounds.3 c.left.ensures c.requires.in_bounds.0 w.room w.bytes
