@@ -1,25 +1,20 @@
-// What the programs share: a line's words, and what they write, which is bytes with `|` for the byte 1, and numbers with a word in front.
+// What the programs share: a line's words, and what they write, which is bytes with `|` for the byte 1.
 #![tactic(auto)]
 
-mod words;
-
 use std::io;
-pub use words::{begins, behind, find};
 
+// As bytes, not as text: what was read is written back as it was.
 pub fn print_bytes(rt: &impl Print, s: &[u8]) -> io::Result<()> {
-    let mut i = 0;
-    while i < s.len() {
-        if s[i] == 1 {
-            rt.write_all(b"|")?;
-        } else {
-            rt.write_all(&s[i..i + 1])?;
-        }
-        i += 1;
+    for b in s {
+        rt.write_all(&[if *b == 1 { b'|' } else { *b }])?;
     }
     Ok(())
 }
 
-pub fn print_count(rt: &impl Print, text: &[u8], n: usize) -> io::Result<()> {
-    rt.write_all(text)?;
-    rt.print(n as u64)
+// What stands before the first space, and what stands behind it.
+pub fn cut_word(s: &[u8]) -> (&[u8], &[u8]) {
+    match s.iter().position(|b| *b == b' ') {
+        Some(k) => (&s[..k], &s[k + 1..]),
+        None => (s, &[]),
+    }
 }

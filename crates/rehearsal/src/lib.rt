@@ -2,77 +2,37 @@
 // `new OURS PEER`, `step TIME FRAME`, `tick TIME`, `replay TIME`, `reconnect`. A time is in microseconds since 1970.
 #![tactic(auto)]
 
-ghost use Rattle.std.specs.Prelude.{◌≤◌};
-
-use frame::Reading;
+use frame::Found;
 use gap::Gap;
-use moves::{Record, Status};
-use print::{begins, behind, find, print_bytes};
-use session::{Answer, Answered, refusal_number};
+use moves::Record;
+use print::{cut_word, print_bytes};
+use session::{Answer, Answered, Success};
 use std::io;
 
 // What there is before the first new session: both CompIDs are empty, and a step is refusal 11.
 pub fn nobody() -> Record {
-    let none = session::new(b"", b"");
-    none.after
-}
-
-fn print_number(rt: &impl Print, text: &[u8], n: u64) -> io::Result<()> {
-    rt.write_all(text)?;
-    rt.print(n)
+    session::new(b"", b"").after
 }
 
 fn print_answer(rt: &impl Print, answer: Answer) -> io::Result<()> {
     match answer {
-        Answer::Done => rt.write_all(b"  done"),
-        Answer::Delivered => rt.write_all(b"  delivered"),
-        Answer::NothingDue => rt.write_all(b"  nothing due"),
-        Answer::Refused(k) => print_number(rt, b"  refusal ", refusal_number(k) as u64),
+        Ok(Success::Done) => rt.print("  done"),
+        Ok(Success::Delivered) => rt.print("  delivered"),
+        Ok(Success::NothingDue) => rt.print("  nothing due"),
+        Err(refusal) => print!(rt; "  refusal {}", u32::from(refusal)),
     }
 }
 
 // The messages of a reply, each on its line.
 fn print_messages(rt: &impl Print, reply: &[u8]) -> io::Result<()> {
-    let mut at = 0;
-    while at < reply.len() {
-        match frame::reading_of(&reply[at..]) {
-            Reading::Frame { skip, len } => {
-                let start = at + skip;
-                let end = start + len;
-                rt.write_all(b"\n  sends ")?;
-                print_bytes(rt, &reply[start..end])?;
-                at = end;
-            }
-            Reading::NoFrame { drop: _ } => {
-                return Ok(());
-            }
-        }
+    let mut rest = reply;
+    while let Ok(Found { skip, len }) = frame::reading_of(rest) {
+        let (sent, behind) = rest[skip..].split_at(len);
+        rt.print("\n  sends ")?;
+        print_bytes(rt, sent)?;
+        rest = behind;
     }
     Ok(())
-}
-
-fn print_reply(rt: &impl Print, buf: &[u8], len: usize) -> io::Result<()> {
-    if buf.len() < len {
-        return Ok(());
-    }
-    print_messages(rt, &buf[..len])
-}
-
-fn print_status(rt: &impl Print, status: Status) -> io::Result<()> {
-    match status {
-        Status::Waiting => rt.write_all(b"\n  Waiting"),
-        Status::Active => rt.write_all(b"\n  Active"),
-        Status::Closed => rt.write_all(b"\n  Closed"),
-    }
-}
-
-// The place of a replay, if one is running.
-fn print_replay(rt: &impl Print, at: u64, to: u64) -> io::Result<()> {
-    if at == 0 {
-        return Ok(());
-    }
-    print_number(rt, b", replay from ", at)?;
-    print_number(rt, b" to ", to)
 }
 
 // A gap, if one is open.
@@ -80,105 +40,74 @@ fn print_gap(rt: &impl Print, g: Gap) -> io::Result<()> {
     if g.isOpen != 1 {
         return Ok(());
     }
-    print_number(rt, b", a gap for ", g.expected)?;
-    print_number(rt, b" up to ", g.highest)?;
-    rt.write_all(b", asked ")?;
-    let asked = calendar::utc(g.asked);
-    print_bytes(rt, &asked)
+    print!(rt; ", a gap for {} up to {}, asked ", g.expected, g.highest)?;
+    print_bytes(rt, &calendar::utc(g.asked))
 }
 
 fn print_record(rt: &impl Print, r: Record) -> io::Result<()> {
-    let status = r.status;
-    print_status(rt, status)?;
-    print_number(rt, b", expected ", r.expected)?;
-    print_number(rt, b", next out ", r.next)?;
-    print_number(rt, b", heartbeat ", r.heartbeat)?;
-    rt.write_all(b" s, last sent ")?;
-    let sent = calendar::utc(r.sent);
-    print_bytes(rt, &sent)?;
-    print_replay(rt, r.at, r.to)?;
+    print!(rt;
+        "\n  {:?}, expected {}, next out {}, heartbeat {} s, last sent ",
+        r.status, r.expected, r.next, r.heartbeat
+    )?;
+    print_bytes(rt, &calendar::utc(r.sent))?;
+    if r.replay.at != 0 {
+        print!(rt; ", replay from {} to {}", r.replay.at, r.replay.to)?;
+    }
     print_gap(rt, r.gap)?;
-    rt.write_all(b"\n")
+    rt.println("")
 }
 
 // A call's outcome in words, and the record to go on with.
 fn told(rt: &impl Print, a: Answered, buf: &[u8]) -> io::Result<Record> {
-    let answer = a.answer;
-    print_answer(rt, answer)?;
-    print_reply(rt, buf, a.len)?;
-    let after = a.after;
-    print_record(rt, after)?;
-    Ok(after)
+    print_answer(rt, a.answer)?;
+    if let Some(reply) = buf.get(..a.len) {
+        print_messages(rt, reply)?;
+    }
+    print_record(rt, a.after)?;
+    Ok(a.after)
 }
 
-fn wide(x: u8) -> u64
-    ensures { result ≤ 255 }
+// The outcome of a call that may write into a buffer.
+fn called<F: FnOnce(&mut [u8]) -> Answered>(rt: &impl Print, call: F) -> io::Result<Record>
+    requires { F.IsAlwaysCallable call }
 {
-    x as u64
+    let mut buf = [0u8; 600];
+    let a = call(&mut buf);
+    told(rt, a, &buf)
 }
 
-// The number that stands before the first space, of at most 19 digits. Anything else is past all times.
-fn time_of(s: &[u8]) -> u64 {
-    let k = find(s, 0, b' ');
+// The number that a word writes, of at most 19 digits. Anything else is past all times.
+fn time_of(word: &[u8]) -> u64 {
     let mut n: u64 = 0;
-    let mut i = 0;
-    while i < k {
-        let d = s[i];
-        if d < b'0' {
-            return 18_446_744_073_709_551_615;
+    for c in word {
+        if !c.is_ascii_digit() || 999_999_999_999_999_999 < n {
+            return u64::MAX;
         }
-        if b'9' < d {
-            return 18_446_744_073_709_551_615;
-        }
-        if 999_999_999_999_999_999 < n {
-            return 18_446_744_073_709_551_615;
-        }
-        n = n * 10 + wide(d - b'0');
-        i += 1;
+        n = n * 10 + u64::from(*c - b'0');
     }
     n
 }
 
-// A new session begins with a store of zeros.
-fn new(rt: &impl Print, names: &[u8], store: &mut [u8]) -> io::Result<Record> {
-    let k = find(names, 0, b' ');
-    places::zero_store(store);
-    told(rt, session::new(&names[..k], behind(names)), b"")
-}
-
-fn step(rt: &impl Print, r: Record, words: &[u8], store: &mut [u8]) -> io::Result<Record> {
-    let mut buf = [0u8; 600];
-    let a = session::step(r, behind(words), time_of(words), &mut buf, store);
-    told(rt, a, &buf)
-}
-
-fn tick(rt: &impl Print, r: Record, words: &[u8]) -> io::Result<Record> {
-    let mut buf = [0u8; 600];
-    let a = session::tick(r, time_of(words), &mut buf);
-    told(rt, a, &buf)
-}
-
-fn replay(rt: &impl Print, r: Record, words: &[u8], store: &[u8]) -> io::Result<Record> {
-    let mut buf = [0u8; 600];
-    let a = replaying::replay(r, time_of(words), &mut buf, store);
-    told(rt, a, &buf)
-}
-
-// The line's call, made on the record and its store.
+// The line's call, made on the record and its store. (A new session begins with a store of zeros.)
 pub fn play(rt: &impl Print, r: Record, line: &[u8], store: &mut [u8]) -> io::Result<Record> {
-    if begins(line, b"new ") {
-        return new(rt, behind(line), store);
+    if let Some(names) = line.strip_prefix(b"new ") {
+        let (ours, peer) = cut_word(names);
+        places::zero_store(store);
+        return told(rt, session::new(ours, peer), b"");
     }
-    if begins(line, b"step ") {
-        return step(rt, r, behind(line), store);
+    if let Some(words) = line.strip_prefix(b"step ") {
+        let (time, frame) = cut_word(words);
+        return called(rt, |buf| session::step(r, frame, time_of(time), buf, store));
     }
-    if begins(line, b"tick ") {
-        return tick(rt, r, behind(line));
+    if let Some(words) = line.strip_prefix(b"tick ") {
+        let (time, _) = cut_word(words);
+        return called(rt, |buf| session::tick(r, time_of(time), buf));
     }
-    if begins(line, b"replay ") {
-        return replay(rt, r, behind(line), store);
+    if let Some(words) = line.strip_prefix(b"replay ") {
+        let (time, _) = cut_word(words);
+        return called(rt, |buf| replaying::replay(r, time_of(time), buf, store));
     }
-    if begins(line, b"reconnect") {
+    if line.starts_with(b"reconnect") {
         return told(rt, session::reconnect(r), b"");
     }
     Ok(r)

@@ -1,9 +1,6 @@
--- `print_messages`: a frame that is read lies in what was read, and is not empty.
-use Rattle.std.specs.Prelude.{◌-◌, ◌≤◌, length}
+-- `print_messages`: what is left to read gets shorter by each frame.
+use Rattle.std.specs.Prelude.{length}
 use Rattle.rehearsal.proofs.print_messages.Given as goal
 
-abbrev pub invariant-loop-at : goal.invariant-loop-at
-invariant-loop-at g l = l.at ≤ length l.reply
-
-abbrev pub decreases-loop-at : goal.decreases-loop-at
-decreases-loop-at g l = length l.reply - l.at
+abbrev pub decreases-loop-skip : goal.decreases-loop-skip
+decreases-loop-skip g l = length l.rest
