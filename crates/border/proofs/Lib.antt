@@ -1,3 +1,4 @@
 pub mod Records
 pub mod Keeping
 pub mod Filling
+pub mod OneOutcome

@@ -3,7 +3,7 @@ ghost use Rattle.std.specs.Prelude.{◌≤◌, ◌≡◌, [], ◌∷◌, eqb, le
 ghost use Rattle.std.proofs.lemmas.List.Edits.{sets};
 ghost use Rattle.octets.specs.Bytes.{all};
 ghost use Rattle.session.specs.Refusals.{No, numbers};
-ghost use Rattle.border.specs.Numbers.{refusal_of};
+ghost use Rattle.border.specs.Numbers.{refusal_of, RefusedOut};
 ghost use Rattle.border.specs.Record.{eleven, comp_ids_of, gap_words, words_of, saved, status_of, gap_in, record_in};
 ghost use Rattle.moves.specs.code.Reads.{told};
 
@@ -132,7 +132,7 @@ pub fn replied(words: &mut [u64], out: &mut [u64; 1], left: Answered) -> u32
 
 // A refusal of a call's: its number, and nothing goes out.
 pub fn refuse<const N: usize>(out: &mut [u64; N], k: Refusal) -> u32
-    ensures { (result ≡ No k) × (out.new ≡ replicate N 0) }
+    ensures { RefusedOut N k result out.new }
 {
     out.fill(0);
     u32::from(k)

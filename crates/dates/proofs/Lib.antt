@@ -1,3 +1,4 @@
 pub mod Shapes
 pub mod Stamps
 pub mod Months
+pub mod OneOutcome

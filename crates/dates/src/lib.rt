@@ -3,7 +3,7 @@
 
 ghost use Rattle.std.specs.Prelude.{◌≡◌, ◌+◌, ◌≤◌, true, length, take, if◌then◌else◌};
 ghost use Rattle.octets.specs.Bytes.{fix};
-ghost use Rattle.fault.specs.Fault.{reason};
+ghost use Rattle.fault.specs.Fault.{Tells};
 ghost use Rattle.dates.specs.Date.{like, days, leap, is_time, good_day, day_found, time_found};
 ghost use Rattle.dates.specs.code.Scan.{stands_for, Digits, TwoAt, is_day_of, is_clock_of};
 
@@ -11,7 +11,7 @@ use fault::Fault;
 
 // `YYYYMMDD-HH:MM:SS`, alone or with 3 or 6 decimals.
 pub fn judge_time(v: &[u8]) -> Result<(), Fault>
-    ensures { reason result ≡ time_found v.now }
+    ensures { Tells result (time_found v.now) }
 {
     if v.len() < 17 {
         return Err(Fault::Form);
@@ -33,7 +33,7 @@ pub fn judge_time(v: &[u8]) -> Result<(), Fault>
 
 // `YYYYMMDD`.
 pub fn judge_day(v: &[u8]) -> Result<(), Fault>
-    ensures { reason result ≡ day_found v.now }
+    ensures { Tells result (day_found v.now) }
 {
     if v.len() != 8 {
         return Err(Fault::Form);

@@ -4,12 +4,14 @@ use Prim.Native.Nat.{ℕ}
 use mathlib.Core.Path.{◌≡◌, refl, sym, ap, ap₂, ◌∙◌}
 use mathlib.Core.Bool.{Bool, true, false}
 use lib.ListN.{take, drop}
-use Rattle.std.specs.Prelude.{Option, Some, None, Result, Ok, Err, IfSome, IfNone}
+use Rattle.std.specs.Prelude.{Option, Some, None, Result, Ok, Err}
+use Rattle.std.specs.Borrow.{Bor}
 use Rattle.octets.specs.Bytes.{Bytes}
-use Rattle.frame.specs.Frame.{Rule, Good, Whether, BodyOf, its_body}
-use Rattle.frame.specs.Reading.{refusal, Reads, ReadsAs, HandedOut}
+use Rattle.frame.specs.Frame.{Rule, Good, Whether, BodyOf, its_body, BodyFound}
+use Rattle.frame.specs.Reading.{refusal, Reads, ReadsAs, HandedOut, Handed}
 use Rattle.frame.specs.declared.Found.{Found}
 use Rattle.frame.specs.declared.NoFrame.{NoFrame}
+use Rattle.frame.specs.declared.Part.{Part}
 use Rattle.frame.proofs.Good.{good_body}
 use Rattle.frame.proofs.Unique.{left_one, unfinished_one}
 
@@ -24,6 +26,18 @@ module _ (R : Rule) where
 
   pub handed_or_refused : {s f : Bytes} {skip d : ℕ} → HandedOut R s f skip → Reads R s (refusal 1 d) → ⊥
   handed_or_refused A B = B.1.none _ _ A.reads.here
+
+  -- all three in one: what is handed out of the bytes and what stands before it, or what is to be dropped
+  abbrev told_by : Result Part NoFrame → Result (Bytes × ℕ) ℕ
+  told_by (Ok p) = Ok (p.frame.now, p.skip)
+  told_by (Err e) = Err e.drop
+
+  pub read_one : (s : Bytes) (x y : Result Part NoFrame) → Handed R s x → Handed R s y → told_by x ≡ told_by y
+  read_one s (Ok p) (Ok q) A B =
+      let e = handed_one A B in ap₂ (λ (f : Bytes) (k : ℕ). Ok (f, k)) e.0 e.1
+  read_one s (Ok p) (Err e) A B = absurd (handed_or_refused A B)
+  read_one s (Err e) (Ok p) A B = absurd (handed_or_refused B A)
+  read_one s (Err e) (Err f) A B = ap Err (refused_one A B)
 
   -- `reading_of`
   found : ℕ → ℕ → Result Found NoFrame
@@ -53,8 +67,12 @@ module _ (R : Rule) where
   same_body : {f r r' : Bytes} → BodyOf R f r → BodyOf R f r' → r ≡ r'
   same_body {f} (its_body G) (its_body H) = good_body R f G H
 
-  pub body_one : (f : Bytes) (r r' : Option Bytes) → IfSome r (BodyOf R f) × IfNone r (Good R f → ⊥) → IfSome r' (BodyOf R f) × IfNone r' (Good R f → ⊥) → r ≡ r'
-  body_one f (Some x) (Some y) A B = ap Some (same_body A.0 B.0)
-  body_one f (Some x) None A B = absurd (B.1 (of_good A.0))
-  body_one f None (Some y) A B = absurd (A.1 (of_good B.0))
+  abbrev lent : Option (Bor Bytes) → Option Bytes
+  lent (Some b) = Some b.now
+  lent None = None
+
+  pub body_one : (f : Bytes) (r r' : Option (Bor Bytes)) → BodyFound R f r → BodyFound R f r' → lent r ≡ lent r'
+  body_one f (Some x) (Some y) A B = ap Some (same_body A.some B.some)
+  body_one f (Some x) None A B = absurd (B.none (of_good A.some))
+  body_one f None (Some y) A B = absurd (A.none (of_good B.some))
   body_one f None None A B = refl

@@ -1,5 +1,6 @@
 -- Document 01, "The good frame", sentence by sentence, over a rule, with the body length of document 02's Q-3.
-use Rattle.std.specs.Prelude.{ℕ, ◌+◌, ◌-◌, ◌/◌, ◌%◌, ◌≤◌, ◌<◌, ◌≡◌, Bool, true, [], ◌∷◌, ◌++◌, length, take, drop, get_or}
+use Rattle.std.specs.Prelude.{ℕ, ◌+◌, ◌-◌, ◌/◌, ◌%◌, ◌≤◌, ◌<◌, ◌≡◌, Bool, true, [], ◌∷◌, ◌++◌, length, take, drop, get_or, Option, IfSome, IfNone}
+use Rattle.std.specs.Borrow.{Bor}
 use Rattle.octets.specs.Bytes.{Bytes, byte, fix, sum, value, Writing, with_zeros, writes, At}
 
 -- What may differ from edition to edition: the start mark, and how the body length is written.
@@ -84,3 +85,8 @@ pub record Whether (R : Rule) (f : Bytes) (b : Bool) : Type 0 where
 -- The body of exactly one good frame, as the layers above ask for it.
 pub data BodyOf (R : Rule) (f : Bytes) : Bytes → Type 0 where
   its_body : (G : Good R f) → BodyOf R f G.body
+
+-- and of bytes that are no good frame there is none
+pub record BodyFound (R : Rule) (f : Bytes) (r : Option (Bor Bytes)) : Type 0 where
+  pub some : IfSome r (λ b. BodyOf R f b.now)
+  pub none : IfNone r (Good R f → ⊥)

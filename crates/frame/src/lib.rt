@@ -3,8 +3,7 @@
 
 mod parts;
 
-ghost use Rattle.std.specs.Prelude.{IfSome, IfNone};
-ghost use Rattle.frame.specs.Frame.{rule_of, fixt, Whether, Good, BodyOf};
+ghost use Rattle.frame.specs.Frame.{rule_of, fixt, Whether, BodyFound};
 ghost use Rattle.frame.specs.Reading.{ReadsAs, Handed};
 ghost use Rattle.frame.specs.Mark.{MarkOk};
 ghost use Rattle.frame.specs.code.Walk.{FoundAt};
@@ -104,8 +103,7 @@ pub fn is_frame(s: &[u8]) -> bool
 
 // The body of exactly one good frame, as that part of f.
 pub fn body_of<'a>(f: &'a [u8]) -> Option<&'a [u8]>
-    ensures some { IfSome result (λ b. BodyOf fixt f.now b.now) }
-    ensures none { IfNone result (Good fixt f.now → ⊥) }
+    ensures { BodyFound fixt f.now result }
 {
     if !is_frame(f) {
         return None;

@@ -1,3 +1,4 @@
 pub mod Values
 pub mod Decimals
 pub mod Cases
+pub mod OneOutcome

@@ -3,7 +3,7 @@
 
 ghost use Rattle.std.specs.Prelude.{◌≡◌, [], ◌∷◌};
 ghost use Rattle.octets.specs.Bytes.{any, same};
-ghost use Rattle.fault.specs.Fault.{reason};
+ghost use Rattle.fault.specs.Fault.{Tells};
 ghost use Rattle.kinds.specs.Kind.{text, number◌to◌, Y/N, decimal, among};
 ghost use Rattle.kinds.specs.Judged.{choices, meaning, judged, number_of};
 
@@ -56,7 +56,7 @@ pub fn read_number(v: &[u8]) -> Option<u64>
 // The finding on a value of a kind: its form, then its value.
 #[inline(always)]
 pub fn judge(kind: Kind, v: &[u8]) -> Result<(), Fault>
-    ensures { reason result ≡ judged (meaning kind) v.now }
+    ensures { Tells result (judged (meaning kind) v.now) }
 {
     match kind {
         Kind::Text { most } => judge_text(v, most),
@@ -71,7 +71,7 @@ pub fn judge(kind: Kind, v: &[u8]) -> Result<(), Fault>
 
 #[tactic(auto, unfolding(crate::specs::Judged::judged, crate::specs::Kind::formed, crate::specs::Kind::allowed))]
 pub fn judge_text(v: &[u8], most: usize) -> Result<(), Fault>
-    ensures { reason result ≡ judged (text most) v.now }
+    ensures { Tells result (judged (text most) v.now) }
 {
     let n = v.len();
     if 1 <= n && n <= most {
@@ -82,7 +82,7 @@ pub fn judge_text(v: &[u8], most: usize) -> Result<(), Fault>
 }
 
 pub fn judge_number(v: &[u8], least: u32, most: u32) -> Result<(), Fault>
-    ensures { reason result ≡ judged (number least to most) v.now }
+    ensures { Tells result (judged (number least to most) v.now) }
 {
     let Some(n) = read_number(v) else {
         return Err(Fault::Form);
@@ -96,7 +96,7 @@ pub fn judge_number(v: &[u8], least: u32, most: u32) -> Result<(), Fault>
 
 #[tactic(auto, unfolding(crate::specs::Judged::judged, crate::specs::Kind::formed, crate::specs::Kind::allowed))]
 pub fn judge_flag(v: &[u8]) -> Result<(), Fault>
-    ensures { reason result ≡ judged Y/N v.now }
+    ensures { Tells result (judged Y/N v.now) }
 {
     if is_one(v, b'Y') || is_one(v, b'N') {
         Ok(())
@@ -107,7 +107,7 @@ pub fn judge_flag(v: &[u8]) -> Result<(), Fault>
 
 // A decimal: its form, then its range.
 pub fn judge_decimal(v: &[u8]) -> Result<(), Fault>
-    ensures { reason result ≡ judged decimal v.now }
+    ensures { Tells result (judged decimal v.now) }
 {
     read_decimal(v)?;
     Ok(())
@@ -117,7 +117,7 @@ pub fn judge_decimal(v: &[u8]) -> Result<(), Fault>
 #[tactic(auto, unfolding(crate::specs::Judged::judged, crate::specs::Kind::formed, crate::specs::Kind::allowed))]
 #[inline(always)]
 pub fn judge_choice(v: &[u8], list: Choice) -> Result<(), Fault>
-    ensures { reason result ≡ judged (among (choices list)) v.now }
+    ensures { Tells result (judged (among (choices list)) v.now) }
 {
     if is_among(v, list) {
         Ok(())

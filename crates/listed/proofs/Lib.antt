@@ -4,3 +4,4 @@ pub mod Rows
 pub mod Sections
 pub mod Members
 pub mod Whole
+pub mod OneOutcome
