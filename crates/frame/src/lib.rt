@@ -48,57 +48,57 @@ fn read_with(s: &[u8], mark: &[u8], at: &mut usize) -> usize
     let n = s.len();
     let x = mark[4];
     let mut p = 0;
-    'positions: loop {
+    let found = 'positions: loop {
         let q = next_start(s, p, x);
         if n <= q {
             *at = n;
-            return 0;
+            break 'positions 0;
         }
         match look(s, q, mark) {
             Ok(e) => {
                 *at = q;
-                return e - q;
+                break 'positions e - q;
             }
             Err(Stop::Wrong(next)) => p = next,
             Err(Stop::Short) => {
                 *at = q;
-                return 0;
+                break 'positions 0;
             }
         }
-    }
+    };
+    found
 }
 
-// One reading: the leftmost good frame of s, or refusal 1.
-pub fn reading_of(s: &[u8]) -> Result<Found, NoFrame>
-    ensures { ReadsAs fixt s.now result }
+// One reading: the leftmost good frame of s as that part of s, or refusal 1.
+pub fn read<'a>(s: &'a [u8]) -> Result<Part<'a>, NoFrame>
+    ensures { Handed fixt s.now result }
 {
     let mut at: usize = 0;
     let len = read_with(s, &FIXT, &mut at);
     if len == 0 {
         return Err(NoFrame { drop: at });
     }
-    Ok(Found { skip: at, len })
+    let frame = &s[at..at + len];
+    Ok(Part { skip: at, frame })
 }
 
-// The same with the frame as that part of s.
-pub fn read<'a>(s: &'a [u8]) -> Result<Part<'a>, NoFrame>
-    ensures { Handed fixt s.now result }
+// The same in numbers alone.
+pub fn reading_of(s: &[u8]) -> Result<Found, NoFrame>
+    ensures { ReadsAs fixt s.now result }
 {
-    let Found { skip, len } = reading_of(s)?;
-    let frame = &s[skip..skip + len];
-    Ok(Part { skip, frame })
+    let Part { skip, frame } = read(s)?;
+    let len = frame.len();
+    Ok(Found { skip, len })
 }
 
 // Whether s is exactly one good frame.
 pub fn is_frame(s: &[u8]) -> bool
     ensures { Whether fixt s.now result }
 {
-    let mut at: usize = 0;
-    let len = read_with(s, &FIXT, &mut at);
-    if len == 0 {
-        return false;
+    match read(s) {
+        Ok(Part { skip, frame }) => skip == 0 && frame.len() == s.len(),
+        Err(_) => false,
     }
-    at == 0 && len == s.len()
 }
 
 // The body of exactly one good frame, as that part of f.
