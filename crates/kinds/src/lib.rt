@@ -1,8 +1,9 @@
 // The kinds of values: form and value of one field's bytes.
 #![tactic(auto)]
 
-ghost use Rattle.std.specs.Prelude.{◌≡◌, [], ◌∷◌};
-ghost use Rattle.octets.specs.Bytes.{any, same};
+ghost use Rattle.std.specs.Prelude.{◌≡◌, [], ◌∷◌, true};
+ghost use Rattle.octets.specs.Bytes.{same};
+ghost use Rattle.dates.specs.Date.{found};
 ghost use Rattle.fault.specs.Fault.{Tells};
 ghost use Rattle.kinds.specs.Kind.{text, number◌to◌, Y/N, decimal, among};
 ghost use Rattle.kinds.specs.Judged.{choices, meaning, judged, number_of};
@@ -113,45 +114,50 @@ pub fn judge_decimal(v: &[u8]) -> Result<(), Fault>
     Ok(())
 }
 
-// The value is one of a list; any other is 5.
+// The value is one of a list; any other is 5. (The lists stand as the document gives them. They are compared by one byte or two, so that no list is laid out and no length is looked at twice.)
 #[tactic(auto, unfolding(crate::specs::Judged::judged, crate::specs::Kind::formed, crate::specs::Kind::allowed))]
 #[inline(always)]
 pub fn judge_choice(v: &[u8], list: Choice) -> Result<(), Fault>
     ensures { Tells result (judged (among (choices list)) v.now) }
 {
-    if is_among(v, list) {
-        Ok(())
-    } else {
-        Err(Fault::Value)
-    }
-}
-
-// (The lists stand as the document gives them. They are compared by one byte or two, so that no list is laid out and no length is looked at twice.)
-#[inline(always)]
-fn is_among(v: &[u8], list: Choice) -> bool
-    ensures { result ≡ any (λ w. same v.now w) (choices list) }
-{
     match list {
-        Choice::Zero => is_one(v, b'0'),
-        Choice::Eight => is_one(v, b'8'),
-        Choice::Nine => is_one(v, b'9'),
-        Choice::D => is_one(v, b'D'),
-        Choice::OneOrTwo => is_one(v, b'1') || is_one(v, b'2'),
-        Choice::ZeroOr54 => is_one(v, b'0') || is_two(v, b'5', b'4'),
+        Choice::Zero => judge_one(v, b'0'),
+        Choice::Eight => judge_one(v, b'8'),
+        Choice::Nine => judge_one(v, b'9'),
+        Choice::D => judge_one(v, b'D'),
+        Choice::OneOrTwo => judge_listed(is_one(v, b'1') || is_one(v, b'2')),
+        Choice::ZeroOr54 => judge_listed(is_one(v, b'0') || is_two(v, b'5', b'4')),
         Choice::ZeroOr54Or99 => {
-            is_one(v, b'0') || is_two(v, b'5', b'4') || is_two(v, b'9', b'9')
+            judge_listed(is_one(v, b'0') || is_two(v, b'5', b'4') || is_two(v, b'9', b'9'))
         }
-        Choice::Matches => {
-            is_one(v, b'2') || is_one(v, b'4') || is_one(v, b'7') || is_two(v, b'2', b'2')
-        }
-        Choice::Roles => {
+        Choice::Matches => judge_listed(
+            is_one(v, b'2') || is_one(v, b'4') || is_one(v, b'7') || is_two(v, b'2', b'2'),
+        ),
+        Choice::Roles => judge_listed(
             is_one(v, b'1')
                 || is_one(v, b'3')
                 || is_two(v, b'1', b'2')
                 || is_two(v, b'1', b'7')
-                || is_two(v, b'7', b'6')
-        }
+                || is_two(v, b'7', b'6'),
+        ),
     }
+}
+
+// The same of a list of one value, which is one byte.
+#[tactic(auto, unfolding(crate::specs::Judged::judged, crate::specs::Kind::formed, crate::specs::Kind::allowed))]
+#[inline(always)]
+pub fn judge_one(v: &[u8], x: u8) -> Result<(), Fault>
+    ensures { Tells result (judged (among ((x ∷ []) ∷ [])) v.now) }
+{
+    judge_listed(is_one(v, x))
+}
+
+// The finding by whether the value is in its list.
+#[inline(always)]
+fn judge_listed(is_in: bool) -> Result<(), Fault>
+    ensures { Tells result (found true is_in) }
+{
+    if is_in { Ok(()) } else { Err(Fault::Value) }
 }
 
 // The value is one byte, or two.
