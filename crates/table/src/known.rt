@@ -5,7 +5,7 @@ ghost use Rattle.table.specs.code.Held.{tag_count, bit_of, choice_in};
 use super::MsgType;
 use super::lines::{Entry, Member, TABLE};
 use fault::Fault;
-use kinds::{Choice, Kind, judge, judge_choice};
+use kinds::{Choice, Kind, judge};
 
 // A tag that was looked up: the place of its line, which is also that of its mark.
 #[derive(Clone, Copy)]
@@ -17,9 +17,9 @@ pub struct Known {
 impl Known {
     ghost use Rattle.octets.specs.Bytes.{any};
     ghost use Rattle.fault.specs.Fault.{reason};
-    ghost use Rattle.kinds.specs.Judged.{judged};
+    ghost use Rattle.kinds.specs.Judged.{meaning, judged};
     ghost use Rattle.table.specs.Dictionary.{header, fields, groups, listed, member, frame_tag, rows_of, kind_in};
-    ghost use Rattle.table.specs.code.Held.{tag_at, entry_at, MemberOf};
+    ghost use Rattle.table.specs.code.Held.{tag_at, entry_at, kind_for, MemberOf};
 
     fn entry(self) -> Entry
         ensures { result ≡ entry_at self.place }
@@ -81,16 +81,25 @@ impl Known {
         self.entry().member
     }
 
-    // The finding on a value of a tag that the message has. (Compiled into both walks: a call would cost each field some thirty instructions.)
+    // The kind of its values in a message.
     #[inline(always)]
-    pub fn judge(self, m: MsgType, v: &[u8]) -> Result<(), Fault>
-        ensures { listed (rows_of m) (tag_at self.place) ≡ true → reason result ≡ judged (kind_in (rows_of m) (tag_at self.place)) v.now }
+    pub fn kind(self, m: MsgType) -> Kind
+        ensures { result ≡ kind_for m (entry_at self.place).kind }
     {
         let kind = self.entry().kind;
         match kind {
-            Kind::OneOf(list) => judge_choice(v, choice_in(list, m)),
-            _ => judge(kind, v),
+            Kind::OneOf(list) => Kind::OneOf(choice_in(list, m)),
+            _ => kind,
         }
+    }
+
+    // The finding on a value: by the tag's line, which has the document's kind where the message has the tag. (Compiled into both walks: a call would cost each field some thirty instructions.)
+    #[inline(always)]
+    pub fn judge(self, m: MsgType, v: &[u8]) -> Result<(), Fault>
+        ensures by_line { reason result ≡ judged (meaning (kind_for m (entry_at self.place).kind)) v.now }
+        ensures by_rows { listed (rows_of m) (tag_at self.place) ≡ true → reason result ≡ judged (kind_in (rows_of m) (tag_at self.place)) v.now }
+    {
+        judge(self.kind(m), v)
     }
 }
 
