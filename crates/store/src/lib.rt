@@ -31,14 +31,35 @@ fn lowest_place(numbers: &[u64; 64]) -> usize
     at
 }
 
+// A place of a store, counted from 0.
+fn place_at(store: &[u8], i: usize) -> &[u8]
+    requires { (is_store store.now ≡ true) × (i < 64) }
+    ensures is { result.now ≡ get_or (places store.now) i [] }
+    ensures size { length result.now ≡ 512 }
+{
+    &store[512 * i..512 * i + 512]
+}
+
+// The number that stands in each place of a store, read alone, for CompIDs of so many bytes together.
+pub fn peeked(store: &[u8], ids: usize) -> [u64; 64]
+    requires { (is_store store.now ≡ true) × (ids ≤ 22) }
+    ensures { AllPeeked store.now ids result }
+{
+    let mut numbers = [0; 64];
+    for i in 0..64 {
+        numbers[i] = peek_number(place_at(store, i), ids);
+    }
+    numbers
+}
+
 impl<'s, 'i> Reports<'s, 'i> {
-    // A place of the store, counted from 0.
+    // A place of the store.
     pub fn place(&self, i: usize) -> &'s [u8]
         requires { i < 64 }
         ensures is { result.now ≡ get_or (places self.now.store.now) i [] }
         ensures size { length result.now ≡ 512 }
     {
-        &self.store[512 * i..512 * i + 512]
+        place_at(self.store, i)
     }
 
     // The place that a new report takes: the first empty one, else the lowest number's.
@@ -58,16 +79,11 @@ impl<'s, 'i> Reports<'s, 'i> {
         lowest_place(&numbers)
     }
 
-    // The number that stands in each place, read alone: once for a whole replay call, so that it is no field.
+    // The same for these CompIDs: once for a whole replay call, so that it is no field.
     pub fn peeked(&self) -> [u64; 64]
         ensures { AllPeeked self.now.store.now (length self.now.ids.us.now + length self.now.ids.them.now) result }
     {
-        let ids = self.ids.len();
-        let mut numbers = [0; 64];
-        for i in 0..64 {
-            numbers[i] = peek_number(self.place(i), ids);
-        }
-        numbers
+        peeked(self.store, self.ids.len())
     }
 
     // Where the report of a number stands, if it is kept. Only a place in which that number stands read alone is looked at whole.
