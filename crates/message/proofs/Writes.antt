@@ -6,8 +6,7 @@ use native.Mathlib.Omega.{arith}
 use mathlib.Core.Path.{◌≡◌, refl, sym, ap, ◌∙◌, subst}
 use mathlib.Core.List.{List, [], ◌∷◌, ◌++◌, append_assoc}
 use lib.ListN.{length, take, drop, get_or, set, length-append}
-use lib.Seq.{sets, sets-eq, take-suc, drop_at, drop-drop, length-take-le, take-append_seam}
-use borrow.Rule.Slice.PartMut.{put_mid}
+use lib.Seq.{sets, sets-eq, take-suc, drop_at, length-take-le, take-append_seam}
 use Rattle.octets.specs.Bytes.{Bytes, decimal}
 use Rattle.octets.proofs.Decimals.{decimal-written}
 use Rattle.octets.proofs.Rightmost.{length_small, length-step}
@@ -48,19 +47,6 @@ part_of {d} {d'} {at} {to} {xs} w h =
 
 pub front_of : {d d' : Bytes} {to : ℕ} {xs : Bytes} → Wrote d d' 0 to xs → to ≤ length d → take to d' ≡ xs
 front_of {d} {d'} {to} {xs} w h = let e : to ≡ to - 0 = omega arith in ap (λ (k : ℕ). take k d') e ∙ part_of w h
-
--- a part of the buffer written over by the bytes of a slice
-pub copied : {d : Bytes} {at k to : ℕ} (xs ys : Bytes) → ys ≡ xs → k ≡ length xs → to ≡ at + length xs → at + length xs ≤ length d → Wrote d (put_mid at k d ys) at to xs
-copied {d} {at} {k} {to} xs ys e n t h =
-    let m : at + k ≡ at + length xs = omega arith in
-    record {
-      next = t;
-      bytes =
-          ap (λ (l : Bytes). put_mid at k d l) e
-          ∙ sym (append_assoc (take at d) xs (drop k (drop at d)))
-          ∙ ap (λ (l : Bytes). take at d ++ xs ++ l) (drop-drop k at d ∙ ap (λ (i : ℕ). drop i d) m)
-          ∙ sym (sets-eq xs d at h);
-    }
 
 -- one byte more of what is copied
 pub byte_more : {d d₁ : Bytes} {at i : ℕ} (s : Bytes) → i < length s → Wrote d d₁ at (at + i) (take i s) → Wrote d (set d₁ (at + i) (get_or s i 0)) at (at + (i + 1)) (take (i + 1) s)

@@ -17,13 +17,16 @@ pub fn zero_store(store: &mut [u8])
     store.fill(0);
 }
 
-// Puts a message into a place, counted from 0, with zeros behind it.
+// Puts a message into a place, counted from 0, with zeros behind it. (Byte by byte, which the compiler makes one copy of: `copy_from_slice` would ask C's
+// library for memmove.)
 pub fn put_place(store: &mut [u8], i: usize, m: &[u8])
     requires { (is_store store.old ≡ true) × (i < 64) × (length m.now ≤ 512) }
     ensures { store.new ≡ put_at i m.now store.old }
 {
     let at = 512 * i;
     let n = m.len();
-    store[at..at + n].copy_from_slice(m);
+    for k in 0..n {
+        store[at + k] = m[k];
+    }
     store[at + n..at + 512].fill(0);
 }
