@@ -5,7 +5,7 @@ ghost use Rattle.table.specs.code.Held.{tag_count, bit_of, choice_in};
 use super::MsgType;
 use super::lines::{Entry, Member, TABLE};
 use fault::Fault;
-use kinds::{Choice, Kind, judge};
+use kinds::{Choice, Kind, judge, judge_choice};
 
 // A tag that was looked up: the place of its line, which is also that of its mark.
 #[derive(Clone, Copy)]
@@ -99,7 +99,11 @@ impl Known {
         ensures by_line { reason result ≡ judged (meaning (kind_for m (entry_at self.place).kind)) v.now }
         ensures by_rows { listed (rows_of m) (tag_at self.place) ≡ true → reason result ≡ judged (kind_in (rows_of m) (tag_at self.place)) v.now }
     {
-        judge(self.kind(m), v)
+        let kind = self.kind(m);
+        match kind {
+            Kind::OneOf(list) => judge_choice(v, list),
+            _ => judge(kind, v),
+        }
     }
 }
 

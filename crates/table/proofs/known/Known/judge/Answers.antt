@@ -5,7 +5,12 @@ use Rattle.kinds.specs.Judged.{judged, meaning}
 use Rattle.table.proofs.Places.{kind_at}
 use Rattle.table.proofs.known.Known.judge.Goals as goal
 
-pub returns-clause-by_rows : goal.returns-clause-by_rows
-returns-clause-by_rows c =
+pub returns-in-OneOf-clause-by_rows : goal.returns-in-OneOf-clause-by_rows
+returns-in-OneOf-clause-by_rows c =
+    λ l. c.judge_choice.ensures
+    ∙ ap (λ (k : Kind). judged k c.args.v.now) (ap meaning c.in-OneOf.ensures ∙ kind_at _ c.args.self.within c.args.m l)
+
+pub returns-in_default-clause-by_rows : goal.returns-in_default-clause-by_rows
+returns-in_default-clause-by_rows c =
     λ l. c.judge.ensures
-    ∙ ap (λ (k : Kind). judged k c.args.v.now) (ap meaning c.kind.ensures ∙ kind_at _ c.args.self.within c.args.m l)
+    ∙ ap (λ (k : Kind). judged k c.args.v.now) (ap meaning c.kind-kind.ensures ∙ kind_at _ c.args.self.within c.args.m l)
