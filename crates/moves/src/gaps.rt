@@ -1,7 +1,7 @@
 // What a frame above the expected number, a reset and every step make of a gap.
 ghost use Rattle.std.specs.Prelude.{◌≡◌};
 ghost use Rattle.moves.specs.Held.{session_of};
-ghost use Rattle.moves.specs.code.Plan.{missed_by, resets, settled_plan};
+ghost use Rattle.moves.specs.code.Plan.{missed_by, misses, resets, settled_plan};
 
 use crate::plan::{Letter, Plan, staying};
 use crate::record::Record;
@@ -12,14 +12,19 @@ pub fn asks_or_not(r: Record, n: u64, time: u64) -> Plan
     ensures { result ≡ missed_by (session_of r) n time }
 {
     if !r.gap.asks(r.expected, time) {
-        return Plan {
-            gap: r.gap.seen(n),
-            ..staying(r)
-        };
+        return missing(r, None, r.gap.seen(n));
     }
+    let ask = Letter::Ask { from: r.expected };
+    missing(r, Some(ask), r.gap.asked_for(r.expected, n, time))
+}
+
+// A frame above the expected number: a message or none, and the gap behind it.
+pub fn missing(r: Record, first: Option<Letter>, gap: Gap) -> Plan
+    ensures { result ≡ misses (session_of r) first gap }
+{
     Plan {
-        first: Some(Letter::Ask { from: r.expected }),
-        gap: r.gap.asked_for(r.expected, n, time),
+        first,
+        gap,
         ..staying(r)
     }
 }

@@ -7,9 +7,10 @@ mod reads;
 mod record;
 mod times;
 
-pub use gaps::{asks_or_not, resetting};
+pub use gaps::{asks_or_not, missing, resetting};
 pub use plan::{
-    Letter, Plan, accepting, closing, counting, delivering, expecting, next_after, saying, staying,
+    Letter, Plan, accepting, closing, counting, delivering, expecting, next_after, saying, serving,
+    staying,
 };
 pub use reads::{holds, holds_at, number, number_at, number_in, type_in};
 pub use record::{Record, Replay, Status, is_comp_id, is_string};

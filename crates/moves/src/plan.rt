@@ -1,7 +1,7 @@
 // A plan: what a move says and what becomes of the record; and what it leaves of the numbers.
-ghost use Rattle.std.specs.Prelude.{◌≡◌, ◌&&◌, ◌+◌, ◌≤◌, is_none, Some, None};
+ghost use Rattle.std.specs.Prelude.{◌≡◌, ◌&&◌, ◌+◌, ◌≤◌, is_none, None};
 ghost use Rattle.moves.specs.Held.{session_of};
-ghost use Rattle.moves.specs.code.Plan.{behind, says, counts, expects, closes, delivers, accepts, Ready};
+ghost use Rattle.moves.specs.code.Plan.{behind, says, counts, expects, closes, delivers, accepts, serves, Ready};
 
 use crate::record::{Record, Replay, Status};
 use gap::Gap;
@@ -62,25 +62,26 @@ pub fn staying(r: Record) -> Plan
     }
 }
 
-// A message that changes nothing but our numbers.
-pub fn saying(r: Record, letter: Letter) -> Plan
-    ensures { result ≡ says (session_of r) (Some letter) None }
+// Messages that change nothing but our numbers.
+pub fn saying(r: Record, first: Option<Letter>, second: Option<Letter>) -> Plan
+    ensures { result ≡ says (session_of r) first second }
 {
     Plan {
-        first: Some(letter),
+        first,
+        second,
         ..staying(r)
     }
 }
 
-// A message, and E + 1.
-pub fn counting(r: Record, letter: Letter) -> Plan
+// A message or none, and E + 1.
+pub fn counting(r: Record, first: Option<Letter>) -> Plan
     requires { Ready r }
-    ensures { result ≡ counts (session_of r) letter }
+    ensures { result ≡ counts (session_of r) first }
 {
     let count = r.expected + 1;
     Plan {
         expected: count,
-        ..saying(r, letter)
+        ..saying(r, first, None)
     }
 }
 
@@ -94,16 +95,15 @@ pub fn expecting(r: Record, e: u64) -> Plan
     }
 }
 
-// Our Logout, and the session is Closed; E becomes e.
-pub fn closing(r: Record, why: u64, e: u64) -> Plan
-    ensures { result ≡ closes (session_of r) (Some (Letter.Logout why)) None e }
+// Messages of which the last is our Logout, and the session is Closed; E becomes e.
+pub fn closing(r: Record, first: Option<Letter>, second: Option<Letter>, e: u64) -> Plan
+    ensures { result ≡ closes (session_of r) first second e }
 {
     Plan {
-        first: Some(Letter::Logout { why }),
         status: Status::Closed,
         expected: e,
         replay: Replay::none(),
-        ..staying(r)
+        ..saying(r, first, second)
     }
 }
 
@@ -132,6 +132,19 @@ pub fn accepting(anew: bool, second: Option<Letter>, e: u64, seconds: u64, gap: 
         heartbeat: seconds,
         replay: Replay::none(),
         gap,
+    }
+}
+
+// A replay starts; a message may go out with it, and E becomes e.
+pub fn serving(r: Record, first: Option<Letter>, e: u64, replay: Replay, gap: Gap) -> Plan
+    ensures { result ≡ serves (session_of r) first e replay gap }
+{
+    Plan {
+        first,
+        expected: e,
+        replay,
+        gap,
+        ..staying(r)
     }
 }
 

@@ -43,17 +43,17 @@ module _ (s : Session) (body : Bytes) where
   unfolding code35
   never_AE e m = let z : true ≡ false = rw m at e in absurd (false≢true (sym z))
 
-  pub turn_report : type s body "AE" ≡ true → {p : Plan} → p ≡ counts s RejectType → planned body s p ≡ summed s (in_turn s body)
+  pub turn_report : type s body "AE" ≡ true → {p : Plan} → p ≡ counts s (Some RejectType) → planned body s p ≡ summed s (in_turn s body)
   unfolding in_turn reject_type readable
   turn_report h pw = rw (pw, h) refl
 
   module _ (h₀ : type s body "AE" ≡ false) {v : Verdict} (f : v ≡ verdict body) where
-    pub turn_verdict : {u : Unclean} → v ≡ Err u → {l : Letter} → l ≡ rejected_by u → {p : Plan} → p ≡ counts s l → planned body s p ≡ summed s (in_turn s body)
+    pub turn_verdict : {u : Unclean} → v ≡ Err u → {l : Letter} → l ≡ rejected_by u → {p : Plan} → p ≡ counts s (Some l) → planned body s p ≡ summed s (in_turn s body)
     unfolding in_turn reject readable
     turn_verdict h q w = rw (w, q, h₀, ← f, h) refl
 
   module _ {v : Verdict} (f : v ≡ verdict body) (q : v ≡ Ok tt) where
-    pub turn_1 : msg_type body ≡ Math.some Kind.TestRequest → {p : Plan} → p ≡ counts s Echo → planned body s p ≡ summed s (in_turn s body)
+    pub turn_1 : msg_type body ≡ Math.some Kind.TestRequest → {p : Plan} → p ≡ counts s (Some Echo) → planned body s p ≡ summed s (in_turn s body)
     unfolding in_turn code35
     turn_1 m pw = rw (pw, m, ← f, q) refl
 
@@ -69,7 +69,7 @@ module _ (s : Session) (body : Bytes) where
     unfolding in_turn code35
     turn_5 m pw = rw (pw, m, ← f, q) refl
 
-    pub turn_A : msg_type body ≡ Math.some Kind.Logon → {p : Plan} → p ≡ counts s (Reject 99 35) → planned body s p ≡ summed s (in_turn s body)
+    pub turn_A : msg_type body ≡ Math.some Kind.Logon → {p : Plan} → p ≡ counts s (Some (Reject 99 35)) → planned body s p ≡ summed s (in_turn s body)
     unfolding in_turn reject readable code35
     turn_A m pw = rw (pw, m, ← f, q) refl
 

@@ -18,11 +18,12 @@ use Rattle.dictionary.specs.declared.Unclean.{Unclean}
 use Rattle.dictionary.specs.Verdict.{Verdict, verdict}
 use Rattle.moves.specs.Words.{speaks, first, ◌when◌, ◌otherwise◌}
 use Rattle.gap.specs.Gap.{asks, seen}
+use Rattle.gap.specs.Held.{held_gap}
 use Rattle.moves.specs.Session.{Session}
 use Rattle.moves.specs.Seen.{is_it, is_clean}
 use Rattle.moves.specs.Moves.{Deeds, Start, GapBecomes, #, N, readable, asking, counted, requested, unserved, served, bare_reset, served_first, asks_or_not, too_high, too_low, filled, reject, type}
 use Rattle.moves.specs.Held.{replay_of, held_replay}
-use Rattle.moves.specs.code.Plan.{planned, summed, says, counts, expects, closes, rejected_by, served_by, served_early, missed_if, missed_by, resets}
+use Rattle.moves.specs.code.Plan.{planned, summed, says, counts, expects, closes, rejected_by, served_by, served_early, missed_if, missed_by, resets, serves}
 use Rattle.moves.specs.code.Reads.{NumberIn, time_in}
 use Rattle.moves.specs.declared.record.Replay as Held
 use Rattle.moves.specs.declared.plan.Plan.{Plan}
@@ -102,12 +103,12 @@ module _ (s : Session) (body : Bytes) where
 
   -- A RESEND REQUEST IN TURN
   module _ {u : Result Held.Replay ℕ} (w : u ≡ served_by s body) where
-    pub turn_unserved : {tag : ℕ} → u ≡ Err tag → {p : Plan} → p ≡ counts s (Reject 5 tag) → planned body s p ≡ summed s (counted s body (unserved s body otherwise served s body))
+    pub turn_unserved : {tag : ℕ} → u ≡ Err tag → {p : Plan} → p ≡ counts s (Some (Reject 5 tag)) → planned body s p ≡ summed s (counted s body (unserved s body otherwise served s body))
     unfolding reject readable
     turn_unserved z pw = rw (pw, answered_is, ← w, z) refl
 
-    pub turn_served : {q : Held.Replay} → u ≡ Ok q → (p : Plan) → p ≡ expects s (s.E + 1) → planned body s (with_replay p q) ≡ summed s (counted s body (unserved s body otherwise served s body))
-    turn_served z p pw = rw (pw, answered_is, ← w, z) refl
+    pub turn_served : {q : Held.Replay} → u ≡ Ok q → {p : Plan} → p ≡ serves s None (s.E + 1) q (held_gap s.gap) → planned body s p ≡ summed s (counted s body (unserved s body otherwise served s body))
+    turn_served z pw = rw (pw, answered_is, ← w, z) refl
 
   -- WHAT CAN BE SERVED before rule 4 asks
   pub early_other : type s body "2" ≡ false → None ≡ served_early s body
@@ -193,7 +194,7 @@ module _ (s : Session) (body : Bytes) where
 
   -- A GAP FILL IN TURN
   module _ {n m : ℕ} (e : n ≡ N s body) (R : NumberIn 0 36 body m) where
-    pub fill_low : m ≤ n → {p : Plan} → p ≡ counts s (Reject 5 36) → planned body s p ≡ summed s (filled s body)
+    pub fill_low : m ≤ n → {p : Plan} → p ≡ counts s (Some (Reject 5 36)) → planned body s p ≡ summed s (filled s body)
     unfolding filled reject readable
     fill_low l pw = rw (pw, ← e, ← (hash s R), le-leb m n l)
 

@@ -71,11 +71,9 @@ fn rule_2(r: Record, n: u64, tag: u64) -> Plan
     ensures { result ≡ closes (session_of r) (Some (Letter.Reject 9 tag)) (Some (Letter.Logout 101)) (raised (eqb n r.expected) r.expected) }
 {
     let e = if n == r.expected { n + 1 } else { r.expected };
-    Plan {
-        first: Some(Letter::Reject { reason: 9, tag }),
-        second: Some(Letter::Logout { why: 101 }),
-        ..closing(r, 101, e)
-    }
+    let reject = Letter::Reject { reason: 9, tag };
+    let logout = Letter::Logout { why: 101 };
+    closing(r, Some(reject), Some(logout), e)
 }
 
 // Rule 3: type 4 without 123=Y.
@@ -83,11 +81,11 @@ fn rule_3(r: Record, body: &[u8]) -> Plan
     ensures { planned body.now (session_of r) result ≡ summed (session_of r) (bare_reset (session_of r) body.now) }
 {
     if let Err(why) = verdict_on(body) {
-        return saying(r, rejected(why));
+        return saying(r, Some(rejected(why)), None);
     }
     let to = number(body, 36);
     if to < r.expected {
-        return saying(r, Letter::Reject { reason: 5, tag: 36 });
+        return saying(r, Some(Letter::Reject { reason: 5, tag: 36 }), None);
     }
     resetting(r, to)
 }
@@ -111,7 +109,7 @@ fn filled(r: Record, n: u64, body: &[u8]) -> Plan
 {
     let new = number(body, 36);
     if new <= n {
-        return counting(r, Letter::Reject { reason: 5, tag: 36 });
+        return counting(r, Some(Letter::Reject { reason: 5, tag: 36 }));
     }
     expecting(r, new)
 }
@@ -122,26 +120,26 @@ fn rule_6(r: Record, n: u64, kind: Option<MsgType>, body: &[u8]) -> Plan
     ensures { planned body.now (session_of r) result ≡ summed (session_of r) (in_turn (session_of r) body.now) }
 {
     if kind == Some(MsgType::TradeCaptureReport) {
-        return counting(r, Letter::RejectType);
+        return counting(r, Some(Letter::RejectType));
     }
     if let Err(why) = verdict_on(body) {
-        return counting(r, rejected(why));
+        return counting(r, Some(rejected(why)));
     }
     let up = r.expected + 1;
     let Some(kind) = kind else {
         return expecting(r, up);
     };
     match kind {
-        MsgType::TestRequest => counting(r, Letter::Echo),
+        MsgType::TestRequest => counting(r, Some(Letter::Echo)),
         MsgType::ResendRequest => serve(r, body),
         MsgType::SequenceReset => filled(r, n, body),
-        MsgType::Logout => closing(r, 4, up),
+        MsgType::Logout => closing(r, Some(Letter::Logout { why: 4 }), None, up),
         MsgType::Logon => counting(
             r,
-            Letter::Reject {
+            Some(Letter::Reject {
                 reason: 99,
                 tag: 35,
-            },
+            }),
         ),
         MsgType::TradeCaptureReportRequest => delivering(r),
         MsgType::OrderCancelRequest => delivering(r),
@@ -166,7 +164,7 @@ pub fn active(r: Record, body: &[u8], time: u64) -> Plan
     let e = r.expected;
     // Rule 1: 34 unreadable.
     let Some(n) = number_at(body, 34, h.number, 1) else {
-        return closing(r, 101, e);
+        return closing(r, Some(Letter::Logout { why: 101 }), None, e);
     };
     if let Some(tag) = strange_tag(r, body, h.sender, h.target) {
         return rule_2(r, n, tag);
@@ -191,7 +189,7 @@ pub fn waiting(r: Record, body: &[u8], time: u64) -> Plan
 {
     let expected = r.expected;
     let Some(n) = number_in(body, 34, 1) else {
-        return closing(r, 101, expected);
+        return closing(r, Some(Letter::Logout { why: 101 }), None, expected);
     };
     let seconds = number(body, 108);
     let closed = Gap::none();
@@ -199,10 +197,10 @@ pub fn waiting(r: Record, body: &[u8], time: u64) -> Plan
         if n == 1 {
             return accepting(true, None, 2, seconds, closed);
         }
-        return closing(r, 101, expected);
+        return closing(r, Some(Letter::Logout { why: 101 }), None, expected);
     }
     if n < expected {
-        return closing(r, 101, expected);
+        return closing(r, Some(Letter::Logout { why: 101 }), None, expected);
     }
     if n == expected {
         return accepting(false, None, expected + 1, seconds, closed);

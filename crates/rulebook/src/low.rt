@@ -11,7 +11,7 @@ use moves::{Letter, NoTime, Plan, Record, closing, holds, saying, staying, time_
 fn rejecting(r: Record, reason: u64, tag: u64) -> Plan
     ensures { result ≡ says (session_of r) (Some (Letter.Reject reason tag)) None }
 {
-    saying(r, Letter::Reject { reason, tag })
+    saying(r, Some(Letter::Reject { reason, tag }), None)
 }
 
 // Rule 5: N < E. With 43=Y it is a duplicate: it says when it was sent first (122), which is not later than when it was sent again (52). E stays. (One
@@ -20,7 +20,7 @@ pub fn rule_5(r: Record, body: &[u8]) -> Plan
     ensures { planned body.now (session_of r) result ≡ summed (session_of r) (too_low (session_of r) body.now) }
 {
     if !holds(body, 43, b"Y") {
-        return closing(r, 101, r.expected);
+        return closing(r, Some(Letter::Logout { why: 101 }), None, r.expected);
     }
     let original = time_in(body, 122);
     if original == Err(NoTime::Missing) {

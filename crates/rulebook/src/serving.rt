@@ -8,7 +8,7 @@ ghost use Rattle.moves.specs.code.Plan.{planned, summed, served_by, served_early
 ghost use Rattle.moves.specs.code.Reads.{told};
 
 use dictionary::verdict_on;
-use moves::{Letter, Plan, Record, Replay, counting, expecting, number};
+use moves::{Letter, Plan, Record, Replay, counting, number, serving};
 use table::MsgType;
 
 // The replay that serves a Resend Request, or the tag for which it is not served.
@@ -57,10 +57,7 @@ pub fn serve(r: Record, body: &[u8]) -> Plan
     ensures { planned body.now (session_of r) result ≡ summed (session_of r) (counted (session_of r) body.now (unserved (session_of r) body.now otherwise served (session_of r) body.now)) }
 {
     match served_by(r, body) {
-        Ok(replay) => Plan {
-            replay,
-            ..expecting(r, r.expected + 1)
-        },
-        Err(tag) => counting(r, Letter::Reject { reason: 5, tag }),
+        Ok(replay) => serving(r, None, r.expected + 1, replay, r.gap),
+        Err(tag) => counting(r, Some(Letter::Reject { reason: 5, tag })),
     }
 }

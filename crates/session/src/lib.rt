@@ -179,7 +179,7 @@ pub fn logout(r: Record, time: u64, buf: &mut [u8]) -> Answered
     match own_gate(r, time, buf.len()) {
         Err(k) => refused(r, k),
         Ok(()) => {
-            let p = closing(r, 101, r.expected);
+            let p = closing(r, Some(Letter::Logout { why: 101 }), None, r.expected);
             say(r, p, b"", time, buf)
         }
     }
@@ -192,7 +192,7 @@ pub fn test_request(r: Record, id: &[u8], time: u64, buf: &mut [u8]) -> Answered
     match test_gate(r, id, time, buf.len()) {
         Err(k) => refused(r, k),
         Ok(()) => {
-            let p = saying(r, Letter::Test);
+            let p = saying(r, Some(Letter::Test), None);
             say(r, p, id, time, buf)
         }
     }

@@ -96,8 +96,8 @@ planned body s p =
 abbrev pub says : Session → Option Letter → Option Letter → Plan
 says s a b = record { delivered = false; first = a; second = b; status = s.status; expected = s.E; heartbeat = s.heartbeat; replay = held_replay s.replay; gap = held_gap s.gap }
 
-abbrev pub counts : Session → Letter → Plan
-counts s a = record { delivered = false; first = Some a; second = None; status = s.status; expected = s.E + 1; heartbeat = s.heartbeat; replay = held_replay s.replay; gap = held_gap s.gap }
+abbrev pub counts : Session → Option Letter → Plan
+counts s a = record { delivered = false; first = a; second = None; status = s.status; expected = s.E + 1; heartbeat = s.heartbeat; replay = held_replay s.replay; gap = held_gap s.gap }
 
 abbrev pub expects : Session → ℕ → Plan
 expects s n = record { delivered = false; first = None; second = None; status = s.status; expected = n; heartbeat = s.heartbeat; replay = held_replay s.replay; gap = held_gap s.gap }
@@ -118,6 +118,10 @@ misses s a g = record { delivered = false; first = a; second = None; status = s.
 -- no message, and the numbers from n on without a gap
 abbrev pub resets : Session → ℕ → Plan
 resets s n = record { delivered = false; first = None; second = None; status = s.status; expected = n; heartbeat = s.heartbeat; replay = held_replay s.replay; gap = held_gap no_gap }
+
+-- a message or none, E, the replay that starts, and the gap
+abbrev pub serves : Session → Option Letter → ℕ → Held.Replay → Code.Gap → Plan
+serves s a n q g = record { delivered = false; first = a; second = None; status = s.status; expected = n; heartbeat = s.heartbeat; replay = q; gap = g }
 
 -- a plan as a step makes it
 abbrev pub settled_plan : Plan → Plan
