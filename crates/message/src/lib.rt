@@ -27,7 +27,7 @@ pub fn put_byte(buf: &mut [u8], at: usize, b: u8) -> usize
     at + 1
 }
 
-// (Byte by byte, which the compiler makes one copy of: `copy_from_slice` would ask C's library for memmove.)
+// (Byte by byte: `copy_from_slice`, of a length that isn't known, would ask C's library for memmove.)
 pub fn put_bytes(buf: &mut [u8], at: usize, s: &[u8]) -> usize
     requires { at + length s.now ≤ length buf.old }
     ensures { Wrote buf.old buf.new at result s.now }

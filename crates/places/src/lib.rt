@@ -17,7 +17,7 @@ pub fn zero_store(store: &mut [u8])
     store.fill(0);
 }
 
-// Puts a message into a place, counted from 0, with zeros behind it. (Byte by byte, which the compiler makes one copy of: `copy_from_slice` would ask C's
+// Puts a message into a place, counted from 0, with zeros behind it. (Byte by byte: `copy_from_slice`, of a length that isn't known, would ask C's
 // library for memmove.)
 pub fn put_place(store: &mut [u8], i: usize, m: &[u8])
     requires { (is_store store.old ≡ true) × (i < 64) × (length m.now ≤ 512) }
